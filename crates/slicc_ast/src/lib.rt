@@ -1,0 +1,14 @@
+//! What a protocol's text is made of: its tokens, and the trees that the grammar builds of them.
+//!
+//! The language is SLICC's, as Wisconsin GEMS and gem5's Ruby have it. For now only its small form is here: one
+//! machine with one port and one action. Each nonterminal of the grammar is a type.
+#![tactic(auto)]
+
+mod body;
+mod machine;
+mod token;
+
+pub use body::{Dequeue, If, Peek, Trigger};
+pub use machine::{Action, Event, Events, InPort, Machine, State, States, Transition};
+pub use ruby_base::{NoMemory, Seq, Text};
+pub use token::{Sign, Token};
