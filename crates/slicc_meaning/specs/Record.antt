@@ -1,0 +1,25 @@
+-- What a record says of a run: its history is a run of its setting that has ended, and all else in it is that run's.
+use Rattle.std.specs.Prelude.{◌≡◌, Option, Some}
+use Rattle.slicc_meaning.specs.declared.record.RunRecord.{RunRecord}
+use Rattle.slicc_meaning.specs.declared.world.Setting.{Setting}
+use Rattle.slicc_meaning.specs.declared.world.World.{World}
+use Rattle.slicc_meaning.specs.Run.{IsRun}
+use Rattle.slicc_meaning.specs.Finals.{finals}
+use Rattle.slicc_meaning.specs.Account.{account}
+
+-- what the record's run began with
+abbrev pub setting : RunRecord → Setting
+setting r =
+    record {
+      plan = r.plan;
+      topology = r.topology;
+      cycles = r.options.cycles;
+      limit = r.options.limit;
+      driver = record { requests = r.options.count };
+    }
+
+pub record IsRecordOf (r : RunRecord) (w : World) : Type 0 where
+  pub run : IsRun (setting r) r.history w r.journal
+  pub finals : r.finals ≡ finals r.journal
+  pub account : r.account ≡ account r.journal w
+  pub verdict : w.verdict ≡ Some r.verdict

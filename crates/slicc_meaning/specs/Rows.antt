@@ -1,0 +1,12 @@
+-- The written transitions of a machine for a pair of state and event: those whose states have the one and whose events
+-- have the other, in the order of the text.
+use Rattle.std.specs.Prelude.{ℕ, Bool, List, ◌==◌, ◌&&◌}
+use Rattle.std.specs.List.{filter, list_any}
+use Rattle.slicc_meaning.specs.declared.plan.MachinePlan.{MachinePlan}
+use Rattle.slicc_meaning.specs.declared.plan.WrittenTransition.{WrittenTransition}
+
+abbrev pub is_for : ℕ → ℕ → WrittenTransition → Bool
+is_for state event t = list_any (λ s. s == state) t.states && list_any (λ e. e == event) t.events
+
+abbrev pub rows : MachinePlan → ℕ → ℕ → List WrittenTransition
+rows m state event = filter (is_for state event) m.transitions

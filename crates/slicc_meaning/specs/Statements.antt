@@ -1,0 +1,101 @@
+-- What the statements of bodies do to a controller: those of an action here, those of a port body below `trigger`.
+-- An action ends with the controller after it and the numbers of the messages that it consumed, or with a fault.
+-- `trigger` chooses the transition: with no written one for the state and event the fault is `invalid`; else the
+-- transition's actions run in order, and then the next state is set. As in gem5's Ruby, a fault drops what was done.
+use Rattle.std.specs.Prelude.{ℕ, Option, None, Some, List, [], ◌∷◌, ◌++◌, fold, slice_get, is_some, if◌then◌else◌}
+use Rattle.slicc_meaning.specs.declared.controller.Controller.{Controller}
+use Rattle.slicc_meaning.specs.declared.controller.Message.{Message}
+use Rattle.slicc_meaning.specs.declared.controller.MsgNo.{MsgNo}
+use Rattle.slicc_meaning.specs.declared.controller.Scanned.{Scanned}
+use Rattle.slicc_meaning.specs.declared.controller.Scanned.TheVariants.{Fired, Stop, Idle}
+use Rattle.slicc_meaning.specs.declared.record.Fault.{Fault}
+use Rattle.slicc_meaning.specs.declared.record.Fault.TheVariants.{Invalid, Front}
+use Rattle.slicc_meaning.specs.declared.plan.MachinePlan.{MachinePlan}
+use Rattle.slicc_meaning.specs.declared.plan.PortPlan.{PortPlan}
+use Rattle.slicc_meaning.specs.declared.plan.ActionPlan.{ActionPlan}
+use Rattle.slicc_meaning.specs.declared.plan.WrittenTransition.{WrittenTransition}
+use Rattle.slicc_meaning.specs.declared.plan.If.{If}
+use Rattle.slicc_meaning.specs.declared.plan.Peek.{Peek}
+use Rattle.slicc_meaning.specs.declared.plan.Trigger.{Trigger}
+use Rattle.slicc_meaning.specs.declared.plan.Dequeue.{Dequeue}
+use Rattle.slicc_meaning.specs.Front.{front, without_message}
+use Rattle.slicc_meaning.specs.States.{line_of, state_at, with_state}
+use Rattle.slicc_meaning.specs.Rows.{rows}
+
+-- where running a list of actions has come to
+pub record Acted : Type 0 where
+  pub controller : Controller
+  pub consumed : List MsgNo
+  pub fault : Option Fault
+
+-- the number of the buffer of a port
+abbrev pub buffer_of_port : Option PortPlan → ℕ
+buffer_of_port None = 0
+buffer_of_port (Some p) = p.buffer
+
+abbrev pub buffer_of : MachinePlan → ℕ → ℕ
+buffer_of m port = buffer_of_port (slice_get m.ports port)
+
+abbrev pub front_of : MachinePlan → ℕ → Controller → ℕ → Option Message
+front_of m port c now = front c.inbox (buffer_of m port) now
+
+-- `dequeue` removes the front message of the port, which is consumed
+abbrev pub dequeue : Controller → List MsgNo → Option Message → Acted
+dequeue c consumed None = record { controller = c; consumed = consumed; fault = Some Front }
+dequeue c consumed (Some front) =
+    record {
+      controller = record c { inbox = without_message c.inbox front.number };
+      consumed = consumed ++ front.number ∷ [];
+      fault = None;
+    }
+
+abbrev pub run_action : MachinePlan → Option ActionPlan → Controller → List MsgNo → ℕ → Acted
+run_action m None c consumed now = record { controller = c; consumed = consumed; fault = None }
+run_action m (Some a) c consumed now = dequeue c consumed (front_of m a.body.port c now)
+
+-- an action by its number; after a fault nothing more is done
+abbrev pub act : MachinePlan → ℕ → Acted → ℕ → Acted
+act m now acted action =
+    if is_some acted.fault then acted else run_action m (slice_get m.actions action) acted.controller acted.consumed now
+
+abbrev pub run_actions : MachinePlan → List ℕ → Controller → ℕ → Acted
+run_actions m actions c now = fold (act m now) (record { controller = c; consumed = []; fault = None }) actions
+
+-- a scan that stops at a pair, with everything known
+abbrev pub stop_at : ℕ → ℕ → ℕ → Fault → Scanned
+stop_at address state event fault =
+    Stop (record { address = Some address; state = Some state; event = Some event; fault = fault })
+
+-- after the actions the next state is set
+abbrev pub settled : ℕ → ℕ → ℕ → ℕ → Controller → List MsgNo → Option Fault → Scanned
+settled address state event next c consumed None =
+    Fired
+    (record { address = address; state = state; event = event; next = next })
+    consumed
+    (record c { states = with_state c.states address next })
+settled address state event next c consumed (Some fault) = stop_at address state event fault
+
+abbrev pub fire_first : MachinePlan → ℕ → ℕ → ℕ → Controller → ℕ → List WrittenTransition → Scanned
+fire_first m address state event c now [] = stop_at address state event Invalid
+fire_first m address state event c now (t ∷ ts) =
+    let acted = run_actions m t.actions c now in
+    settled address state event t.next acted.controller acted.consumed acted.fault
+
+-- `trigger` brings the address down to its line, and takes the state from the built-in map
+abbrev pub try_event : MachinePlan → ℕ → ℕ → Controller → ℕ → Scanned
+try_event m event address c now =
+    let line = line_of address in
+    let state = state_at m.default c.states line in
+    fire_first m line state event c now (rows m state event)
+
+-- `peek` binds the front message for what stands in it
+abbrev pub peek_front : MachinePlan → Trigger → Controller → ℕ → Option Message → Scanned
+peek_front m t c now None = Stop (record { address = None; state = None; event = None; fault = Front })
+peek_front m t c now (Some front) = try_event m t.event front.line_address c now
+
+abbrev pub peek : MachinePlan → Peek → Controller → ℕ → Scanned
+peek m p c now = peek_front m p.then c now (front_of m p.port c now)
+
+-- the body of a port: it triggers where `isReady` holds, and else passes
+abbrev pub if_ready : MachinePlan → If → Controller → ℕ → Scanned
+if_ready m i c now = if is_some (front_of m i.port c now) then peek m i.then c now else Idle

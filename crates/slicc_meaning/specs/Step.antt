@@ -1,0 +1,143 @@
+-- One event: the world after it, and its entry in the journal if it has one. Where there is none, the event isn't
+-- lawful in that world. No event is lawful once a verdict stands. The steps of a run are this project's own.
+use Rattle.std.specs.Prelude.{ℕ, Bool, true, false, Option, None, Some, List, [], ◌∷◌, ◌+◌, ◌||◌, ◌==◌, not, map, length, slice_get, slice_set, is_some, is_none, if◌then◌else◌}
+use Rattle.std.specs.List.{list_any}
+use Rattle.slicc_meaning.specs.declared.controller.Controller.{Controller}
+use Rattle.slicc_meaning.specs.declared.controller.MsgNo.{MsgNo}
+use Rattle.slicc_meaning.specs.declared.controller.Scanned.{Scanned}
+use Rattle.slicc_meaning.specs.declared.controller.Scanned.TheVariants as scanned
+use Rattle.slicc_meaning.specs.declared.record.End.{End}
+use Rattle.slicc_meaning.specs.declared.record.End.TheVariants as end
+use Rattle.slicc_meaning.specs.declared.record.Entry.{Entry}
+use Rattle.slicc_meaning.specs.declared.record.Entry.TheVariants as entry
+use Rattle.slicc_meaning.specs.declared.record.Event.{Event}
+use Rattle.slicc_meaning.specs.declared.record.Event.TheVariants.{Take, Fire, Done, Release, Turn}
+use Rattle.slicc_meaning.specs.declared.record.Verdict.{Verdict}
+use Rattle.slicc_meaning.specs.declared.record.Verdict.TheVariants as verdict
+use Rattle.slicc_meaning.specs.declared.world.DriverTurn.{DriverTurn}
+use Rattle.slicc_meaning.specs.declared.world.Place.{Place}
+use Rattle.slicc_meaning.specs.declared.world.Setting.{Setting}
+use Rattle.slicc_meaning.specs.declared.world.World.{World}
+use Rattle.slicc_meaning.specs.Ascending.{with_mark, marks_from}
+use Rattle.slicc_meaning.specs.World.{is_due, is_free, machine_plan, scan_of}
+use Rattle.slicc_meaning.specs.Driver.{plain_turn, issue_all, issued_numbers}
+use Rattle.slicc_meaning.specs.Verdict.{next_cycle, least_stopped, end_of_cycle}
+
+-- a world, and the entry that leads to it
+pub record Stepped : Type 0 where
+  pub world : World
+  pub entry : Option Entry
+
+abbrev pub with_place : World → ℕ → Place → World
+with_place w c p = record w { places = slice_set w.places c p }
+
+-- a free place is held by the worker
+abbrev pub take : World → ℕ → ℕ → Option Place → Option Stepped
+take w worker c None = None
+take w worker c (Some p) =
+    if is_free w.now p
+    then Some (record { world = with_place w c (record p { holder = Some worker }); entry = None })
+    else None
+
+abbrev pub is_holder : ℕ → Option ℕ → Bool
+is_holder worker None = false
+is_holder worker (Some other) = other == worker
+
+-- the scan's controller, with one more transition fired in this cycle
+abbrev pub fired_by : World → ℕ → Place → Scanned → Option Stepped
+fired_by w c p (scanned.Fired note consumed after) =
+    Some (record {
+      world = with_place w c (record p { controller = record after { fired = after.fired + 1 } });
+      entry = Some (entry.Fired w.now c note consumed);
+    })
+fired_by w c p scanned.Full = None
+fired_by w c p (scanned.Stop at) = None
+fired_by w c p scanned.Idle = None
+
+-- the place after its wake-up ended: finished in this cycle, and held by nobody
+abbrev pub given_back : World → ℕ → Place → Controller → End → Option Stepped
+given_back w c p controller end =
+    Some (record {
+      world = with_place w c (record { controller = controller; finished = true; holder = None });
+      entry = Some (entry.Ended w.now c end);
+    })
+
+-- a full controller wakes again in the next cycle; a fault stops it
+abbrev pub done_by : World → ℕ → Place → Scanned → Option Stepped
+done_by w c p scanned.Full =
+    given_back w c p (record p.controller { marks = with_mark p.controller.marks (w.now + 1) }) end.Full
+done_by w c p (scanned.Fired note consumed after) = None
+done_by w c p (scanned.Stop at) = given_back w c p (record p.controller { stopped = true }) (end.Stop at)
+done_by w c p scanned.Idle = given_back w c p p.controller end.Idle
+
+abbrev pub scan_at : Setting → World → ℕ → Place → Scanned
+scan_at s w c p = scan_of s (machine_plan s c) p.controller w.now
+
+abbrev pub fire : Setting → World → ℕ → ℕ → Option Place → Option Stepped
+fire s w worker c None = None
+fire s w worker c (Some p) = if is_holder worker p.holder then fired_by w c p (scan_at s w c p) else None
+
+abbrev pub done : Setting → World → ℕ → ℕ → Option Place → Option Stepped
+done s w worker c None = None
+done s w worker c (Some p) = if is_holder worker p.holder then done_by w c p (scan_at s w c p) else None
+
+abbrev pub release : World → ℕ → ℕ → Option Place → Option Stepped
+release w worker c None = None
+release w worker c (Some p) =
+    if is_holder worker p.holder
+    then Some (record { world = with_place w c (record p { holder = None }); entry = None })
+    else None
+
+-- somebody is held, or must wake
+abbrev pub is_busy : ℕ → Place → Bool
+is_busy now p = is_some p.holder || is_due now p
+
+-- a place at the beginning of a cycle: older marks are gone, nobody is finished
+abbrev pub begun : ℕ → Place → Place
+begun now p =
+    record p {
+      controller = record p.controller { marks = marks_from now p.controller.marks; fired = 0 };
+      finished = false;
+    }
+
+-- the world goes on to its next cycle, or the verdict stands
+abbrev pub next_world : World → Option ℕ → Option Verdict → World
+next_world w next (Some verdict) = record w { verdict = Some verdict }
+next_world w None None = w
+next_world w (Some now) None = record w { now = now; places = map (begun now) w.places }
+
+abbrev pub after_driver : Setting → World → List MsgNo → Stepped
+after_driver s w issued =
+    let next = next_cycle w.now w.next w.places in
+    let verdict = end_of_cycle w.now s.cycles next in
+    record { world = next_world w next verdict; entry = Some (entry.Turned w.now issued verdict) }
+
+-- the world after the driver's requests have gone to their seats
+abbrev pub driven : Setting → World → DriverTurn → World
+driven s w turn =
+    record w {
+      places = issue_all s.topology.seats (length w.places) w.issued w.now w.places turn.issued;
+      issued = w.issued + length turn.issued;
+      next = turn.next;
+    }
+
+abbrev pub turn_by : Setting → World → Option ℕ → Stepped
+turn_by s w (Some c) =
+    let stop = verdict.Stop w.now c in
+    record { world = record w { verdict = Some stop }; entry = Some (entry.Turned w.now [] (Some stop)) }
+turn_by s w None =
+    let turn = plain_turn w.driver w.now in
+    after_driver s (driven s w turn) (issued_numbers (length w.places) w.issued turn.issued)
+
+abbrev pub turn : Setting → World → Option Stepped
+turn s w = if list_any (is_busy w.now) w.places then None else Some (turn_by s w (least_stopped 0 w.places))
+
+abbrev pub step_lawfully : Setting → World → Event → Option Stepped
+step_lawfully s w (Take worker c) = take w worker c (slice_get w.places c)
+step_lawfully s w (Fire worker c) = fire s w worker c (slice_get w.places c)
+step_lawfully s w (Done worker c) = done s w worker c (slice_get w.places c)
+step_lawfully s w (Release worker c) = release w worker c (slice_get w.places c)
+step_lawfully s w (Turn worker) = turn s w
+
+abbrev pub step : Setting → World → Event → Option Stepped
+step s w e = if is_none w.verdict then step_lawfully s w e else None

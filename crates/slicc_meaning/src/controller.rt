@@ -1,0 +1,70 @@
+use crate::{FireNote, StopAt};
+use ruby_base::Seq;
+
+/// The number of a message: its sender's actor number, and how many messages that actor had sent before it.
+/// Numbers are compared by sender, then by count. Numbering is this project's own.
+#[derive(Clone, Copy, PartialEq, Eq)]
+pub struct MsgNo {
+    pub sender: u32,
+    pub count: u64,
+}
+
+/// A message in a controller's inbox.
+#[derive(Clone, Copy)]
+pub struct Message {
+    pub number: MsgNo,
+    /// The number of the buffer, within the machine, that it is in.
+    pub buffer: u16,
+    /// The cycle from which it can be seen.
+    pub arrival: u64,
+    /// The line number under which it was taken aside, if it was.
+    pub waiting: Option<u64>,
+    /// Whether it was put back with a later arrival.
+    pub recycled: bool,
+    /// The byte address of the requested block.
+    pub line_address: u64,
+}
+
+/// A state that was set for an address.
+#[derive(Clone, Copy)]
+pub struct StateAt {
+    /// A byte address, a multiple of 64.
+    pub address: u64,
+    /// The state's number.
+    pub state: u16,
+}
+
+/// A controller: one instance of a machine.
+#[derive(Drop)]
+pub struct Controller {
+    /// The built-in map from addresses to states, as a list with ascending addresses. An address that isn't there has
+    /// the default state.
+    pub states: Seq<StateAt>,
+    /// The messages that have been sent to it and not consumed, with ascending numbers.
+    pub inbox: Seq<Message>,
+    /// The cycles at which it must wake, ascending.
+    pub marks: Seq<u64>,
+    /// The transitions that it has fired in this cycle.
+    pub fired: u64,
+    /// Whether a scan of it has met a fault.
+    pub stopped: bool,
+}
+
+/// What one scan of a controller comes to.
+#[derive(Drop)]
+pub enum Scanned {
+    /// It has fired as many transitions in this cycle as it may.
+    Full,
+    /// A port fired a transition.
+    Fired {
+        note: FireNote,
+        /// The numbers of the messages that the transition consumed, in the order of its acts.
+        consumed: Seq<MsgNo>,
+        /// The controller after the transition.
+        controller: Controller,
+    },
+    /// A port met a fault. What the scan did is dropped.
+    Stop(StopAt),
+    /// No port fired.
+    Idle,
+}

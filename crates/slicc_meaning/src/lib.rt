@@ -1,0 +1,19 @@
+//! What a protocol of the small form means: its plan, its controllers, one scan of a controller, and a whole run as a
+//! list of events. The definitions stand in `specs/`; the functions here are their plain slow bodies.
+#![tactic(auto)]
+
+mod controller;
+mod plan;
+mod record;
+mod world;
+
+pub use controller::{Controller, Message, MsgNo, Scanned, StateAt};
+pub use plan::{
+    ActionPlan, Dequeue, If, MachinePlan, Peek, Plan, PortPlan, Trigger, WrittenTransition,
+};
+pub use record::{
+    Account, Command, End, Entry, Event, Fault, Final, FireNote, Options, RunRecord, StopAt,
+    Verdict,
+};
+pub use ruby_base::{NoMemory, Seq, Text};
+pub use world::{DriverTurn, Place, PlainDriver, Request, Seat, Setting, Topology, World};
