@@ -3,7 +3,7 @@
 -- else queued. The account counts these. What it must keep: no number is sent twice, and each number that was sent is
 -- in exactly one place, and no other number is in one.
 use Rattle.std.specs.Prelude.{◌≡◌, ◌≤◌, ◌+◌, ◌&&◌, ℕ, Bool, not, List, [], length, map, is_some, is_none, count_by}
-use Rattle.std.specs.List.{filter, flat_map}
+use Rattle.std.specs.List.{flat_map}
 use Rattle.slicc_meaning.specs.declared.controller.Message.{Message}
 use Rattle.slicc_meaning.specs.declared.controller.MsgNo.{MsgNo}
 use Rattle.slicc_meaning.specs.declared.record.Account.{Account}

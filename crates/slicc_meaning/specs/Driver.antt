@@ -2,8 +2,7 @@
 -- 0 of line 0, at its first seat. A request is a message of the driver's, whose actor number comes after the last
 -- controller's; it goes to the buffer `mandatoryQueue` of the seat's controller and can be seen from the next cycle
 -- on. Of a load's fields the small form can read its line address alone. All this is this project's own.
-use Rattle.std.specs.Prelude.{ℕ, Bool, false, Option, None, Some, List, [], ◌∷◌, ◌++◌, ◌+◌, nat_lt, slice_get, slice_set, length, if◌then◌else◌}
-use Rattle.slicc_meaning.specs.declared.controller.Controller.{Controller}
+use Rattle.std.specs.Prelude.{ℕ, false, Option, None, Some, List, [], ◌∷◌, ◌+◌, nat_lt, slice_get, slice_set, if◌then◌else◌}
 use Rattle.slicc_meaning.specs.declared.controller.Message.{Message}
 use Rattle.slicc_meaning.specs.declared.controller.MsgNo.{MsgNo}
 use Rattle.slicc_meaning.specs.declared.world.Place.{Place}

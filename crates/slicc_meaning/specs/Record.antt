@@ -1,5 +1,5 @@
 -- What a record says of a run: its history is a run of its setting that has ended, and all else in it is that run's.
-use Rattle.std.specs.Prelude.{◌≡◌, Option, Some}
+use Rattle.std.specs.Prelude.{◌≡◌, Some}
 use Rattle.slicc_meaning.specs.declared.record.RunRecord.{RunRecord}
 use Rattle.slicc_meaning.specs.declared.world.Setting.{Setting}
 use Rattle.slicc_meaning.specs.declared.world.World.{World}

@@ -1,7 +1,7 @@
 -- One scan of a controller: the port bodies in the order of the text, until one fires or meets a fault. A controller
 -- that has fired as many transitions in this cycle as it may isn't scanned. A scan that neither fires nor stops
 -- changes nothing. That a call of `trigger` ends its port's body is this project's own rule, and so is the limit.
-use Rattle.std.specs.Prelude.{ℕ, Option, None, Some, List, [], ◌∷◌, nat_le, if◌then◌else◌}
+use Rattle.std.specs.Prelude.{ℕ, List, [], ◌∷◌, nat_le, if◌then◌else◌}
 use Rattle.slicc_meaning.specs.declared.controller.Controller.{Controller}
 use Rattle.slicc_meaning.specs.declared.controller.Scanned.{Scanned}
 use Rattle.slicc_meaning.specs.declared.controller.Scanned.TheVariants.{Full, Fired, Stop, Idle}

@@ -3,6 +3,7 @@
 -- `trigger` chooses the transition: with no written one for the state and event the fault is `invalid`; else the
 -- transition's actions run in order, and then the next state is set. As in gem5's Ruby, a fault drops what was done.
 use Rattle.std.specs.Prelude.{ℕ, Option, None, Some, List, [], ◌∷◌, ◌++◌, fold, slice_get, is_some, if◌then◌else◌}
+use Rattle.slicc_meaning.specs.declared.controller.Acted.{Acted}
 use Rattle.slicc_meaning.specs.declared.controller.Controller.{Controller}
 use Rattle.slicc_meaning.specs.declared.controller.Message.{Message}
 use Rattle.slicc_meaning.specs.declared.controller.MsgNo.{MsgNo}
@@ -17,16 +18,9 @@ use Rattle.slicc_meaning.specs.declared.plan.WrittenTransition.{WrittenTransitio
 use Rattle.slicc_meaning.specs.declared.plan.If.{If}
 use Rattle.slicc_meaning.specs.declared.plan.Peek.{Peek}
 use Rattle.slicc_meaning.specs.declared.plan.Trigger.{Trigger}
-use Rattle.slicc_meaning.specs.declared.plan.Dequeue.{Dequeue}
 use Rattle.slicc_meaning.specs.Front.{front, without_message}
 use Rattle.slicc_meaning.specs.States.{line_of, state_at, with_state}
 use Rattle.slicc_meaning.specs.Rows.{rows}
-
--- where running a list of actions has come to
-pub record Acted : Type 0 where
-  pub controller : Controller
-  pub consumed : List MsgNo
-  pub fault : Option Fault
 
 -- the number of the buffer of a port
 abbrev pub buffer_of_port : Option PortPlan → ℕ
@@ -75,9 +69,10 @@ settled address state event next c consumed None =
     (record c { states = with_state c.states address next })
 settled address state event next c consumed (Some fault) = stop_at address state event fault
 
-abbrev pub fire_first : MachinePlan → ℕ → ℕ → ℕ → Controller → ℕ → List WrittenTransition → Scanned
-fire_first m address state event c now [] = stop_at address state event Invalid
-fire_first m address state event c now (t ∷ ts) =
+-- the first written transition of the pair fires; where there is none, the pair is invalid
+abbrev pub fire_first : MachinePlan → ℕ → ℕ → ℕ → Controller → ℕ → Option WrittenTransition → Scanned
+fire_first m address state event c now None = stop_at address state event Invalid
+fire_first m address state event c now (Some t) =
     let acted = run_actions m t.actions c now in
     settled address state event t.next acted.controller acted.consumed acted.fault
 
@@ -86,7 +81,7 @@ abbrev pub try_event : MachinePlan → ℕ → ℕ → Controller → ℕ → Sc
 try_event m event address c now =
     let line = line_of address in
     let state = state_at m.default c.states line in
-    fire_first m line state event c now (rows m state event)
+    fire_first m line state event c now (slice_get (rows m state event) 0)
 
 -- `peek` binds the front message for what stands in it
 abbrev pub peek_front : MachinePlan → Trigger → Controller → ℕ → Option Message → Scanned

@@ -1,6 +1,6 @@
 -- The built-in map from addresses to states, of a machine that writes neither `getState` nor `setState`: a finite map,
 -- as a list with ascending addresses, over the default state. The built-in map is this project's own.
-use Rattle.std.specs.Prelude.{ℕ, Option, None, Some, List, [], ◌∷◌, ◌++◌, ◌==◌, ◌*◌, ◌/◌, nat_lt}
+use Rattle.std.specs.Prelude.{ℕ, Option, None, Some, List, ◌∷◌, ◌++◌, ◌==◌, ◌*◌, ◌/◌, nat_lt}
 use Rattle.std.specs.List.{filter, find}
 use Rattle.slicc_meaning.specs.declared.controller.StateAt.{StateAt}
 

@@ -1,6 +1,6 @@
 -- One event: the world after it, and its entry in the journal if it has one. Where there is none, the event isn't
 -- lawful in that world. No event is lawful once a verdict stands. The steps of a run are this project's own.
-use Rattle.std.specs.Prelude.{ℕ, Bool, true, false, Option, None, Some, List, [], ◌∷◌, ◌+◌, ◌||◌, ◌==◌, not, map, length, slice_get, slice_set, is_some, is_none, if◌then◌else◌}
+use Rattle.std.specs.Prelude.{ℕ, Bool, true, false, Option, None, Some, List, [], ◌+◌, ◌||◌, ◌==◌, map, length, slice_get, slice_set, is_some, is_none, if◌then◌else◌}
 use Rattle.std.specs.List.{list_any}
 use Rattle.slicc_meaning.specs.declared.controller.Controller.{Controller}
 use Rattle.slicc_meaning.specs.declared.controller.MsgNo.{MsgNo}

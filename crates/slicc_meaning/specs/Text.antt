@@ -16,7 +16,6 @@ use Rattle.slicc_meaning.specs.declared.record.Fault.TheVariants as fault
 use Rattle.slicc_meaning.specs.declared.record.Final.{Final}
 use Rattle.slicc_meaning.specs.declared.record.FireNote.{FireNote}
 use Rattle.slicc_meaning.specs.declared.record.RunRecord.{RunRecord}
-use Rattle.slicc_meaning.specs.declared.record.StopAt.{StopAt}
 use Rattle.slicc_meaning.specs.declared.record.Verdict.{Verdict}
 use Rattle.slicc_meaning.specs.declared.record.Verdict.TheVariants as verdict
 use Rattle.slicc_meaning.specs.declared.world.Topology.{Topology}

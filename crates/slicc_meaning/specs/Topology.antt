@@ -1,5 +1,5 @@
 -- The topology of a plain run: one controller of the one machine, named after it, at which the driver has its seat.
-use Rattle.std.specs.Prelude.{ℕ, List, [], ◌∷◌, ◌++◌, map, codes}
+use Rattle.std.specs.Prelude.{[], ◌∷◌, ◌++◌, map, codes}
 use Rattle.slicc_meaning.specs.declared.plan.Plan.{Plan}
 use Rattle.slicc_meaning.specs.declared.plan.MachinePlan.{MachinePlan}
 use Rattle.slicc_meaning.specs.declared.world.Topology.{Topology}

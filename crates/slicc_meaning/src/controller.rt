@@ -1,4 +1,4 @@
-use crate::{FireNote, StopAt};
+use crate::{Fault, FireNote, StopAt};
 use ruby_base::Seq;
 
 /// The number of a message: its sender's actor number, and how many messages that actor had sent before it.
@@ -48,6 +48,16 @@ pub struct Controller {
     pub fired: u64,
     /// Whether a scan of it has met a fault.
     pub stopped: bool,
+}
+
+/// Where running a list of actions has come to.
+#[derive(Drop)]
+pub struct Acted {
+    pub controller: Controller,
+    /// The numbers of the messages that were consumed, in the order of the acts.
+    pub consumed: Seq<MsgNo>,
+    /// The fault that was met, after which nothing more is done.
+    pub fault: Option<Fault>,
 }
 
 /// What one scan of a controller comes to.

@@ -2,12 +2,18 @@
 //! list of events. The definitions stand in `specs/`; the functions here are their plain slow bodies.
 #![tactic(auto)]
 
+mod ascending;
+mod between;
 mod controller;
+mod front;
 mod plan;
 mod record;
+mod rows;
+mod statements;
+mod states;
 mod world;
 
-pub use controller::{Controller, Message, MsgNo, Scanned, StateAt};
+pub use controller::{Acted, Controller, Message, MsgNo, Scanned, StateAt};
 pub use plan::{
     ActionPlan, Dequeue, If, MachinePlan, Peek, Plan, PortPlan, Trigger, WrittenTransition,
 };

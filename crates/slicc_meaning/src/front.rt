@@ -1,0 +1,106 @@
+// The messages of an inbox: which is the front of a buffer, and the inbox with one more and one less.
+ghost use Rattle.std.specs.Prelude.{◌≡◌, IfOk, Option, Some, filter, not};
+ghost use Rattle.slicc_meaning.specs.Front.{number_before as number_before_of, same_number as same_number_of, is_ready as is_ready_of, message_before as message_before_of, earlier_message as earlier_message_of, least_message as least_message_of, front as front_of, with_message as with_message_of, without_message as without_message_of};
+
+use crate::between::between;
+use crate::{Message, MsgNo};
+use ruby_base::{NoMemory, Seq};
+use std::alloc::Global;
+
+/// Whether the first number is the lesser, by sender and then by count.
+pub fn number_before(a: MsgNo, b: MsgNo) -> bool
+    ensures { result ≡ number_before_of a b }
+{
+    a.sender < b.sender || (a.sender == b.sender && a.count < b.count)
+}
+
+fn same_number(a: MsgNo, b: MsgNo) -> bool
+    ensures { result ≡ same_number_of a b }
+{
+    a.sender == b.sender && a.count == b.count
+}
+
+fn is_ready(m: &Message, buffer: u16, now: u64) -> bool
+    ensures { result ≡ is_ready_of buffer now m.now }
+{
+    m.buffer == buffer && m.arrival <= now && m.waiting.is_none()
+}
+
+fn message_before(a: &Message, b: &Message) -> bool
+    ensures { result ≡ message_before_of a.now b.now }
+{
+    a.arrival < b.arrival || (a.arrival == b.arrival && number_before(a.number, b.number))
+}
+
+fn earlier(m: Message, least: Option<Message>) -> Message
+    ensures { result ≡ earlier_message_of m least }
+{
+    match least {
+        None => m,
+        Some(o) => { if message_before(&o, &m) { o } else { m } }
+    }
+}
+
+/// The front of a buffer at a cycle: the message that comes first by arrival, then by number, of those that have
+/// arrived and weren't taken aside.
+pub fn front(inbox: &[Message], buffer: u16, now: u64) -> Option<Message>
+    ensures { result ≡ front_of inbox.now buffer now }
+{
+    let mut least = None;
+    for i in (0..inbox.len()).rev() {
+        let m = inbox[i];
+        if is_ready(&m, buffer, now) {
+            least = Some(earlier(m, least));
+        }
+    }
+    least
+}
+
+fn below(alloc: Global, inbox: &[Message], number: MsgNo) -> Result<Vec<Message>, NoMemory>
+    ensures { IfOk result (λ part. part.items ≡ filter (λ o. number_before_of o.number number) inbox.now) }
+{
+    Ok(
+        inbox
+            .iter()
+            .copied()
+            .filter(|o| number_before(o.number, number))
+            .collect(alloc)?,
+    )
+}
+
+fn above(alloc: Global, inbox: &[Message], number: MsgNo) -> Result<Vec<Message>, NoMemory>
+    ensures { IfOk result (λ part. part.items ≡ filter (λ o. number_before_of number o.number) inbox.now) }
+{
+    Ok(
+        inbox
+            .iter()
+            .copied()
+            .filter(|o| number_before(number, o.number))
+            .collect(alloc)?,
+    )
+}
+
+/// The inbox with a message that wasn't in it.
+pub fn with_message(alloc: Global, inbox: &[Message], m: Message) -> Result<Seq<Message>, NoMemory>
+    ensures { IfOk result (λ all. all ≡ with_message_of inbox.now m) }
+{
+    let low = below(alloc, inbox, m.number)?;
+    let high = above(alloc, inbox, m.number)?;
+    between(low, m, &high)
+}
+
+/// The inbox without the message of this number.
+pub fn without_message(
+    alloc: Global,
+    inbox: &[Message],
+    number: MsgNo,
+) -> Result<Seq<Message>, NoMemory>
+    ensures { IfOk result (λ all. all ≡ without_message_of inbox.now number) }
+{
+    let rest: Vec<Message> = inbox
+        .iter()
+        .copied()
+        .filter(|o| !same_number(o.number, number))
+        .collect(alloc)?;
+    Ok(Seq::of(rest))
+}

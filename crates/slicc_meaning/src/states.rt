@@ -1,0 +1,65 @@
+// The built-in map from addresses to states.
+ghost use Rattle.std.specs.Prelude.{◌≡◌, ◌/◌, ◌*◌, IfOk, Option, Some, filter, nat_lt};
+ghost use Rattle.slicc_meaning.specs.States.{line_of as line_of_address, state_at as state_at_of, with_state as with_state_of};
+
+use crate::StateAt;
+use crate::between::between;
+use ruby_base::{NoMemory, Seq};
+use std::alloc::Global;
+
+/// The address of the line that has the byte address.
+pub fn line_of(address: u64) -> u64
+    ensures { result ≡ line_of_address address }
+{
+    address / 64 * 64
+}
+
+/// The state of an address.
+pub fn state_at(default: u16, states: &[StateAt], address: u64) -> u16
+    ensures { result ≡ state_at_of default states.now address }
+{
+    for s in states {
+        if s.address == address {
+            return s.state;
+        }
+    }
+    default
+}
+
+fn below(alloc: Global, states: &[StateAt], address: u64) -> Result<Vec<StateAt>, NoMemory>
+    ensures { IfOk result (λ part. part.items ≡ filter (λ s. nat_lt s.address address) states.now) }
+{
+    Ok(
+        states
+            .iter()
+            .copied()
+            .filter(|s| s.address < address)
+            .collect(alloc)?,
+    )
+}
+
+fn above(alloc: Global, states: &[StateAt], address: u64) -> Result<Vec<StateAt>, NoMemory>
+    ensures { IfOk result (λ part. part.items ≡ filter (λ s. nat_lt address s.address) states.now) }
+{
+    Ok(
+        states
+            .iter()
+            .copied()
+            .filter(|s| address < s.address)
+            .collect(alloc)?,
+    )
+}
+
+/// The map with a state set for an address.
+pub fn with_state(
+    alloc: Global,
+    states: &[StateAt],
+    address: u64,
+    state: u16,
+) -> Result<Seq<StateAt>, NoMemory>
+    ensures { IfOk result (λ map. map ≡ with_state_of states.now address state) }
+{
+    let low = below(alloc, states, address)?;
+    let high = above(alloc, states, address)?;
+    between(low, StateAt { address, state }, &high)
+}
