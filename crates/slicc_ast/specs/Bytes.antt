@@ -1,4 +1,4 @@
--- The kinds of bytes that SLICC's tokens are made of, as gem5's lexer has them, narrowed to ASCII.
+-- The kinds of bytes that SLICC's tokens are made of, in this project's profile, which is ASCII.
 use Rattle.std.specs.Prelude.{ℕ, Bool, ◌==◌, ◌&&◌, ◌||◌, nat_le}
 
 abbrev pub is_between : ℕ → ℕ → ℕ → Bool

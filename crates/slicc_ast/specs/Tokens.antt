@@ -1,7 +1,7 @@
 -- How bytes are read as the tokens of the small form of SLICC: blanks, then a token, and so on to the end.
--- A name or reserved word is as long as it can be, so no further byte of a word follows it.
--- No protocol of this form has the sign `:` or `=` right before `=`, so the longer signs of the full language
--- need no case, and a comment, a number or any other sign is in no such text.
+-- A name or reserved word is as long as it can be, so no further byte of a word follows it. The longer signs of the
+-- full language, as `:=`, have no case: this says what the tokens are of texts that spell a tree, and no tree has `:`
+-- or `=` right before `=`. A comment, a number or any other sign is in no such text.
 use Rattle.std.specs.Prelude.{◌≡◌, ◌⊎◌, ◌≤◌, ◌==◌, ◌&&◌, ◌++◌, ℕ, Bool, true, false, not, IsTrue, List, [], ◌∷◌, length, codes}
 use Rattle.std.specs.List.{list_any, list_all}
 use Rattle.std.specs.Str.{bytes_eq}

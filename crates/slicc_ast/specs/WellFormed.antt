@@ -65,5 +65,6 @@ pub record IsWellFormed (m : Machine) : Type 0 where
   pub machine_not_action : m.name ≢ m.action.name
   pub port_not_action : m.port.name ≢ m.action.name
   pub action_runs : m.action.name ≢ codes "z_stall"
+  pub some_transition : 1 ≤ length m.transitions
   pub declared : IsTrue (list_all (is_declared m) m.transitions)
   pub single : IsTrue (are_single m.transitions)

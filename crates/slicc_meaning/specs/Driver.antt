@@ -1,7 +1,8 @@
 -- The plain driver: at the turn of each cycle below its number of requests it issues one load of four bytes at offset
 -- 0 of line 0, at its first seat. A request is a message of the driver's, whose actor number comes after the last
 -- controller's; it goes to the buffer `mandatoryQueue` of the seat's controller and can be seen from the next cycle
--- on. Of a load's fields the small form can read its line address alone. All this is this project's own.
+-- on. Of a load's fields the small form can read its line address alone. The driver's state never changes. A request to
+-- a seat or controller that isn't there would vanish; the plain topology has both. All this is this project's own.
 use Rattle.std.specs.Prelude.{ℕ, false, Option, None, Some, List, [], ◌∷◌, ◌+◌, nat_lt, slice_get, slice_set, if◌then◌else◌}
 use Rattle.slicc_meaning.specs.declared.controller.Message.{Message}
 use Rattle.slicc_meaning.specs.declared.controller.MsgNo.{MsgNo}
@@ -16,6 +17,7 @@ use Rattle.slicc_meaning.specs.Front.{with_message}
 abbrev pub plain_turn : PlainDriver → ℕ → DriverTurn
 plain_turn d now =
     record {
+      state = d;
       issued = if nat_lt now d.requests then record { seat = 0; line_address = 0 } ∷ [] else [];
       next = if nat_lt (now + 1) d.requests then Some (now + 1) else None;
     }

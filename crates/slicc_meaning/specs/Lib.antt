@@ -3,6 +3,7 @@ pub mod Front
 pub mod States
 pub mod Rows
 pub mod Statements
+pub mod Try
 pub mod Scan
 pub mod World
 pub mod Driver

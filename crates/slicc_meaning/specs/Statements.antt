@@ -1,7 +1,7 @@
--- What the statements of bodies do to a controller: those of an action here, those of a port body below `trigger`.
--- An action ends with the controller after it and the numbers of the messages that it consumed, or with a fault.
--- `trigger` chooses the transition: with no written one for the state and event the fault is `invalid`; else the
--- transition's actions run in order, and then the next state is set. As in gem5's Ruby, a fault drops what was done.
+-- What the statements of an action do to a controller, and which message a port sees. An action ends with the
+-- controller after it and the numbers of the messages that it consumed, or with a fault, after which nothing more is
+-- done. The small form has one statement for actions, `dequeue`, so there are no environments here. A port, action or
+-- buffer that isn't there has no case in a plan; the definitions take the first buffer, and no action.
 use Rattle.std.specs.Prelude.{ℕ, Option, None, Some, List, [], ◌∷◌, ◌++◌, fold, slice_get, is_some, if◌then◌else◌}
 use Rattle.slicc_meaning.specs.declared.controller.Acted.{Acted}
 use Rattle.slicc_meaning.specs.declared.controller.Controller.{Controller}
@@ -54,43 +54,3 @@ act m now acted action =
 
 abbrev pub run_actions : MachinePlan → List ℕ → Controller → ℕ → Acted
 run_actions m actions c now = fold (act m now) (record { controller = c; consumed = []; fault = None }) actions
-
--- a scan that stops at a pair, with everything known
-abbrev pub stop_at : ℕ → ℕ → ℕ → Fault → Scanned
-stop_at address state event fault =
-    Stop (record { address = Some address; state = Some state; event = Some event; fault = fault })
-
--- after the actions the next state is set
-abbrev pub settled : ℕ → ℕ → ℕ → ℕ → Controller → List MsgNo → Option Fault → Scanned
-settled address state event next c consumed None =
-    Fired
-    (record { address = address; state = state; event = event; next = next })
-    consumed
-    (record c { states = with_state c.states address next })
-settled address state event next c consumed (Some fault) = stop_at address state event fault
-
--- the first written transition of the pair fires; where there is none, the pair is invalid
-abbrev pub fire_first : MachinePlan → ℕ → ℕ → ℕ → Controller → ℕ → Option WrittenTransition → Scanned
-fire_first m address state event c now None = stop_at address state event Invalid
-fire_first m address state event c now (Some t) =
-    let acted = run_actions m t.actions c now in
-    settled address state event t.next acted.controller acted.consumed acted.fault
-
--- `trigger` brings the address down to its line, and takes the state from the built-in map
-abbrev pub try_event : MachinePlan → ℕ → ℕ → Controller → ℕ → Scanned
-try_event m event address c now =
-    let line = line_of address in
-    let state = state_at m.default c.states line in
-    fire_first m line state event c now (slice_get (rows m state event) 0)
-
--- `peek` binds the front message for what stands in it
-abbrev pub peek_front : MachinePlan → Trigger → Controller → ℕ → Option Message → Scanned
-peek_front m t c now None = Stop (record { address = None; state = None; event = None; fault = Front })
-peek_front m t c now (Some front) = try_event m t.event front.line_address c now
-
-abbrev pub peek : MachinePlan → Peek → Controller → ℕ → Scanned
-peek m p c now = peek_front m p.then c now (front_of m p.port c now)
-
--- the body of a port: it triggers where `isReady` holds, and else passes
-abbrev pub if_ready : MachinePlan → If → Controller → ℕ → Scanned
-if_ready m i c now = if is_some (front_of m i.port c now) then peek m i.then c now else Idle

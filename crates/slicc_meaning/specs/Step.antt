@@ -1,5 +1,5 @@
--- One event: the world after it, and its entry in the journal if it has one. Where there is none, the event isn't
--- lawful in that world. No event is lawful once a verdict stands. The steps of a run are this project's own.
+-- One event: the world after it, and its entry in the journal if it has one. Where there is no such world, the event
+-- isn't lawful in the world before it. No event is lawful once a verdict stands. The steps of a run are this project's own.
 use Rattle.std.specs.Prelude.{ℕ, Bool, true, false, Option, None, Some, List, [], ◌+◌, ◌||◌, ◌==◌, map, length, slice_get, slice_set, is_some, is_none, if◌then◌else◌}
 use Rattle.std.specs.List.{list_any}
 use Rattle.slicc_meaning.specs.declared.controller.Controller.{Controller}
@@ -52,7 +52,7 @@ fired_by w c p (scanned.Fired note consumed after) =
     })
 fired_by w c p scanned.Full = None
 fired_by w c p (scanned.Stop at) = None
-fired_by w c p scanned.Idle = None
+fired_by w c p (scanned.Idle after) = None
 
 -- the place after its wake-up ended: finished in this cycle, and held by nobody
 abbrev pub given_back : World → ℕ → Place → Controller → End → Option Stepped
@@ -68,7 +68,7 @@ done_by w c p scanned.Full =
     given_back w c p (record p.controller { marks = with_mark p.controller.marks (w.now + 1) }) end.Full
 done_by w c p (scanned.Fired note consumed after) = None
 done_by w c p (scanned.Stop at) = given_back w c p (record p.controller { stopped = true }) (end.Stop at)
-done_by w c p scanned.Idle = given_back w c p p.controller end.Idle
+done_by w c p (scanned.Idle after) = given_back w c p after end.Idle
 
 abbrev pub scan_at : Setting → World → ℕ → Place → Scanned
 scan_at s w c p = scan_of s (machine_plan s c) p.controller w.now
@@ -117,6 +117,7 @@ abbrev pub driven : Setting → World → DriverTurn → World
 driven s w turn =
     record w {
       places = issue_all s.topology.seats (length w.places) w.issued w.now w.places turn.issued;
+      driver = turn.state;
       issued = w.issued + length turn.issued;
       next = turn.next;
     }

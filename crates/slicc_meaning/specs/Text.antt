@@ -19,7 +19,7 @@ use Rattle.slicc_meaning.specs.declared.record.RunRecord.{RunRecord}
 use Rattle.slicc_meaning.specs.declared.record.Verdict.{Verdict}
 use Rattle.slicc_meaning.specs.declared.record.Verdict.TheVariants as verdict
 use Rattle.slicc_meaning.specs.declared.world.Topology.{Topology}
-use Rattle.slicc_meaning.specs.World.{machine_of}
+use Rattle.slicc_meaning.specs.World.{plan_for}
 
 -- the words of a line, parted by single spaces
 abbrev pub line : List (List ℕ) → List ℕ
@@ -41,9 +41,6 @@ states_of (Some m) = m.states
 abbrev pub events_of : Option MachinePlan → List (List ℕ)
 events_of None = []
 events_of (Some m) = m.events
-
-abbrev pub plan_for : Plan → Topology → ℕ → Option MachinePlan
-plan_for plan topology c = slice_get plan.machines (machine_of topology.counts c)
 
 abbrev pub state_name : Plan → Topology → ℕ → ℕ → List ℕ
 state_name plan topology c state = name_at (states_of (plan_for plan topology c)) state

@@ -1,6 +1,7 @@
 -- How a run ends, decided at a turn. Where a controller has stopped, the least-numbered one is the verdict and the
 -- driver doesn't act. Else, after the driver: quiet where no mark is above this cycle, and beyond the bound where the
--- least such mark is. These rules are this project's own.
+-- least such mark is. No run of at most 100,000 requests comes near the bounds on a journal or on waiting messages,
+-- so these have no case here. These rules are this project's own.
 use Rattle.std.specs.Prelude.{ℕ, Option, None, Some, List, [], ◌∷◌, ◌+◌, nat_lt, min, if◌then◌else◌}
 use Rattle.slicc_meaning.specs.declared.record.Verdict.{Verdict}
 use Rattle.slicc_meaning.specs.declared.record.Verdict.TheVariants.{Quiet, Cycles}
@@ -20,9 +21,14 @@ abbrev pub least_above : ℕ → List ℕ → Option ℕ
 least_above now [] = None
 least_above now (mark ∷ marks) = earlier (above now mark) (least_above now marks)
 
--- that of all controllers and the driver
+-- a cycle at which the driver must act, if it is above this one
+abbrev pub later : ℕ → Option ℕ → Option ℕ
+later now None = None
+later now (Some mark) = above now mark
+
+-- the least mark above this cycle of all controllers and the driver
 abbrev pub next_cycle : ℕ → Option ℕ → List Place → Option ℕ
-next_cycle now next [] = next
+next_cycle now next [] = later now next
 next_cycle now next (p ∷ ps) = earlier (least_above now p.controller.marks) (next_cycle now next ps)
 
 -- the number of the first place, from this number on, whose controller has stopped

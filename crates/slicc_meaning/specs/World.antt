@@ -5,6 +5,8 @@ use Rattle.slicc_meaning.specs.declared.controller.Controller.{Controller}
 use Rattle.slicc_meaning.specs.declared.controller.Scanned.{Scanned}
 use Rattle.slicc_meaning.specs.declared.controller.Scanned.TheVariants.{Idle}
 use Rattle.slicc_meaning.specs.declared.plan.MachinePlan.{MachinePlan}
+use Rattle.slicc_meaning.specs.declared.plan.Plan.{Plan}
+use Rattle.slicc_meaning.specs.declared.world.Topology.{Topology}
 use Rattle.slicc_meaning.specs.declared.world.Place.{Place}
 use Rattle.slicc_meaning.specs.declared.world.Setting.{Setting}
 use Rattle.slicc_meaning.specs.declared.world.World.{World}
@@ -16,8 +18,12 @@ abbrev pub machine_of : List ℕ → ℕ → ℕ
 machine_of [] c = 0
 machine_of (n ∷ ns) c = if nat_lt c n then 0 else 1 + machine_of ns (c - n)
 
+-- the plan of a controller's machine
+abbrev pub plan_for : Plan → Topology → ℕ → Option MachinePlan
+plan_for plan topology c = slice_get plan.machines (machine_of topology.counts c)
+
 abbrev pub machine_plan : Setting → ℕ → Option MachinePlan
-machine_plan s c = slice_get s.plan.machines (machine_of s.topology.counts c)
+machine_plan s c = plan_for s.plan s.topology c
 
 abbrev pub opening_place : Place
 opening_place =
@@ -50,7 +56,7 @@ is_due now p = has_mark p.controller.marks now && not p.finished
 abbrev pub is_free : ℕ → Place → Bool
 is_free now p = is_due now p && is_none p.holder
 
--- one scan of a controller of this machine
+-- one scan of a controller of this machine; a controller without a machine, of which no topology tells, does nothing
 abbrev pub scan_of : Setting → Option MachinePlan → Controller → ℕ → Scanned
-scan_of s None c now = Idle
+scan_of s None c now = Idle c
 scan_of s (Some m) c now = scan m c now s.limit

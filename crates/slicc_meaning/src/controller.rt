@@ -76,5 +76,8 @@ pub enum Scanned {
     /// A port met a fault. What the scan did is dropped.
     Stop(StopAt),
     /// No port fired.
-    Idle,
+    Idle {
+        /// The controller as the ports have left it.
+        controller: Controller,
+    },
 }

@@ -9,11 +9,15 @@ mod front;
 mod plan;
 mod record;
 mod rows;
+mod scanning;
 mod statements;
 mod states;
+mod trigger;
 mod world;
 
+pub use ascending::{has_mark, marks_from, with_mark};
 pub use controller::{Acted, Controller, Message, MsgNo, Scanned, StateAt};
+pub use front::with_message;
 pub use plan::{
     ActionPlan, Dequeue, If, MachinePlan, Peek, Plan, PortPlan, Trigger, WrittenTransition,
 };
@@ -22,4 +26,5 @@ pub use record::{
     Verdict,
 };
 pub use ruby_base::{NoMemory, Seq, Text};
+pub use scanning::scan;
 pub use world::{DriverTurn, Place, PlainDriver, Request, Seat, Setting, Topology, World};

@@ -35,6 +35,8 @@ pub struct Request {
 /// What a driver does at a turn.
 #[derive(Drop)]
 pub struct DriverTurn {
+    /// The driver after it.
+    pub state: PlainDriver,
     pub issued: Seq<Request>,
     /// The next cycle at which the driver must act, if any.
     pub next: Option<u64>,
