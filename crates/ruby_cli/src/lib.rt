@@ -4,3 +4,4 @@
 mod driver;
 mod marks;
 mod steps;
+mod turn;

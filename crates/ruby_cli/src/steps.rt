@@ -1,14 +1,17 @@
 // The events of a run, each as one step of the world.
-ghost use Rattle.std.specs.Prelude.{◌≡◌, ◌<◌, ◌+◌, ◌-◌, ◌^◌, IfOk, IsTrue, None, Some, length, slice_get};
+ghost use Rattle.std.specs.Prelude.{◌≡◌, ◌≢◌, ◌<◌, ◌+◌, ◌-◌, ◌^◌, IfOk, IsTrue, None, Some, true, false, length, slice_get};
+ghost use Rattle.std.specs.List.{list_any};
 ghost use Rattle.std.specs.Option.{IsSomeAnd};
+ghost use Rattle.slicc_meaning.specs.declared.controller.Scanned.TheVariants.{Fired};
+ghost use Rattle.slicc_meaning.specs.declared.record.Event.TheVariants.{Take, Fire, Done, Turn};
 ghost use Rattle.slicc_meaning.specs.declared.world.Setting.{Setting as SettingRecord};
-ghost use Rattle.slicc_meaning.specs.declared.record.Event.TheVariants.{Take, Fire, Done};
 ghost use Rattle.slicc_meaning.specs.World.{is_free};
-ghost use Rattle.slicc_meaning.specs.Step.{step, is_holder, scan_at};
+ghost use Rattle.slicc_meaning.specs.Step.{step, is_holder, scan_at, ended_by};
+ghost use Rattle.ruby_cli.specs.Outcome.{IsOutcome};
 
 use ruby_base::{NoMemory, Seq};
 use slicc_meaning::{
-    Controller, End, Entry, FireNote, MsgNo, Place, Scanned, Setting, World, with_mark,
+    Controller, End, Entry, FireNote, MsgNo, Place, Scanned, Setting, World, copy_of, with_mark,
 };
 use std::alloc::Global;
 
@@ -22,4 +25,119 @@ pub fn take(mut world: World, worker: u32, c: u32) -> World
     places[c as usize].holder = Some(worker);
     world.places = Seq::of(places);
     world
+}
+
+/// One scan of the controller that the worker holds fired.
+pub fn fire(
+    setting: &Setting,
+    mut world: World,
+    worker: u32,
+    c: u32,
+    note: FireNote,
+    consumed: Seq<MsgNo>,
+    mut after: Controller,
+) -> (World, Entry)
+    requires running { world.verdict ≡ None }
+    requires fired { IsSomeAnd (slice_get world.places c) (λ p. IsTrue (is_holder worker p.holder) × (scan_at setting.now world c p ≡ Fired note consumed after)) }
+    requires fits { after.fired + 1 < 2 ^ 64 }
+    ensures { step setting.now world (Fire worker c) ≡ Some (record { world = result.0; entry = Some result.1 }) }
+{
+    after.fired += 1;
+    let mut places = world.places.into_vec();
+    places[c as usize].controller = after;
+    world.places = Seq::of(places);
+    let entry = Entry::Fired {
+        cycle: world.now,
+        controller: c,
+        note,
+        consumed,
+    };
+    (world, entry)
+}
+
+/// What a held controller's scan comes to for its wake-up.
+#[derive(Drop)]
+pub enum Outcome {
+    /// It fired, and the wake-up goes on.
+    Fired {
+        note: FireNote,
+        consumed: Seq<MsgNo>,
+        after: Controller,
+    },
+    /// The wake-up ended so, with the controller after it.
+    Ended {
+        after: Controller,
+        end: End,
+    },
+}
+
+/// What the scan of a controller at a cycle comes to.
+pub fn outcome_of(
+    alloc: Global,
+    now: u64,
+    c: &Controller,
+    scanned: Scanned,
+) -> Result<Outcome, NoMemory>
+    requires { now < 2 ^ 63 }
+    ensures { IfOk result (IsOutcome now c.now scanned) }
+{
+    match scanned {
+        Scanned::Full => {
+            let mut after = copy_of(alloc, c)?;
+            let marks = with_mark(alloc, c.marks.as_slice(), now + 1)?;
+            after.marks = marks;
+            Ok(Outcome::Ended {
+                after,
+                end: End::Full,
+            })
+        }
+        Scanned::Fired {
+            note,
+            consumed,
+            controller,
+        } => Ok(Outcome::Fired {
+            note,
+            consumed,
+            after: controller,
+        }),
+        Scanned::Stop(at) => {
+            let mut after = copy_of(alloc, c)?;
+            after.stopped = true;
+            Ok(Outcome::Ended {
+                after,
+                end: End::Stop(at),
+            })
+        }
+        Scanned::Idle { controller } => Ok(Outcome::Ended {
+            after: controller,
+            end: End::Idle,
+        }),
+    }
+}
+
+/// The wake-up of the controller that the worker holds ended.
+pub fn done(
+    setting: &Setting,
+    mut world: World,
+    worker: u32,
+    c: u32,
+    after: Controller,
+    end: End,
+) -> (World, Entry)
+    requires running { world.verdict ≡ None }
+    requires ended { IsSomeAnd (slice_get world.places c) (λ p. IsTrue (is_holder worker p.holder) × (ended_by world.now p.controller (scan_at setting.now world c p) ≡ Some (after, end))) }
+    ensures { step setting.now world (Done worker c) ≡ Some (record { world = result.0; entry = Some result.1 }) }
+{
+    let place = Place {
+        controller: after,
+        finished: true,
+        holder: None,
+    };
+    world.places.replace(c as usize, place);
+    let entry = Entry::Ended {
+        cycle: world.now,
+        controller: c,
+        end,
+    };
+    (world, entry)
 }

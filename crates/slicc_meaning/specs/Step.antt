@@ -54,21 +54,22 @@ fired_by w c p scanned.Full = None
 fired_by w c p (scanned.Stop at) = None
 fired_by w c p (scanned.Idle after) = None
 
--- the place after its wake-up ended: finished in this cycle, and held by nobody
-abbrev pub given_back : World → ℕ → Place → Controller → End → Option Stepped
-given_back w c p controller end =
-    Some (record {
-      world = with_place w c (record { controller = controller; finished = true; holder = None });
-      entry = Some (entry.Ended w.now c end);
-    })
+-- the controller after its wake-up, and how that ended; none where its scan fired. A full controller wakes again in the
+-- next cycle, and a fault stops it
+abbrev pub ended_by : ℕ → Controller → Scanned → Option (Controller × End)
+ended_by now c scanned.Full = Some (record c { marks = with_mark c.marks (now + 1) }, end.Full)
+ended_by now c (scanned.Fired note consumed after) = None
+ended_by now c (scanned.Stop at) = Some (record c { stopped = true }, end.Stop at)
+ended_by now c (scanned.Idle after) = Some (after, end.Idle)
 
--- a full controller wakes again in the next cycle; a fault stops it
-abbrev pub done_by : World → ℕ → Place → Scanned → Option Stepped
-done_by w c p scanned.Full =
-    given_back w c p (record p.controller { marks = with_mark p.controller.marks (w.now + 1) }) end.Full
-done_by w c p (scanned.Fired note consumed after) = None
-done_by w c p (scanned.Stop at) = given_back w c p (record p.controller { stopped = true }) (end.Stop at)
-done_by w c p (scanned.Idle after) = given_back w c p after end.Idle
+-- the place is given back: finished in this cycle, and held by nobody
+abbrev pub given_back : World → ℕ → Option (Controller × End) → Option Stepped
+given_back w c None = None
+given_back w c (Some ended) =
+  Some (record {
+    world = with_place w c (record { controller = ended.0; finished = true; holder = None });
+    entry = Some (entry.Ended w.now c ended.1);
+  })
 
 abbrev pub scan_at : Setting → World → ℕ → Place → Scanned
 scan_at s w c p = scan_of s (machine_plan s c) p.controller w.now
@@ -79,7 +80,7 @@ fire s w worker c (Some p) = if is_holder worker p.holder then fired_by w c p (s
 
 abbrev pub done : Setting → World → ℕ → ℕ → Option Place → Option Stepped
 done s w worker c None = None
-done s w worker c (Some p) = if is_holder worker p.holder then done_by w c p (scan_at s w c p) else None
+done s w worker c (Some p) = if is_holder worker p.holder then given_back w c (ended_by w.now p.controller (scan_at s w c p)) else None
 
 abbrev pub release : World → ℕ → ℕ → Option Place → Option Stepped
 release w worker c None = None

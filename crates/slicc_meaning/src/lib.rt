@@ -26,5 +26,5 @@ pub use record::{
     Verdict,
 };
 pub use ruby_base::{NoMemory, Seq, Text};
-pub use scanning::scan;
+pub use scanning::{copy_of, scan};
 pub use world::{DriverTurn, Place, PlainDriver, Request, Seat, Setting, Topology, World};

@@ -7,8 +7,8 @@ use crate::{Controller, MachinePlan, PortPlan, Scanned};
 use ruby_base::{NoMemory, Seq};
 use std::alloc::Global;
 
-// A controller of its own with the same content.
-fn copy_of(alloc: Global, c: &Controller) -> Result<Controller, NoMemory>
+/// A controller of its own with the same content.
+pub fn copy_of(alloc: Global, c: &Controller) -> Result<Controller, NoMemory>
     ensures { IfOk result (λ copy. copy ≡ c.now) }
 {
     Ok(Controller {
