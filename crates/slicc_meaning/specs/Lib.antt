@@ -5,6 +5,7 @@ pub mod Rows
 pub mod Statements
 pub mod Try
 pub mod Scan
+pub mod FiredCount
 pub mod World
 pub mod Driver
 pub mod Verdict

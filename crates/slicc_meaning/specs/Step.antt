@@ -66,10 +66,10 @@ ended_by now c (scanned.Idle after) = Some (after, end.Idle)
 abbrev pub given_back : World → ℕ → Option (Controller × End) → Option Stepped
 given_back w c None = None
 given_back w c (Some ended) =
-  Some (record {
-    world = with_place w c (record { controller = ended.0; finished = true; holder = None });
-    entry = Some (entry.Ended w.now c ended.1);
-  })
+    Some (record {
+      world = with_place w c (record { controller = ended.0; finished = true; holder = None });
+      entry = Some (entry.Ended w.now c ended.1);
+    })
 
 abbrev pub scan_at : Setting → World → ℕ → Place → Scanned
 scan_at s w c p = scan_of s (machine_plan s c) p.controller w.now

@@ -1,6 +1,7 @@
 // One scan of a controller.
 ghost use Rattle.std.specs.Prelude.{◌≡◌, IfOk};
 ghost use Rattle.slicc_meaning.specs.Scan.{scan as scan_of, run_port as run_port_of, scan_ports as scan_ports_of};
+ghost use Rattle.slicc_meaning.specs.FiredCount.{KeepsFired, FiresBelow};
 
 use crate::trigger::if_ready;
 use crate::{Controller, MachinePlan, PortPlan, Scanned};
@@ -54,10 +55,14 @@ pub fn scan(
     now: u64,
     limit: u64,
 ) -> Result<Scanned, NoMemory>
-    ensures { IfOk result (λ after. after ≡ scan_of m.now c.now now limit) }
+    ensures scan { IfOk result (λ after. after ≡ scan_of m.now c.now now limit) }
+    ensures same_count { IfOk result (KeepsFired c.now) }
+    ensures below_limit { IfOk result (FiresBelow limit c.now) }
 {
     if limit <= c.fired {
         return Ok(Scanned::Full);
     }
-    scan_ports(alloc, m, copy_of(alloc, c)?, now)
+    let copy = copy_of(alloc, c)?;
+    let scanned = scan_ports(alloc, m, copy, now)?;
+    Ok(scanned)
 }
