@@ -1,6 +1,7 @@
 //! The program's work as a library: words to options, files to plans, runs, and their texts.
 #![tactic(auto)]
 
+mod book;
 mod driver;
 mod marks;
 mod steps;

@@ -6,7 +6,7 @@ ghost use Rattle.slicc_meaning.specs.declared.controller.Scanned.TheVariants.{Fi
 ghost use Rattle.slicc_meaning.specs.declared.record.Event.TheVariants.{Take, Fire, Done, Turn};
 ghost use Rattle.slicc_meaning.specs.declared.world.Setting.{Setting as SettingRecord};
 ghost use Rattle.slicc_meaning.specs.World.{is_free};
-ghost use Rattle.slicc_meaning.specs.Step.{step, is_holder, scan_at, ended_by};
+ghost use Rattle.slicc_meaning.specs.Step.{step, with_place, is_holder, scan_at, ended_by};
 ghost use Rattle.ruby_cli.specs.Outcome.{IsOutcome};
 
 use ruby_base::{NoMemory, Seq};
@@ -19,7 +19,8 @@ use std::alloc::Global;
 pub fn take(mut world: World, worker: u32, c: u32) -> World
     requires running { world.verdict ≡ None }
     requires free { IsSomeAnd (slice_get world.places c) (λ p. IsTrue (is_free world.now p)) }
-    ensures { (s : SettingRecord) → step s world (Take worker c) ≡ Some (record { world = result; entry = None }) }
+    ensures step { (s : SettingRecord) → step s world (Take worker c) ≡ Some (record { world = result; entry = None }) }
+    ensures held { IsSomeAnd (slice_get world.places c) (λ p. result ≡ with_place world c (record p { holder = Some worker })) }
 {
     let mut places = world.places.into_vec();
     places[c as usize].holder = Some(worker);
@@ -40,7 +41,8 @@ pub fn fire(
     requires running { world.verdict ≡ None }
     requires fired { IsSomeAnd (slice_get world.places c) (λ p. IsTrue (is_holder worker p.holder) × (scan_at setting.now world c p ≡ Fired note consumed after)) }
     requires fits { after.fired + 1 < 2 ^ 64 }
-    ensures { step setting.now world (Fire worker c) ≡ Some (record { world = result.0; entry = Some result.1 }) }
+    ensures step { step setting.now world (Fire worker c) ≡ Some (record { world = result.0; entry = Some result.1 }) }
+    ensures fired { IsSomeAnd (slice_get world.places c) (λ p. result.0 ≡ with_place world c (record p { controller = record after { fired = after.fired + 1 } })) }
 {
     after.fired += 1;
     let mut places = world.places.into_vec();
@@ -126,7 +128,8 @@ pub fn done(
 ) -> (World, Entry)
     requires running { world.verdict ≡ None }
     requires ended { IsSomeAnd (slice_get world.places c) (λ p. IsTrue (is_holder worker p.holder) × (ended_by world.now p.controller (scan_at setting.now world c p) ≡ Some (after, end))) }
-    ensures { step setting.now world (Done worker c) ≡ Some (record { world = result.0; entry = Some result.1 }) }
+    ensures step { step setting.now world (Done worker c) ≡ Some (record { world = result.0; entry = Some result.1 }) }
+    ensures back { result.0 ≡ with_place world c (record { controller = after; finished = true; holder = None }) }
 {
     let place = Place {
         controller: after,
