@@ -4,5 +4,6 @@
 mod book;
 mod driver;
 mod marks;
+mod outcomes;
 mod steps;
 mod turn;

@@ -7,13 +7,9 @@ ghost use Rattle.slicc_meaning.specs.declared.record.Event.TheVariants.{Take, Fi
 ghost use Rattle.slicc_meaning.specs.declared.world.Setting.{Setting as SettingRecord};
 ghost use Rattle.slicc_meaning.specs.World.{is_free};
 ghost use Rattle.slicc_meaning.specs.Step.{step, with_place, is_holder, scan_at, ended_by};
-ghost use Rattle.ruby_cli.specs.Outcome.{IsOutcome};
 
-use ruby_base::{NoMemory, Seq};
-use slicc_meaning::{
-    Controller, End, Entry, FireNote, MsgNo, Place, Scanned, Setting, World, copy_of, with_mark,
-};
-use std::alloc::Global;
+use ruby_base::Seq;
+use slicc_meaning::{Controller, End, Entry, FireNote, MsgNo, Place, Setting, World};
 
 /// The worker takes a controller that is due and that nobody holds.
 pub fn take(mut world: World, worker: u32, c: u32) -> World
@@ -55,66 +51,6 @@ pub fn fire(
         consumed,
     };
     (world, entry)
-}
-
-/// What a held controller's scan comes to for its wake-up.
-#[derive(Drop)]
-pub enum Outcome {
-    /// It fired, and the wake-up goes on.
-    Fired {
-        note: FireNote,
-        consumed: Seq<MsgNo>,
-        after: Controller,
-    },
-    /// The wake-up ended so, with the controller after it.
-    Ended {
-        after: Controller,
-        end: End,
-    },
-}
-
-/// What the scan of a controller at a cycle comes to.
-pub fn outcome_of(
-    alloc: Global,
-    now: u64,
-    c: &Controller,
-    scanned: Scanned,
-) -> Result<Outcome, NoMemory>
-    requires { now < 2 ^ 63 }
-    ensures { IfOk result (IsOutcome now c.now scanned) }
-{
-    match scanned {
-        Scanned::Full => {
-            let mut after = copy_of(alloc, c)?;
-            let marks = with_mark(alloc, c.marks.as_slice(), now + 1)?;
-            after.marks = marks;
-            Ok(Outcome::Ended {
-                after,
-                end: End::Full,
-            })
-        }
-        Scanned::Fired {
-            note,
-            consumed,
-            controller,
-        } => Ok(Outcome::Fired {
-            note,
-            consumed,
-            after: controller,
-        }),
-        Scanned::Stop(at) => {
-            let mut after = copy_of(alloc, c)?;
-            after.stopped = true;
-            Ok(Outcome::Ended {
-                after,
-                end: End::Stop(at),
-            })
-        }
-        Scanned::Idle { controller } => Ok(Outcome::Ended {
-            after: controller,
-            end: End::Idle,
-        }),
-    }
 }
 
 /// The wake-up of the controller that the worker holds ended.
