@@ -2,6 +2,7 @@
 -- counts. `Reads` says which answers to a read are right where the library tells this map. When a read has to fail,
 -- or when memory is missing, is not said here.
 use Rattle.std.specs.Prelude.{◌≡◌, ℕ, ◌<◌, ◌≤◌, List, [], ◌∷◌, length, Option, Some, None, bytes_eq, if◌then◌else◌}
+use Rattle.ruby_outside.specs.Faults.{PlanState, counted}
 use Rattle.ruby_outside.specs.declared.library.Got.{Got}
 use Rattle.ruby_outside.specs.declared.library.Got.TheVariants.{Bytes, Absent, TooLarge, Failed, NoMemory}
 
@@ -21,3 +22,16 @@ Reads files name limit Absent = bytes_of files name ≡ None
 Reads files name limit TooLarge = (bytes : List ℕ) × (bytes_of files name ≡ Some bytes) × (limit < length bytes)
 Reads files name limit Failed = Unit {0}
 Reads files name limit NoMemory = Unit {0}
+
+-- the count of faults of a library after it gave this answer
+abbrev pub count_after : Got → ℕ → ℕ
+count_after (Bytes bytes) faults = faults
+count_after Absent faults = faults
+count_after TooLarge faults = faults
+count_after Failed faults = counted faults
+count_after NoMemory faults = faults
+
+-- a library in memory: its files, and the plan of its faults
+pub record LibraryState : Type 0 where
+  pub files : Files
+  pub plan : PlanState

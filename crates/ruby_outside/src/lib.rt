@@ -4,9 +4,14 @@
 
 mod gate;
 mod library;
+mod memory_library;
+mod memory_sink;
+mod plan;
 mod sink;
 
 pub use gate::{Gate, Moment, OpenGate};
 pub use library::{Got, Library};
+pub use memory_library::{MemLibrary, SureLibrary};
+pub use memory_sink::{MemSink, SureSink};
 pub use ruby_base::{NoMemory, Seq, Text};
 pub use sink::{Sink, Wrote, put};
