@@ -23,6 +23,14 @@ Reads files name limit TooLarge = (bytes : List ℕ) × (bytes_of files name ≡
 Reads files name limit Failed = Unit {0}
 Reads files name limit NoMemory = Unit {0}
 
+-- an answer has no more bytes than so many
+abbrev pub IsWithin : ℕ → Got → Type 0
+IsWithin limit (Bytes bytes) = length bytes ≤ limit
+IsWithin limit Absent = Unit {0}
+IsWithin limit TooLarge = Unit {0}
+IsWithin limit Failed = Unit {0}
+IsWithin limit NoMemory = Unit {0}
+
 -- the count of faults of a library after it gave this answer
 abbrev pub count_after : Got → ℕ → ℕ
 count_after (Bytes bytes) faults = faults

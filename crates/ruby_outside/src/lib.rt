@@ -8,6 +8,7 @@ mod memory_library;
 mod memory_sink;
 mod plan;
 mod sink;
+mod system;
 
 pub use gate::{Gate, Moment, OpenGate};
 pub use library::{Got, Library};
@@ -15,3 +16,4 @@ pub use memory_library::{MemLibrary, SureLibrary};
 pub use memory_sink::{MemSink, SureSink};
 pub use ruby_base::{NoMemory, Seq, Text};
 pub use sink::{Sink, Wrote, put};
+pub use system::{FileLibrary, StdSink};
