@@ -1,7 +1,8 @@
 -- How what a sink tells grows over several calls.
-use Rattle.std.proofs.Common.{◌≡◌, ℕ, ◌+◌, ◌-◌, ◌<◌, List, [], ◌++◌, length, take, drop, Option, Some, None, is_some, refl, ◌∙◌, sym, ap, arith, append_assoc, length-append, length-drop}
+use Rattle.std.proofs.Common.{◌≡◌, ℕ, ◌+◌, ◌-◌, ◌<◌, List, [], ◌++◌, length, take, drop, Option, Some, None, is_some, Bool, true, false, refl, ◌∙◌, sym, ap, arith, append_assoc, length-append, length-drop}
 use Rattle.std.proofs.Math.Seq.{take-add, take-append-add}
 use Rattle.std.proofs.lemmas.List.{append-nil, take-append-le, take_all}
+use Rattle.std.specs.Bool.{OnFalse}
 use Rattle.ruby_outside.specs.Sink.{grown, IsCutOff}
 
 -- bytes and then more bytes are all of them at once
@@ -26,10 +27,16 @@ cut_before before first more after (count, within, is) =
     (count, short, is ∙ ap (λ (bytes : List ℕ). grown before bytes) (sym front))
 
 -- what is whole, and then more that is cut off, is cut off as a whole
-pub cut_behind : (before : Option (List ℕ)) (first more : List ℕ) (after : Option (List ℕ)) → IsCutOff (grown before first) more after → IsCutOff before (first ++ more) after
-cut_behind before first more after (count, within, is) =
+pub cut_behind : (before middle : Option (List ℕ)) (first more : List ℕ) (after : Option (List ℕ)) → middle ≡ grown before first → IsCutOff middle more after → IsCutOff before (first ++ more) after
+cut_behind before middle first more after whole (count, within, is) =
     let short : length first + count < length (first ++ more) = omega (arith, length-append first more) in
-    (length first + count, short, is ∙ grown-append before first (take count more) ∙ ap (λ (bytes : List ℕ). grown before bytes) (sym (take-append-add first more count)))
+    let both : after ≡ grown before (first ++ take count more) = is ∙ ap (λ (told : Option (List ℕ)). grown told (take count more)) whole ∙ grown-append before first (take count more) in
+    (length first + count, short, both ∙ ap (λ (bytes : List ℕ). grown before bytes) (sym (take-append-add first more count)))
+
+-- the same of the last call's answer
+pub cut_last : (answer : Bool) (before middle : Option (List ℕ)) (first more : List ℕ) (after : Option (List ℕ)) → middle ≡ grown before first → OnFalse answer (IsCutOff middle more after) → OnFalse answer (IsCutOff before (first ++ more) after)
+cut_last true before middle first more after whole cut = tt
+cut_last false before middle first more after whole cut = cut_behind before middle first more after whole cut
 
 -- the front of a piece, and then the front of what is left of it
 pub grown_on : (before middle after : Option (List ℕ)) (piece : List ℕ) (done count : ℕ) → middle ≡ grown before (take done piece) → after ≡ grown middle (take count (take (length piece - done) (drop done piece))) → after ≡ grown before (take (done + count) piece)

@@ -17,3 +17,6 @@ pub use memory_sink::{MemSink, SureSink};
 pub use ruby_base::{NoMemory, Seq, Text};
 pub use sink::{Sink, Wrote, put};
 pub use system::{FileLibrary, StdSink};
+
+#[cfg(test)]
+mod tests;
