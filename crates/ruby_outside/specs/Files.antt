@@ -23,6 +23,10 @@ Reads files name limit TooLarge = (bytes : List ℕ) × (bytes_of files name ≡
 Reads files name limit Failed = Unit {0}
 Reads files name limit NoMemory = Unit {0}
 
+-- there is a file of this name, with no more bytes than so many
+abbrev pub IsReadable : Files → List ℕ → ℕ → Type 0
+IsReadable files name limit = (bytes : List ℕ) × (bytes_of files name ≡ Some bytes) × (length bytes ≤ limit)
+
 -- an answer has no more bytes than so many
 abbrev pub IsWithin : ℕ → Got → Type 0
 IsWithin limit (Bytes bytes) = length bytes ≤ limit

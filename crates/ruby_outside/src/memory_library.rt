@@ -1,7 +1,7 @@
 ghost use Rattle.std.specs.Prelude.{◌≡◌, ◌≢◌, ◌↔◌, ◌≤◌, ℕ, List, Option, Some, IsTrue};
 ghost use Rattle.std.specs.Option.{option_copied};
 ghost use Rattle.ruby_outside.specs.Faults.{begun, is_planned, after_call};
-ghost use Rattle.ruby_outside.specs.Files.{Reads, bytes_of};
+ghost use Rattle.ruby_outside.specs.Files.{IsReadable, Reads, bytes_of};
 
 use crate::plan::Plan;
 use crate::{Got, Library};
@@ -51,6 +51,7 @@ impl Library for MemLibrary {
         ensures counts { self.old.plan.faults ≤ self.new.plan.faults }
         ensures failed { (result ≡ Got.Failed) ↔ IsTrue (is_planned self.old.plan) }
         ensures answer { Reads self.old.files name.now limit result }
+        ensures memory { result ≡ Got.NoMemory → IsReadable self.old.files name.now limit }
     {
         if self.plan.fails_next() {
             return Got::Failed;
@@ -93,6 +94,7 @@ impl Library for SureLibrary {
         ensures after { self.new ≡ self.old }
         ensures never_failed { result ≢ Got.Failed }
         ensures answer { Reads self.old name.now limit result }
+        ensures memory { result ≡ Got.NoMemory → IsReadable self.old name.now limit }
     {
         copy_of(self.alloc, self.files.as_slice(), name, limit)
     }
@@ -114,6 +116,7 @@ fn found<'a>(files: &'a [(Text, Text)], name: &[u8]) -> Option<&'a Text>
 fn copy_of(alloc: Global, files: &[(Text, Text)], name: &str, limit: u64) -> Got
     ensures never_failed { result ≢ Got.Failed }
     ensures answer { Reads files.now name.now limit result }
+    ensures memory { result ≡ Got.NoMemory → IsReadable files.now name.now limit }
 {
     match found(files, name.as_bytes()) {
         None => Got::Absent,

@@ -17,6 +17,11 @@ fn is_absent<L: Library>(library: &mut L, name: &str) -> bool
     matches!(library.read(name, 0), Got::Absent)
 }
 
+/// A caller that shares a gate among threads.
+fn pass_shared<G: Gate + Sync>(gate: &G) {
+    gate.pass(0, Moment::Take);
+}
+
 /// A caller that knows a sink by its trait alone, and writes two pieces.
 fn put_both<S: Sink>(sink: &mut S, first: &[u8], second: &[u8]) -> bool
     ensures whole { OnTrue result (S.written sink.new ≡ grown (S.written sink.old) (first.now ++ second.now)) }
@@ -99,7 +104,7 @@ fn the_sure_ones_never_fail(rt: HostRuntime) -> Result<(), Fail> {
     let got = library.read("a.sm", 7);
     assert_eq!(rt; word(&got), b"machine".as_slice());
     assert!(rt; put(&mut SureSink::new(), b"hello"));
-    OpenGate.pass(0, Moment::Take);
+    pass_shared(&OpenGate);
     Ok(())
 }
 
