@@ -2,7 +2,8 @@
 -- counts. `Reads` says which answers to a read are right where the library tells this map. When a read has to fail,
 -- or when memory is missing, is not said here.
 use Rattle.std.specs.Prelude.{◌≡◌, ℕ, ◌<◌, ◌≤◌, List, [], ◌∷◌, length, Option, Some, None, bytes_eq, if◌then◌else◌}
-use Rattle.ruby_outside.specs.Faults.{PlanState, counted}
+use Rattle.ruby_outside.specs.Faults.{counted}
+use Rattle.ruby_outside.specs.Plan.{PlanState}
 use Rattle.ruby_outside.specs.declared.library.Got.{Got}
 use Rattle.ruby_outside.specs.declared.library.Got.TheVariants.{Bytes, Absent, TooLarge, Failed, NoMemory}
 

@@ -1,3 +1,4 @@
 pub mod Faults
 pub mod Files
+pub mod Plan
 pub mod Sink

@@ -1,7 +1,9 @@
 -- What a sink has taken. Where it tells its bytes, a call adds to their end; where it tells none, it still tells none.
--- A piece that was cut off is there by a beginning of it that is not the whole.
+-- A piece that was cut off is there by a beginning of it that is not the whole. How many bytes a sink takes in one
+-- call is its own affair, but for the sink in memory, whose state stands here too.
 use Rattle.std.specs.Prelude.{◌≡◌, ℕ, ◌-◌, ◌<◌, ◌==◌, ◌&&◌, min, Bool, false, not, List, ◌++◌, length, take, Option, Some, None, if◌then◌else◌}
-use Rattle.ruby_outside.specs.Faults.{PlanState, counted, is_planned, after_call, after_fault}
+use Rattle.ruby_outside.specs.Faults.{counted}
+use Rattle.ruby_outside.specs.Plan.{PlanState, is_planned, after_call, after_fault}
 use Rattle.ruby_outside.specs.declared.sink.Wrote.{Wrote}
 use Rattle.ruby_outside.specs.declared.sink.Wrote.TheVariants.{Took, Failed}
 

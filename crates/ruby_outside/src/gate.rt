@@ -1,9 +1,11 @@
-/// Where a worker stands as it passes a gate: it has taken what it works on, it has posted what came of it, or it has
-/// given it back.
+/// Where a worker stands as it passes a gate.
 #[derive(Clone, Copy, Debug, PartialEq, Eq)]
 pub enum Moment {
+    /// It has taken what it works on.
     Take,
+    /// It has posted what came of its work.
     Posted,
+    /// It has given back what it worked on.
     Back,
 }
 

@@ -14,7 +14,7 @@ pub enum Got {
     Absent,
     /// The file has more bytes than the reader takes.
     TooLarge,
-    /// The library met a fault, and its count of faults rose.
+    /// The library met a fault of its own, and its count of faults rose.
     Failed,
     /// There was no memory for the bytes.
     NoMemory,
@@ -30,7 +30,7 @@ pub trait Library {
     ghost faults: { Self → ℕ };
 
     /// Reads the file of a name whole, if it has no more than `limit` bytes. A fault or want of memory may come in
-    /// place of any other answer.
+    /// place of any other answer. The files that it tells stay the same.
     fn read(&mut self, name: &str, limit: u64) -> Got
         ensures files { files self.new ≡ files self.old }
         ensures counts { faults self.old ≤ faults self.new }

@@ -1,6 +1,6 @@
 ghost use Rattle.std.specs.Prelude.{◌≡◌, ◌≢◌, ◌↔◌, ◌≤◌, ℕ, List, Option, Some, IsTrue};
 ghost use Rattle.std.specs.Option.{option_copied};
-ghost use Rattle.ruby_outside.specs.Faults.{begun, is_planned, after_call};
+ghost use Rattle.ruby_outside.specs.Plan.{begun, is_planned, after_call};
 ghost use Rattle.ruby_outside.specs.Files.{IsReadable, Reads, bytes_of};
 
 use crate::plan::Plan;

@@ -1,5 +1,5 @@
 ghost use Rattle.std.specs.Prelude.{◌≡◌, ◌≤◌, ◌-◌, [], ℕ, List, Option, Some, None, IfOk, length, min};
-ghost use Rattle.ruby_outside.specs.Faults.{begun};
+ghost use Rattle.ruby_outside.specs.Plan.{begun};
 ghost use Rattle.ruby_outside.specs.Sink.{after_write, answer_to, share_of};
 
 use crate::plan::Plan;
@@ -56,7 +56,7 @@ impl MemSink {
         })
     }
 
-    /// All the bytes that were written, lent.
+    /// All the bytes that were written, in their order, lent.
     pub fn bytes(&self) -> &[u8]
         ensures { result.now ≡ self.now.written }
     {
@@ -101,6 +101,7 @@ impl Sink for MemSink {
 pub struct SureSink;
 
 impl SureSink {
+    /// A sink that takes everything. It needs no memory.
     pub fn new() -> SureSink
         ensures tells_nothing { ⟦<SureSink as Sink>⟧.written result ≡ None }
         ensures no_fault { ⟦<SureSink as Sink>⟧.faults result ≡ 0 }

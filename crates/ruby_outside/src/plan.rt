@@ -1,5 +1,5 @@
 ghost use Rattle.std.specs.Prelude.{◌≡◌, ◌≤◌};
-ghost use Rattle.ruby_outside.specs.Faults.{begun, is_planned, after_call, after_fault};
+ghost use Rattle.ruby_outside.specs.Plan.{begun, is_planned, after_call, after_fault};
 
 use ruby_base::Seq;
 use std::marker::Model;
@@ -14,7 +14,7 @@ pub struct Plan {
 }
 
 impl Model for Plan {
-    ghost use Rattle.ruby_outside.specs.Faults.{PlanState};
+    ghost use Rattle.ruby_outside.specs.Plan.{PlanState};
 
     ghost Value = { PlanState };
 
