@@ -5,7 +5,7 @@ use Rattle.slicc_meaning.specs.declared.record.Entry.{Entry}
 use Rattle.slicc_meaning.specs.declared.record.Event.{Event}
 use Rattle.slicc_meaning.specs.declared.world.Setting.{Setting}
 use Rattle.slicc_meaning.specs.declared.world.World.{World}
-use Rattle.slicc_meaning.specs.Run.{Ran, ran_on, go_on, run, IsRun}
+use Rattle.slicc_meaning.specs.Run.{Ran, ran_on, go_on, IsRun}
 use Rattle.slicc_meaning.specs.Step.{Stepped, step}
 
 fold-more : {A B : Type 0} (f : B → A → B) (b : B) (xs : List A) (x : A) → fold f b (xs ++ x ∷ []) ≡ f (fold f b xs) x

@@ -5,5 +5,7 @@ mod book;
 mod driver;
 mod marks;
 mod outcomes;
+mod run;
 mod steps;
 mod turn;
+mod waking;

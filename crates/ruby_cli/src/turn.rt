@@ -1,9 +1,11 @@
 // The turn of a cycle: the driver acts, and the next cycle begins or the run ends.
-ghost use Rattle.std.specs.Prelude.{◌≡◌, ◌<◌, ◌≤◌, ◌+◌, ◌-◌, ◌^◌, IfOk, None, Some, false, length, map};
+ghost use Rattle.std.specs.Prelude.{◌≡◌, ◌<◌, ◌≤◌, ◌+◌, ◌-◌, ◌^◌, ℕ, IfOk, None, Some, false, length, map};
 ghost use Rattle.std.specs.List.{list_any};
 ghost use Rattle.slicc_meaning.specs.declared.record.Event.TheVariants.{Turn};
 ghost use Rattle.slicc_meaning.specs.Verdict.{least_stopped as least_stopped_of, end_of_cycle as end_of_cycle_of};
 ghost use Rattle.slicc_meaning.specs.Step.{step, is_busy, begun as begun_of, next_world as next_world_of, driven as driven_of, after_driver as after_driver_of};
+ghost use Rattle.ruby_cli.specs.Awake.{is_held};
+ghost use Rattle.ruby_cli.specs.Cycle.{IsDriven, IsNext, IsBetween};
 
 use crate::driver::{issue_all, issued_numbers, plain_turn};
 use crate::marks::next_cycle;
@@ -67,7 +69,8 @@ fn next_world(
     next: Option<u64>,
     verdict: Option<Verdict>,
 ) -> Result<World, NoMemory>
-    ensures { IfOk result (λ after. after ≡ next_world_of world next verdict) }
+    ensures next { IfOk result (λ after. after ≡ next_world_of world next verdict) }
+    ensures holders { IfOk result (λ after. list_any is_held after.places ≡ list_any is_held world.places) }
 {
     if verdict.is_some() {
         world.verdict = verdict;
@@ -91,7 +94,8 @@ fn driven(
     requires issued { world.issued ≤ world.now }
     requires few { length turn.issued ≤ 1 }
     requires places { length world.places < 2 ^ 32 }
-    ensures { IfOk result (λ after. after ≡ driven_of setting.now world turn) }
+    ensures driven { IfOk result (λ after. after ≡ driven_of setting.now world turn) }
+    ensures keeps { IfOk result (IsDriven world) }
 {
     let first = MsgNo {
         sender: world.places.len() as u32,
@@ -119,7 +123,9 @@ fn after_driver(
     world: World,
     issued: Seq<MsgNo>,
 ) -> Result<(World, Entry), NoMemory>
-    ensures { IfOk result (λ r. record { world = r.0; entry = Some r.1 } ≡ after_driver_of setting.now world issued) }
+    requires { world.verdict ≡ None }
+    ensures turned { IfOk result (λ r. record { world = r.0; entry = Some r.1 } ≡ after_driver_of setting.now world issued) }
+    ensures next { IfOk result (λ r. r.0.verdict ≡ None → IsNext world r.0 setting.now.cycles) }
 {
     let cycle = world.now;
     let next = next_cycle(cycle, world.next, world.places.as_slice());
@@ -131,4 +137,38 @@ fn after_driver(
         verdict,
     };
     Ok((world, entry))
+}
+
+/// The turn of a cycle, where nobody is held and no controller is due.
+pub fn turn(alloc: Global, setting: &Setting, mut world: World) -> Result<(World, Entry), NoMemory>
+    requires running { world.verdict ≡ None }
+    requires idle { list_any (is_busy world.now) world.places ≡ false }
+    requires now { world.now < 2 ^ 63 }
+    requires issued { world.issued ≤ world.now }
+    requires places { length world.places < 2 ^ 32 }
+    ensures step { IfOk result (λ r. (worker : ℕ) → step setting.now world (Turn worker) ≡ Some (record { world = r.0; entry = Some r.1 })) }
+    ensures next { IfOk result (λ r. r.0.verdict ≡ None → IsBetween r.0 setting.now.cycles (length world.places)) }
+    ensures later { IfOk result (λ r. r.0.verdict ≡ None → world.now < r.0.now) }
+{
+    let cycle = world.now;
+    if let Some(controller) = least_stopped(world.places.as_slice()) {
+        let verdict = Some(Verdict::Stop { cycle, controller });
+        world.verdict = verdict;
+        let issued = Seq::new(alloc);
+        let entry = Entry::Turned {
+            cycle,
+            issued,
+            verdict,
+        };
+        return Ok((world, entry));
+    }
+    let turn = plain_turn(alloc, world.driver, cycle)?;
+    let first = MsgNo {
+        sender: world.places.len() as u32,
+        count: world.issued,
+    };
+    let issued = issued_numbers(alloc, first, turn.issued.as_slice())?;
+    let world = driven(alloc, setting, world, turn)?;
+    let turned = after_driver(alloc, setting, world, issued)?;
+    Ok(turned)
 }

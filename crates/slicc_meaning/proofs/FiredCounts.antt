@@ -1,5 +1,5 @@
 -- No scan changes the count of transitions fired.
-use Rattle.std.proofs.Common.{◌≡◌, ◌<◌, ◌≤◌, ℕ, Bool, true, false, Option, None, Some, List, [], ◌∷◌, nat_le, is_some, cond, fold, refl, sym, ap, ◌∙◌, subst, slice_get}
+use Rattle.std.proofs.Common.{◌≡◌, ◌<◌, ℕ, Bool, true, false, Option, None, Some, List, [], ◌∷◌, is_some, cond, fold, refl, sym, ap, ◌∙◌, subst, slice_get}
 use Rattle.slicc_meaning.specs.declared.controller.Acted.{Acted}
 use Rattle.slicc_meaning.specs.declared.controller.Controller.{Controller}
 use Rattle.slicc_meaning.specs.declared.controller.Message.{Message}
@@ -10,16 +10,15 @@ use Rattle.slicc_meaning.specs.declared.record.Fault.{Fault}
 use Rattle.slicc_meaning.specs.declared.plan.ActionPlan.{ActionPlan}
 use Rattle.slicc_meaning.specs.declared.plan.If.{If}
 use Rattle.slicc_meaning.specs.declared.plan.MachinePlan.{MachinePlan}
-use Rattle.slicc_meaning.specs.declared.plan.Peek.{Peek}
 use Rattle.slicc_meaning.specs.declared.plan.PortPlan.{PortPlan}
 use Rattle.slicc_meaning.specs.declared.plan.Trigger.{Trigger}
 use Rattle.slicc_meaning.specs.declared.plan.WrittenTransition.{WrittenTransition}
 use Rattle.slicc_meaning.specs.FiredCount.{KeepsFired, FiresBelow}
 use Rattle.slicc_meaning.specs.Rows.{rows}
 use Rattle.slicc_meaning.specs.States.{line_of, state_at}
-use Rattle.slicc_meaning.specs.Statements.{dequeue, run_action, act, run_actions, front_of}
-use Rattle.slicc_meaning.specs.Try.{settled, fire_first, try_event, peek_front, peek, if_ready}
-use Rattle.slicc_meaning.specs.Scan.{run_port, scan_ports, scan}
+use Rattle.slicc_meaning.specs.Statements.{dequeue, run_action, act, front_of}
+use Rattle.slicc_meaning.specs.Try.{settled, fire_first, peek_front, if_ready}
+use Rattle.slicc_meaning.specs.Scan.{run_port, scan_ports}
 
 dequeue-fired : (c : Controller) (consumed : List MsgNo) (front : Option Message) → (dequeue c consumed front).controller.fired ≡ c.fired
 dequeue-fired c consumed None = refl

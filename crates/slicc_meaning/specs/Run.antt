@@ -1,6 +1,6 @@
 -- A run: a list of events, each lawful in the world that the ones before it lead to from the opening. The history
 -- determines the world and the journal. A run has ended where a verdict stands.
-use Rattle.std.specs.Prelude.{◌≡◌, Option, None, Some, List, [], ◌∷◌, ◌++◌, fold, IsSome}
+use Rattle.std.specs.Prelude.{◌≡◌, Option, None, Some, List, [], ◌++◌, fold, IsSome}
 use Rattle.std.specs.Option.{option_to_list}
 use Rattle.slicc_meaning.specs.declared.record.Entry.{Entry}
 use Rattle.slicc_meaning.specs.declared.record.Event.{Event}

@@ -1,7 +1,7 @@
 -- One scan of a controller: the port bodies in the order of the text, until one fires or meets a fault. A controller
 -- that has fired as many transitions in this cycle as it may isn't scanned. A scan in which no port fires is idle, with
 -- the controller as the ports have left it, which in the small form is as it was. That a call of `trigger` ends its port's body is this project's own rule, and so is the limit.
-use Rattle.std.specs.Prelude.{ℕ, List, [], ◌∷◌, fold, nat_le, if◌then◌else◌}
+use Rattle.std.specs.Prelude.{ℕ, List, fold, nat_le, if◌then◌else◌}
 use Rattle.slicc_meaning.specs.declared.controller.Controller.{Controller}
 use Rattle.slicc_meaning.specs.declared.controller.Scanned.{Scanned}
 use Rattle.slicc_meaning.specs.declared.controller.Scanned.TheVariants.{Full, Fired, Stop, Idle}

@@ -7,20 +7,11 @@ use Rattle.slicc_meaning.specs.declared.controller.Acted.{Acted}
 use Rattle.slicc_meaning.specs.declared.controller.Controller.{Controller}
 use Rattle.slicc_meaning.specs.declared.controller.Message.{Message}
 use Rattle.slicc_meaning.specs.declared.controller.MsgNo.{MsgNo}
-use Rattle.slicc_meaning.specs.declared.controller.Scanned.{Scanned}
-use Rattle.slicc_meaning.specs.declared.controller.Scanned.TheVariants.{Fired, Stop, Idle}
-use Rattle.slicc_meaning.specs.declared.record.Fault.{Fault}
-use Rattle.slicc_meaning.specs.declared.record.Fault.TheVariants.{Invalid, Front}
+use Rattle.slicc_meaning.specs.declared.record.Fault.TheVariants.{Front}
 use Rattle.slicc_meaning.specs.declared.plan.MachinePlan.{MachinePlan}
 use Rattle.slicc_meaning.specs.declared.plan.PortPlan.{PortPlan}
 use Rattle.slicc_meaning.specs.declared.plan.ActionPlan.{ActionPlan}
-use Rattle.slicc_meaning.specs.declared.plan.WrittenTransition.{WrittenTransition}
-use Rattle.slicc_meaning.specs.declared.plan.If.{If}
-use Rattle.slicc_meaning.specs.declared.plan.Peek.{Peek}
-use Rattle.slicc_meaning.specs.declared.plan.Trigger.{Trigger}
 use Rattle.slicc_meaning.specs.Front.{front, without_message}
-use Rattle.slicc_meaning.specs.States.{line_of, state_at, with_state}
-use Rattle.slicc_meaning.specs.Rows.{rows}
 
 -- the number of the buffer of a port
 abbrev pub buffer_of_port : Option PortPlan → ℕ

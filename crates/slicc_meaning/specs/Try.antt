@@ -3,8 +3,7 @@
 -- what is known of the scan; else the first one's actions run in order, and then its next state is set. What comes of
 -- a body is the scan's outcome: a body that doesn't trigger passes, with its controller. That `trigger` takes the
 -- address's line, and that a fault drops what the scan did, are this project's own rules.
-use Rattle.std.specs.Prelude.{ℕ, Option, None, Some, List, [], ◌∷◌, ◌++◌, fold, slice_get, is_some, if◌then◌else◌}
-use Rattle.slicc_meaning.specs.declared.controller.Acted.{Acted}
+use Rattle.std.specs.Prelude.{ℕ, Option, None, Some, List, slice_get, is_some, if◌then◌else◌}
 use Rattle.slicc_meaning.specs.declared.controller.Controller.{Controller}
 use Rattle.slicc_meaning.specs.declared.controller.Message.{Message}
 use Rattle.slicc_meaning.specs.declared.controller.MsgNo.{MsgNo}
@@ -13,13 +12,11 @@ use Rattle.slicc_meaning.specs.declared.controller.Scanned.TheVariants.{Fired, S
 use Rattle.slicc_meaning.specs.declared.record.Fault.{Fault}
 use Rattle.slicc_meaning.specs.declared.record.Fault.TheVariants.{Invalid, Front}
 use Rattle.slicc_meaning.specs.declared.plan.MachinePlan.{MachinePlan}
-use Rattle.slicc_meaning.specs.declared.plan.PortPlan.{PortPlan}
-use Rattle.slicc_meaning.specs.declared.plan.ActionPlan.{ActionPlan}
 use Rattle.slicc_meaning.specs.declared.plan.WrittenTransition.{WrittenTransition}
 use Rattle.slicc_meaning.specs.declared.plan.If.{If}
 use Rattle.slicc_meaning.specs.declared.plan.Peek.{Peek}
 use Rattle.slicc_meaning.specs.declared.plan.Trigger.{Trigger}
-use Rattle.slicc_meaning.specs.Front.{front, without_message}
+use Rattle.slicc_meaning.specs.Front.{front}
 use Rattle.slicc_meaning.specs.States.{line_of, state_at, with_state}
 use Rattle.slicc_meaning.specs.Rows.{rows}
 use Rattle.slicc_meaning.specs.Statements.{front_of, run_actions}

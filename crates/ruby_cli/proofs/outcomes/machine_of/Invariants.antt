@@ -1,4 +1,4 @@
-use Rattle.std.proofs.Common.{◌≡◌, ◌≤◌, ◌+◌, drop}
+use Rattle.std.proofs.Common.{◌≡◌, ◌+◌, drop}
 use Rattle.slicc_meaning.specs.World.{machine_of}
 use Rattle.ruby_cli.proofs.outcomes.machine_of.Given as goal
 
