@@ -1,0 +1,53 @@
+-- What a sink has taken. Where it tells its bytes, a call adds to their end; where it tells none, it still tells none.
+-- A piece that was cut off is there by a beginning of it that is not the whole.
+use Rattle.std.specs.Prelude.{◌≡◌, ℕ, ◌-◌, ◌<◌, ◌==◌, ◌&&◌, min, Bool, false, not, List, ◌++◌, length, take, Option, Some, None, if◌then◌else◌}
+use Rattle.ruby_outside.specs.Faults.{PlanState, counted, is_planned, after_call, after_fault}
+use Rattle.ruby_outside.specs.declared.sink.Wrote.{Wrote}
+use Rattle.ruby_outside.specs.declared.sink.Wrote.TheVariants.{Took, Failed}
+
+-- how many bytes of its piece a write took
+abbrev pub bytes_taken : Wrote → ℕ
+bytes_taken (Took count) = count
+bytes_taken Failed = 0
+
+-- what is told once these bytes have been added
+abbrev pub grown : Option (List ℕ) → List ℕ → Option (List ℕ)
+grown None bytes = None
+grown (Some written) bytes = Some (written ++ bytes)
+
+-- some of the piece was added, from its start, and not all of it
+abbrev pub IsCutOff : Option (List ℕ) → List ℕ → Option (List ℕ) → Type 0
+IsCutOff before piece after = (count : ℕ) × (count < length piece) × (after ≡ grown before (take count piece))
+
+-- none was taken of a piece that isn't empty
+abbrev pub is_stuck : List ℕ → Wrote → Bool
+is_stuck piece (Took count) = (count == 0) && not (length piece == 0)
+is_stuck piece Failed = false
+
+-- the count of faults of a sink after it gave this answer to this piece
+abbrev pub count_after : List ℕ → Wrote → ℕ → ℕ
+count_after piece (Took count) faults = if is_stuck piece (Took count) then counted faults else faults
+count_after piece Failed faults = counted faults
+
+-- a sink in memory: what it holds, the most bytes that one write takes, the room for all bytes, and the plan of its
+-- faults
+pub record SinkState : Type 0 where
+  pub written : List ℕ
+  pub most : ℕ
+  pub room : ℕ
+  pub plan : PlanState
+
+-- how many bytes of a piece such a sink takes where it doesn't fail
+abbrev pub share_of : SinkState → List ℕ → ℕ
+share_of sink piece = min (min (length piece) sink.most) (sink.room - length sink.written)
+
+-- what such a sink answers to a piece
+abbrev pub answer_to : SinkState → List ℕ → Wrote
+answer_to sink piece = if is_planned sink.plan then Failed else Took (share_of sink piece)
+
+-- such a sink after it gave this answer to this piece
+abbrev pub after_write : SinkState → List ℕ → Wrote → SinkState
+after_write sink piece wrote = record sink {
+  written = sink.written ++ take (bytes_taken wrote) piece;
+  plan = if is_stuck piece wrote then after_fault (after_call sink.plan) else after_call sink.plan;
+}

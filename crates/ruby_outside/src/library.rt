@@ -1,0 +1,39 @@
+ghost use Rattle.std.specs.Prelude.{◌≡◌, ◌≤◌, ℕ, List, Option};
+ghost use Rattle.std.specs.Option.{ForSome};
+ghost use Rattle.ruby_outside.specs.Faults.{Rose};
+ghost use Rattle.ruby_outside.specs.Files.{Reads};
+
+use ruby_base::Text;
+
+/// What a library answers to a read.
+#[derive(Debug, Drop)]
+pub enum Got {
+    /// All the bytes of the file.
+    Bytes(Text),
+    /// There is no file of that name.
+    Absent,
+    /// The file has more bytes than the reader takes.
+    TooLarge,
+    /// The library met a fault, and its count of faults rose.
+    Failed,
+    /// There was no memory for the bytes.
+    NoMemory,
+}
+
+/// Files that are read by name. This interface is the project's own.
+pub trait Library {
+    /// The files, as names with their bytes, where the library tells them. Of two files with one name the first
+    /// counts.
+    ghost files: { Self → Option (List (List ℕ × List ℕ)) };
+
+    /// How many reads have failed. It stands still at 2^64 - 1.
+    ghost faults: { Self → ℕ };
+
+    /// Reads the file of a name whole, if it has no more than `limit` bytes. A fault or want of memory may come in
+    /// place of any other answer.
+    fn read(&mut self, name: &str, limit: u64) -> Got
+        ensures files { files self.new ≡ files self.old }
+        ensures counts { faults self.old ≤ faults self.new }
+        ensures failed { result ≡ Got.Failed → Rose (faults self.old) (faults self.new) }
+        ensures answer { ForSome (files self.old) (λ told. Reads told name.now limit result) };
+}

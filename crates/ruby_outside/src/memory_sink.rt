@@ -1,0 +1,122 @@
+ghost use Rattle.std.specs.Prelude.{◌≡◌, ◌≤◌, ◌-◌, [], ℕ, List, Option, Some, None, IfOk, length, min};
+ghost use Rattle.ruby_outside.specs.Faults.{begun};
+ghost use Rattle.ruby_outside.specs.Sink.{after_write, answer_to, share_of};
+
+use crate::plan::Plan;
+use crate::{Sink, Wrote};
+use ruby_base::{NoMemory, Seq};
+use std::alloc::Global;
+use std::marker::Model;
+
+/// A sink in memory that fails at planned writes, takes a bounded number of bytes at a time, and has bounded room. It
+/// tells its bytes. A contract sees its bytes, its two bounds in bytes and its plan, with two counts that
+/// stand still at 2^64 - 1.
+#[derive(Debug, Drop)]
+pub struct MemSink {
+    held: Vec<u8>,
+    most: u64,
+    room: u64,
+    plan: Plan,
+}
+
+impl Model for MemSink {
+    ghost use Rattle.std.specs.Prelude.{◌≡◌, ◌≤◌, vec_len};
+    ghost use Rattle.std.specs.Vec.{vec_capacity};
+    ghost use Rattle.ruby_outside.specs.Sink.{SinkState};
+
+    ghost Value = { SinkState };
+
+    ghost view = { λ s. record {
+      written = s.held.items;
+      most = s.most;
+      room = s.room;
+      plan = s.plan;
+    } };
+
+    ghost invariant = { λ s. (vec_len s.held ≤ s.room) × (s.room ≤ vec_capacity s.held) };
+}
+
+impl MemSink {
+    /// An empty sink. The writes with the numbers in `fails`, counted from 1, fail; each other takes at most `most`
+    /// bytes, and at most what is left of `room` bytes. It reserves that room, so that no write takes memory.
+    pub fn new(alloc: Global, fails: Seq<u64>, most: u64, room: u64) -> Result<MemSink, NoMemory>
+        ensures { IfOk result (λ sink. sink ≡ record {
+          written = [];
+          most = most;
+          room = room;
+          plan = begun fails;
+        }) }
+    {
+        let held = Vec::with_capacity(alloc, room as usize)?;
+        Ok(MemSink {
+            held,
+            most,
+            room,
+            plan: Plan::new(fails),
+        })
+    }
+
+    /// All the bytes that were written, lent.
+    pub fn bytes(&self) -> &[u8]
+        ensures { result.now ≡ self.now.written }
+    {
+        self.held.as_slice()
+    }
+
+    /// How many bytes of a piece of so many are taken by a write that doesn't fail.
+    fn share(&self, piece: u64) -> u64
+        ensures { result ≡ min (min piece self.now.most) (self.now.room - length self.now.written) }
+    {
+        piece.min(self.most).min(self.room - self.held.len() as u64)
+    }
+}
+
+impl Sink for MemSink {
+    ghost written = { λ sink. Some sink.written };
+
+    ghost faults = { λ sink. sink.plan.faults };
+
+    fn write(&mut self, piece: &[u8]) -> Wrote
+        ensures answer { result ≡ answer_to self.old piece.now }
+        ensures after { self.new ≡ after_write self.old piece.now result }
+        ensures counts { self.old.plan.faults ≤ self.new.plan.faults }
+    {
+        if self.plan.fails_next() {
+            return Wrote::Failed;
+        }
+        let count = self.share(piece.len() as u64);
+        self.held
+            .extend_from_slice(&piece[..count as usize])
+            .unwrap();
+        if count == 0 && !piece.is_empty() {
+            self.plan.add_fault();
+        }
+        Wrote::Took(count)
+    }
+}
+
+/// A sink that takes each piece whole and keeps none of its bytes. It tells nothing and never fails, so its count of
+/// faults is 0 for good.
+#[derive(Clone, Copy, Debug, PartialEq, Eq)]
+pub struct SureSink;
+
+impl SureSink {
+    pub fn new() -> SureSink
+        ensures tells_nothing { ⟦<SureSink as Sink>⟧.written result ≡ None }
+        ensures no_fault { ⟦<SureSink as Sink>⟧.faults result ≡ 0 }
+    {
+        SureSink
+    }
+}
+
+impl Sink for SureSink {
+    ghost written = { λ _. None };
+
+    ghost faults = { λ _. 0 };
+
+    fn write(&mut self, piece: &[u8]) -> Wrote
+        ensures { result ≡ Wrote.Took (length piece.now) }
+    {
+        Wrote::Took(piece.len() as u64)
+    }
+}

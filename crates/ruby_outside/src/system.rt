@@ -1,0 +1,133 @@
+ghost use Rattle.std.specs.Prelude.{◌≡◌, ◌<◌, ◌≤◌, ℕ, List, Option, None, length};
+ghost use Rattle.ruby_outside.specs.Faults.{Rose};
+ghost use Rattle.ruby_outside.specs.Files.{count_after as library_count_after, IsWithin};
+ghost use Rattle.ruby_outside.specs.Sink.{bytes_taken, count_after as sink_count_after};
+
+use crate::{Got, Library, Sink, Wrote};
+use ruby_base::Seq;
+use std::alloc::Global;
+use std::fs;
+use std::io::{ErrorKind, Read};
+use std::marker::Model;
+use std::rt::Files;
+
+/// The files of the system, by their paths. It tells none of them. A contract sees it as its count of faults, which
+/// stands still at 2^64 - 1.
+#[derive(Drop)]
+pub struct FileLibrary<'a, R> {
+    alloc: Global,
+    runtime: &'a R,
+    faults: u64,
+}
+
+impl<'a, R> Model for FileLibrary<'a, R> {
+    ghost use Rattle.std.specs.Prelude.{ℕ};
+
+    ghost Value = { ℕ };
+
+    ghost view = { λ l. l.faults };
+}
+
+impl<'a, R> FileLibrary<'a, R> {
+    /// The files that the runtime reaches. The allocator is for the bytes that it hands out.
+    pub fn new(alloc: Global, runtime: &'a R) -> FileLibrary<'a, R>
+        ensures { result ≡ 0 }
+    {
+        FileLibrary {
+            alloc,
+            runtime,
+            faults: 0,
+        }
+    }
+}
+
+impl<'a, R: Files> Library for FileLibrary<'a, R> {
+    ghost files = { λ _. None };
+
+    ghost faults = { λ count. count };
+
+    fn read(&mut self, name: &str, limit: u64) -> Got
+        ensures counts { self.old ≤ self.new }
+        ensures after { self.new ≡ library_count_after result self.old }
+        ensures failed { result ≡ Got.Failed → Rose self.old self.new }
+        ensures within { IsWithin limit result }
+    {
+        let got = read_file(self.alloc, self.runtime, name, limit);
+        if let Got::Failed = got {
+            self.faults = self.faults.saturating_add(1);
+        }
+        got
+    }
+}
+
+/// Reads a file of the system. A name that isn't found is absent, and any other fault of the system is `Failed`.
+fn read_file<R: Files>(alloc: Global, runtime: &R, name: &str, limit: u64) -> Got
+    ensures { IsWithin limit result }
+{
+    match fs::open(runtime, name) {
+        Ok(file) => read_whole(alloc, file, limit),
+        Err(fault) if fault.kind() == ErrorKind::NotFound => Got::Absent,
+        Err(_) => Got::Failed,
+    }
+}
+
+/// Reads what a reader has left, one byte past the limit at most.
+fn read_whole<F: Read + Drop>(alloc: Global, file: F, limit: u64) -> Got
+    ensures { IsWithin limit result }
+{
+    let mut bytes = Vec::new(alloc);
+    match file.take(limit.saturating_add(1)).read_to_end(&mut bytes) {
+        Ok(_) if bytes.len() as u64 > limit => Got::TooLarge,
+        Ok(_) => Got::Bytes(Seq::of(bytes)),
+        Err(fault) if fault.kind() == ErrorKind::OutOfMemory => Got::NoMemory,
+        Err(_) => Got::Failed,
+    }
+}
+
+/// The standard output. It tells nothing of what was written. A contract sees it as its count of faults, which stands
+/// still at 2^64 - 1.
+#[derive(Drop)]
+pub struct StdSink<'a, R> {
+    runtime: &'a R,
+    faults: u64,
+}
+
+impl<'a, R> Model for StdSink<'a, R> {
+    ghost use Rattle.std.specs.Prelude.{ℕ};
+
+    ghost Value = { ℕ };
+
+    ghost view = { λ s. s.faults };
+}
+
+impl<'a, R> StdSink<'a, R> {
+    /// The standard output of the runtime.
+    pub fn new(runtime: &'a R) -> StdSink<'a, R>
+        ensures { result ≡ 0 }
+    {
+        StdSink { runtime, faults: 0 }
+    }
+}
+
+impl<'a, R: Print> Sink for StdSink<'a, R> {
+    ghost written = { λ _. None };
+
+    ghost faults = { λ count. count };
+
+    fn write(&mut self, piece: &[u8]) -> Wrote
+        ensures within { bytes_taken result ≤ length piece.now }
+        ensures counts { self.old ≤ self.new }
+        ensures after { self.new ≡ sink_count_after piece.now result self.old }
+        ensures failed { result ≡ Wrote.Failed → Rose self.old self.new }
+        ensures stuck { bytes_taken result ≡ 0 → 0 < length piece.now → Rose self.old self.new }
+    {
+        let (wrote, is_fault) = match self.runtime.write_some(piece) {
+            Ok(count) => (Wrote::Took(count as u64), count == 0 && !piece.is_empty()),
+            Err(_) => (Wrote::Failed, true),
+        };
+        if is_fault {
+            self.faults = self.faults.saturating_add(1);
+        }
+        wrote
+    }
+}
