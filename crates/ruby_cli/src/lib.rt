@@ -8,3 +8,6 @@ mod text;
 pub use answers::{absent_line, fault_line, refused_line, too_large_line, usage_line};
 pub use lines::write_lines;
 pub use text::text_of;
+
+#[cfg(test)]
+mod tests;
