@@ -105,35 +105,55 @@ fn record(alloc: Global, verdict: Verdict) -> Result<RunRecord, NoMemory> {
     })
 }
 
-fn printed(alloc: Global, verdict: Verdict) -> Result<Text, NoMemory> {
-    text_of(alloc, &record(alloc, verdict)?)
+/// What is printed: a run that stopped, a run that became quiet, or an answer about `a.sm`.
+#[derive(Clone, Copy)]
+enum Printed {
+    Stopped,
+    Quiet,
+    Refused,
+    Absent,
+    TooLarge,
+    LibraryFault,
+    Usage,
 }
 
-#[test]
-fn runs_and_answers_are_printed_as_these_lines(rt: HostRuntime) -> Result<(), Fail> {
-    let alloc = rt.alloc();
+fn bytes_of(alloc: Global, printed: Printed) -> Result<Text, NoMemory> {
     let stop = Verdict::Stop {
         cycle: 2,
         controller: 0,
     };
-    for (text, want) in [
+    match printed {
+        Printed::Stopped => text_of(alloc, &record(alloc, stop)?),
+        Printed::Quiet => text_of(alloc, &record(alloc, Verdict::Quiet { cycle: 3 })?),
+        Printed::Refused => refused_line(alloc, b"a.sm"),
+        Printed::Absent => absent_line(alloc, b"a.sm"),
+        Printed::TooLarge => too_large_line(alloc, b"a.sm"),
+        Printed::LibraryFault => fault_line(alloc, b"a.sm"),
+        Printed::Usage => usage_line(alloc),
+    }
+}
+
+#[test]
+fn runs_and_answers_are_printed_as_these_lines(rt: HostRuntime) -> Result<(), Fail> {
+    for (printed, want) in [
         (
-            printed(alloc, stop)?,
+            Printed::Stopped,
             "1 Node-0 0x0 A Go B\nstop 2 Node-0 0x0 B Go invalid\nfinal Node-0 0x0 B\nmessages 2 consumed 1 queued 1 stalled 0 recycled 0\nverdict stop 2 Node-0\n",
         ),
         (
-            printed(alloc, Verdict::Quiet { cycle: 3 })?,
+            Printed::Quiet,
             "1 Node-0 0x0 A Go B\nstop 2 Node-0 0x0 B Go invalid\nfinal Node-0 0x0 B\nmessages 2 consumed 1 queued 1 stalled 0 recycled 0\nverdict quiet 3\n",
         ),
-        (refused_line(alloc, b"a.sm")?, "refused a.sm:1:1 U1\n"),
-        (absent_line(alloc, b"a.sm")?, "absent a.sm\n"),
-        (too_large_line(alloc, b"a.sm")?, "too large a.sm\n"),
-        (fault_line(alloc, b"a.sm")?, "library fault a.sm\n"),
+        (Printed::Refused, "refused a.sm:1:1 U1\n"),
+        (Printed::Absent, "absent a.sm\n"),
+        (Printed::TooLarge, "too large a.sm\n"),
+        (Printed::LibraryFault, "library fault a.sm\n"),
         (
-            usage_line(alloc)?,
+            Printed::Usage,
             "usage: ruby run PROTOCOL TOPOLOGY, check PROTOCOL, table PROTOCOL, code PROTOCOL, gen N\n",
         ),
     ] {
+        let text = bytes_of(rt.alloc(), printed)?;
         assert_eq!(rt; text.as_slice(), want.as_bytes(), "{want}");
     }
     Ok(())
