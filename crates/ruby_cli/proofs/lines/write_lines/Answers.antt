@@ -1,4 +1,4 @@
-use Rattle.std.proofs.Common.{ℕ, ◌+◌, ◌≤◌, arith, length-drop, length-take}
+use Rattle.std.proofs.Common.{ℕ, ◌+◌, arith, length-drop, length-take}
 use Rattle.ruby_cli.proofs.PieceLemmas.{piece_cut_off, piece_written}
 use Rattle.ruby_cli.proofs.lines.write_lines.Goals as goal
 
