@@ -46,15 +46,15 @@ fn push_finals(
 }
 
 /// The text of a run, as it is printed.
-pub fn text_of(alloc: Global, record: &RunRecord) -> Result<Text, NoMemory>
-    ensures { IfOk result (λ bytes. bytes ≡ text record.now) }
+pub fn text_of(alloc: Global, run: &RunRecord) -> Result<Text, NoMemory>
+    ensures { IfOk result (λ bytes. bytes ≡ text run.now) }
 {
     let mut out = Seq::new(alloc);
-    let plan = &record.plan;
-    let topology = &record.topology;
-    push_entries(alloc, &mut out, plan, topology, record.journal.as_slice())?;
-    push_finals(alloc, &mut out, plan, topology, record.finals.as_slice())?;
-    push_account(alloc, &mut out, &record.account)?;
-    push_verdict(alloc, &mut out, topology, &record.verdict)?;
+    let plan = &run.plan;
+    let topology = &run.topology;
+    push_entries(alloc, &mut out, plan, topology, run.journal.as_slice())?;
+    push_finals(alloc, &mut out, plan, topology, run.finals.as_slice())?;
+    push_account(alloc, &mut out, &run.account)?;
+    push_verdict(alloc, &mut out, topology, &run.verdict)?;
     Ok(out)
 }

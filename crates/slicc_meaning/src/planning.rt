@@ -1,5 +1,5 @@
 // The plan of a machine: its names by their numbers.
-ghost use Rattle.std.specs.Prelude.{◌≡◌, ◌≤◌, ◌∷◌, ◌++◌, [], IfOk, codes, length, map};
+ghost use Rattle.std.specs.Prelude.{◌≡◌, ◌≤◌, ◌∷◌, [], IfOk, length, map};
 ghost use Rattle.slicc_ast.specs.WellFormed.{IsWellFormed, event_names as event_names_of, is_default as is_default_of, state_names as state_names_of};
 ghost use Rattle.slicc_meaning.specs.Plan.{machine_plan_of as machine_plan_of_machine, number_of as number_of_name, place_of, plan_of as plan_of_machine, written as written_of};
 

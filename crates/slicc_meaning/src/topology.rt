@@ -1,5 +1,5 @@
 // Which controllers there are, and of which machine each is.
-ghost use Rattle.std.specs.Prelude.{◌≡◌, ◌++◌, IfOk, codes, map};
+ghost use Rattle.std.specs.Prelude.{◌≡◌, ◌++◌, IfOk, codes};
 ghost use Rattle.slicc_meaning.specs.Topology.{plain_of as plain_of_plan};
 ghost use Rattle.slicc_meaning.specs.World.{machine_of as machine_of_controller};
 

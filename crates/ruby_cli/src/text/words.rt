@@ -1,6 +1,6 @@
 // Words, and the lines that are made of them.
-ghost use Rattle.std.specs.Prelude.{◌≡◌, ◌∷◌, ◌++◌, [], IfOk, OnOk, false, map, string_bytes};
-ghost use Rattle.std.specs.Fmt.{decimal as decimal_of, digits};
+ghost use Rattle.std.specs.Prelude.{◌≡◌, ◌∷◌, ◌++◌, IfOk, OnOk, map, string_bytes};
+ghost use Rattle.std.specs.Fmt.{decimal as decimal_of};
 ghost use Rattle.slicc_meaning.specs.Text.{hexadecimal as hexadecimal_of, line};
 ghost use Rattle.ruby_cli.specs.Line.{rest_of_line};
 
