@@ -1,11 +1,21 @@
 //! The program's work as a library: words to options, files to plans, runs, and their texts.
 #![tactic(auto)]
 
+mod answers;
 mod book;
 mod driver;
+mod lines;
 mod marks;
 mod outcomes;
 mod run;
 mod steps;
+mod text;
 mod turn;
 mod waking;
+
+pub use answers::{absent_line, fault_line, refused_line, too_large_line, usage_line};
+pub use lines::write_lines;
+pub use text::text_of;
+
+#[cfg(test)]
+mod tests;

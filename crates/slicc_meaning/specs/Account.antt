@@ -42,14 +42,14 @@ is_recycled m = is_none m.waiting && m.recycled
 abbrev pub is_queued : Message → Bool
 is_queued m = is_none m.waiting && not m.recycled
 
-abbrev pub account : List Entry → World → Account
-account journal w =
+abbrev pub account : List Entry → List Place → Account
+account journal places =
     record {
       sent = length (sent_numbers journal);
       consumed = length (consumed_numbers journal);
-      queued = count_by is_queued (held_messages w.places);
-      stalled = count_by is_stalled (held_messages w.places);
-      recycled = count_by is_recycled (held_messages w.places);
+      queued = count_by is_queued (held_messages places);
+      stalled = count_by is_stalled (held_messages places);
+      recycled = count_by is_recycled (held_messages places);
     }
 
 -- how often a number stands in a list

@@ -21,5 +21,5 @@ setting r =
 pub record IsRecordOf (r : RunRecord) (w : World) : Type 0 where
   pub run : IsRun (setting r) r.history w r.journal
   pub finals : r.finals ≡ finals r.journal
-  pub account : r.account ≡ account r.journal w
+  pub account : r.account ≡ account r.journal w.places
   pub verdict : w.verdict ≡ Some r.verdict

@@ -2,29 +2,38 @@
 //! list of events. The definitions stand in `specs/`; the functions here are their plain slow bodies.
 #![tactic(auto)]
 
+mod account;
 mod ascending;
 mod between;
 mod controller;
+mod finals;
 mod front;
 mod plan;
+mod planning;
 mod record;
 mod rows;
 mod scanning;
+mod single;
 mod statements;
 mod states;
+mod topology;
 mod trigger;
 mod world;
 
+pub use account::account_of;
 pub use ascending::{has_mark, marks_from, with_mark};
 pub use controller::{Acted, Controller, Message, MsgNo, Scanned, StateAt};
+pub use finals::finals_of;
 pub use front::with_message;
 pub use plan::{
     ActionPlan, Dequeue, If, MachinePlan, Peek, Plan, PortPlan, Trigger, WrittenTransition,
 };
+pub use planning::plan_of;
 pub use record::{
     Account, Command, End, Entry, Event, Fault, Final, FireNote, Options, RunRecord, StopAt,
     Verdict,
 };
 pub use ruby_base::{NoMemory, Seq, Text};
 pub use scanning::{copy_of, scan};
+pub use topology::{machine_of, plain_of};
 pub use world::{DriverTurn, Place, PlainDriver, Request, Seat, Setting, Topology, World};

@@ -1,0 +1,174 @@
+// The lines of a run's steps, and of its final states.
+ghost use Rattle.std.specs.Prelude.{◌≡◌, ◌++◌, IfOk, OnOk, string_bytes};
+ghost use Rattle.slicc_meaning.specs.Text.{end_line, entry_line, fault_word as fault_word_of, final_line, fired_line, hexadecimal as hexadecimal_of, or_dash, event_name as event_name_of, state_name as state_name_of};
+
+use crate::text::names::{controller_name, event_name, state_name};
+use crate::text::words::{decimal, hexadecimal, push_line};
+use ruby_base::{NoMemory, Text};
+use slicc_meaning::{End, Entry, Fault, Final, FireNote, Plan, StopAt, Topology};
+use std::alloc::Global;
+
+fn push_fired(
+    alloc: Global,
+    out: &mut Text,
+    plan: &Plan,
+    topology: &Topology,
+    cycle: u64,
+    controller: u32,
+    note: &FireNote,
+) -> Result<(), NoMemory>
+    ensures { OnOk result (out.new ≡ out.old ++ fired_line plan.now topology.now cycle controller note.now) }
+{
+    let cycle = decimal(alloc, cycle)?;
+    let address = hexadecimal(alloc, note.address)?;
+    push_line(
+        out,
+        cycle.as_bytes(),
+        &[
+            controller_name(topology, controller),
+            address.as_bytes(),
+            state_name(plan, topology, controller, note.state),
+            event_name(plan, topology, controller, note.event),
+            state_name(plan, topology, controller, note.next),
+        ],
+    )
+}
+
+fn fault_word(fault: &Fault) -> &[u8]
+    ensures { result.now ≡ fault_word_of fault.now }
+{
+    match fault {
+        Fault::Invalid => b"invalid",
+        Fault::Front => b"front",
+    }
+}
+
+fn address_or_dash(alloc: Global, address: Option<u64>) -> Result<String, NoMemory>
+    ensures { IfOk result (λ word. string_bytes word ≡ or_dash hexadecimal_of address) }
+{
+    match address {
+        None => Ok(String::from_str(alloc, "-")?),
+        Some(address) => hexadecimal(alloc, address),
+    }
+}
+
+fn state_or_dash<'a>(
+    plan: &'a Plan,
+    topology: &Topology,
+    controller: u32,
+    state: Option<u16>,
+) -> &'a [u8]
+    ensures { result.now ≡ or_dash (state_name_of plan.now topology.now controller) state }
+{
+    match state {
+        None => b"-",
+        Some(state) => state_name(plan, topology, controller, state),
+    }
+}
+
+fn event_or_dash<'a>(
+    plan: &'a Plan,
+    topology: &Topology,
+    controller: u32,
+    event: Option<u16>,
+) -> &'a [u8]
+    ensures { result.now ≡ or_dash (event_name_of plan.now topology.now controller) event }
+{
+    match event {
+        None => b"-",
+        Some(event) => event_name(plan, topology, controller, event),
+    }
+}
+
+fn push_stop(
+    alloc: Global,
+    out: &mut Text,
+    plan: &Plan,
+    topology: &Topology,
+    cycle: u64,
+    controller: u32,
+    at: &StopAt,
+) -> Result<(), NoMemory>
+    ensures { OnOk result (out.new ≡ out.old ++ end_line plan.now topology.now cycle controller (End.Stop at.now)) }
+{
+    let cycle = decimal(alloc, cycle)?;
+    let address = address_or_dash(alloc, at.address)?;
+    let fault = at.fault;
+    push_line(
+        out,
+        b"stop",
+        &[
+            cycle.as_bytes(),
+            controller_name(topology, controller),
+            address.as_bytes(),
+            state_or_dash(plan, topology, controller, at.state),
+            event_or_dash(plan, topology, controller, at.event),
+            fault_word(&fault),
+        ],
+    )
+}
+
+fn push_end(
+    alloc: Global,
+    out: &mut Text,
+    plan: &Plan,
+    topology: &Topology,
+    cycle: u64,
+    controller: u32,
+    end: &End,
+) -> Result<(), NoMemory>
+    ensures { OnOk result (out.new ≡ out.old ++ end_line plan.now topology.now cycle controller end.now) }
+{
+    match end {
+        End::Idle | End::Full => Ok(()),
+        End::Stop(at) => push_stop(alloc, out, plan, topology, cycle, controller, at),
+    }
+}
+
+/// Adds the line of a step of a run, if it has one.
+pub fn push_entry(
+    alloc: Global,
+    out: &mut Text,
+    plan: &Plan,
+    topology: &Topology,
+    entry: &Entry,
+) -> Result<(), NoMemory>
+    ensures { OnOk result (out.new ≡ out.old ++ entry_line plan.now topology.now entry.now) }
+{
+    match entry {
+        Entry::Fired {
+            cycle,
+            controller,
+            note,
+            ..
+        } => push_fired(alloc, out, plan, topology, *cycle, *controller, note),
+        Entry::Ended {
+            cycle,
+            controller,
+            end,
+        } => push_end(alloc, out, plan, topology, *cycle, *controller, end),
+        Entry::Turned { .. } => Ok(()),
+    }
+}
+
+/// Adds the line of a final state.
+pub fn push_final(
+    alloc: Global,
+    out: &mut Text,
+    plan: &Plan,
+    topology: &Topology,
+    last: &Final,
+) -> Result<(), NoMemory>
+    ensures { OnOk result (out.new ≡ out.old ++ final_line plan.now topology.now last.now) }
+{
+    let address = hexadecimal(alloc, last.address)?;
+    push_line(
+        out,
+        b"final",
+        &[
+            controller_name(topology, last.controller),
+            address.as_bytes(),
+            state_name(plan, topology, last.controller, last.state),
+        ],
+    )
+}
