@@ -1,0 +1,4 @@
+//! The command line program, below its `main`.
+#![tactic(auto)]
+
+mod reading;
