@@ -9,6 +9,10 @@ use Rattle.slicc_ast.specs.declared.token.Sign.TheVariants.{OpenBrace, CloseBrac
 use Rattle.slicc_ast.specs.Bytes.{is_letter, is_word_byte, is_printable}
 use Rattle.slicc_ast.specs.Tokens.{is_reserved}
 
+-- what a string begins with
+abbrev pub is_quote : ℕ → Bool
+is_quote c = (c == 34) || (c == 39)
+
 -- what may stand in a string between these quotes
 abbrev pub is_text_byte : ℕ → ℕ → Bool
 is_text_byte quote c = is_printable c && not (c == quote)
@@ -50,7 +54,7 @@ unfoldable pub front : List ℕ → Option (Token × List ℕ)
 front [] = None
 front (c ∷ cs) =
     cond (is_letter c) (word_front (c ∷ cs))
-    (cond ((c == 34) || (c == 39)) (quoted_front c cs) (with_sign (sign_of c) cs))
+    (cond (is_quote c) (quoted_front c cs) (with_sign (sign_of c) cs))
 
 -- a token and what is behind it, where that is lent
 abbrev pub with_rest : Token × Bor (List ℕ) → Token × List ℕ

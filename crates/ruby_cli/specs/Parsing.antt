@@ -1,6 +1,6 @@
 -- What it is to read a part of a tree from the front of tokens, and how a part's fixed stretches are told.
-use Rattle.std.specs.Prelude.{◌≡◌, ◌==◌, ◌&&◌, ◌++◌, ℕ, zero, suc, Bool, true, false, Option, Some, None, List, [], ◌∷◌}
-use Rattle.std.specs.List.{flat_map}
+use Rattle.std.specs.Prelude.{◌≡◌, ◌==◌, ◌&&◌, ◌++◌, ℕ, Bool, true, false, Option, Some, None, List, [], ◌∷◌}
+use Rattle.std.specs.List.{flat_map, slice_get}
 use Rattle.std.specs.Str.{bytes_eq}
 use denote.Ref.{Bor}
 use Rattle.slicc_ast.specs.declared.token.Token.{Token}
@@ -72,8 +72,11 @@ text_of (Reserved word) = word
 text_of (Quoted text) = text
 text_of (Sign sign) = []
 
+-- the text of a token that may be missing
+abbrev pub text_of_found : Option Token → List ℕ
+text_of_found None = []
+text_of_found (Some token) = text_of token
+
 -- the text of the token at a place counted from 0
 abbrev pub text_at : List Token → ℕ → List ℕ
-text_at [] place = []
-text_at (token ∷ tokens) zero = text_of token
-text_at (token ∷ tokens) (suc place) = text_at tokens place
+text_at tokens place = text_of_found (slice_get tokens place)

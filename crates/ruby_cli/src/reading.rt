@@ -8,6 +8,7 @@ ghost use Rattle.slicc_ast.specs.SmallForm.{IsSmallForm};
 mod bytes;
 mod checker;
 mod grammar;
+mod items;
 mod lexer;
 mod parser;
 mod pattern;

@@ -1,7 +1,7 @@
 ghost use Rattle.std.specs.Prelude.{◌≡◌};
 ghost use Rattle.std.specs.List.{prefix_len};
 ghost use Rattle.slicc_ast.specs.Bytes.{is_blank, is_letter, is_word_byte};
-ghost use Rattle.ruby_cli.specs.Lexing.{is_text_byte};
+ghost use Rattle.ruby_cli.specs.Lexing.{is_quote, is_text_byte};
 
 /// Whether the byte is a space, a tab, a carriage return or a line feed.
 fn is_blank(byte: u8) -> bool
@@ -22,6 +22,13 @@ fn is_word_byte(byte: u8) -> bool
     ensures { result ≡ is_word_byte byte }
 {
     is_letter(byte) || (48 <= byte && byte <= 57)
+}
+
+/// Whether a string may begin with the byte.
+pub fn is_quote(byte: u8) -> bool
+    ensures { result ≡ is_quote byte }
+{
+    byte == b'"' || byte == b'\''
 }
 
 /// Whether the byte may stand in a string between these quotes.

@@ -4,6 +4,7 @@ ghost use Rattle.std.specs.Str.{bytes_eq};
 ghost use Rattle.slicc_ast.specs.WellFormed.{is_among, are_distinct, are_single, is_declared, is_default, is_same_pair, permissions, state_names, event_names, IsWellFormed};
 ghost use Rattle.slicc_ast.specs.declared.machine.State.{State as StateTree};
 
+use super::items::split_front;
 use super::words::is_permission;
 use slicc_ast::{Event, Machine, State, Transition};
 
@@ -46,7 +47,7 @@ fn are_distinct<N: Named>(declared: &[N]) -> bool
     ensures { result ≡ are_distinct (map N.name_of declared.now) }
 {
     let mut rest = declared;
-    while let [first, later @ ..] = rest {
+    while let Some((first, later)) = split_front(rest) {
         if is_among(later, first.name()) {
             return false;
         }
@@ -156,7 +157,7 @@ fn are_single(transitions: &[Transition]) -> bool
     ensures { result ≡ are_single transitions.now }
 {
     let mut rest = transitions;
-    while let [first, later @ ..] = rest {
+    while let Some((first, later)) = split_front(rest) {
         if has_pair(later, first) {
             return false;
         }

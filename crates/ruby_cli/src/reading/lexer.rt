@@ -4,7 +4,8 @@ ghost use Rattle.slicc_ast.specs.declared.token.Token.{Token as Lexeme};
 ghost use Rattle.slicc_ast.specs.Tokens.{AreTokensOf};
 ghost use Rattle.ruby_cli.specs.Lexing.{sign_of, token_of_word, word_front, quoted_front, front, with_rest};
 
-use super::bytes::{blank_len, is_letter, text_len, word_len};
+use super::bytes::{blank_len, is_letter, is_quote, text_len, word_len};
+use super::items::split_front;
 use super::words::is_reserved;
 use ruby_base::{NoMemory, Seq};
 use slicc_ast::{Sign, Token};
@@ -62,7 +63,7 @@ fn front_quoted(alloc: Global, quote: u8, bytes: &[u8]) -> Result<Option<(Token,
     ensures { IfOk result (λ found. option_map with_rest found ≡ quoted_front quote bytes.now) }
 {
     let (text, behind) = bytes.split_at(text_len(quote, bytes));
-    let [close, rest @ ..] = behind else {
+    let Some((close, rest)) = split_front(behind) else {
         return Ok(None);
     };
     if *close != quote {
@@ -76,13 +77,13 @@ fn front_quoted(alloc: Global, quote: u8, bytes: &[u8]) -> Result<Option<(Token,
 fn front_token(alloc: Global, bytes: &[u8]) -> Result<Option<(Token, &[u8])>, NoMemory>
     ensures { IfOk result (λ found. option_map with_rest found ≡ front bytes.now) }
 {
-    let [first, rest @ ..] = bytes else {
+    let Some((first, rest)) = split_front(bytes) else {
         return Ok(None);
     };
     if is_letter(*first) {
         return front_word(alloc, bytes);
     }
-    if *first == b'"' || *first == b'\'' {
+    if is_quote(*first) {
         return front_quoted(alloc, *first, rest);
     }
     match sign_of(*first) {

@@ -1,6 +1,7 @@
 ghost use Rattle.std.specs.Prelude.{◌≡◌, IfOk, true, false, length, drop, MatchOption};
-ghost use Rattle.ruby_cli.specs.Parsing.{is_piece, fits, text_at};
+ghost use Rattle.ruby_cli.specs.Parsing.{is_piece, fits, text_of, text_at};
 
+use super::items::split_front;
 use ruby_base::{NoMemory, Seq, Text};
 use slicc_ast::{Sign, Token};
 use std::alloc::Global;
@@ -37,8 +38,8 @@ pub fn behind<'t>(pattern: &[Piece], tokens: &'t [Token]) -> Option<&'t [Token]>
 {
     let mut pieces = pattern;
     let mut rest = tokens;
-    while let [piece, later @ ..] = pieces {
-        let [token, after @ ..] = rest else {
+    while let Some((piece, later)) = split_front(pieces) {
+        let Some((token, after)) = split_front(rest) else {
             return None;
         };
         if !is_piece(piece, token) {
@@ -50,15 +51,22 @@ pub fn behind<'t>(pattern: &[Piece], tokens: &'t [Token]) -> Option<&'t [Token]>
     Some(rest)
 }
 
+/// The text of a token. A sign has an empty one.
+fn text_of(token: &Token) -> &[u8]
+    ensures { result.now ≡ text_of token.now }
+{
+    match token {
+        Token::Name(text) | Token::Reserved(text) | Token::Quoted(text) => text.as_slice(),
+        Token::Sign(_) => &[],
+    }
+}
+
 /// A copy of the text of the token at a place counted from 0. It is empty where a sign or nothing stands there.
 pub fn text_at(alloc: Global, tokens: &[Token], place: usize) -> Result<Text, NoMemory>
     ensures { IfOk result (λ text. text ≡ text_at tokens.now place) }
 {
     match tokens.get(place) {
-        Some(Token::Name(text) | Token::Reserved(text) | Token::Quoted(text)) => Seq::copied(
-            alloc,
-            text.as_slice(),
-        ),
-        Some(Token::Sign(_)) | None => Ok(Seq::new(alloc)),
+        Some(token) => Seq::copied(alloc, text_of(token)),
+        None => Ok(Seq::new(alloc)),
     }
 }
