@@ -1,5 +1,5 @@
 -- What it is to read a part of a tree from the front of tokens, and how a part's fixed stretches are told.
-use Rattle.std.specs.Prelude.{◌≡◌, ◌==◌, ◌&&◌, ◌++◌, ℕ, Bool, true, false, Option, Some, None, List, [], ◌∷◌}
+use Rattle.std.specs.Prelude.{◌≡◌, ◌==◌, ◌&&◌, ◌++◌, ℕ, Bool, true, false, Option, Some, None, List, [], ◌∷◌, length, drop}
 use Rattle.std.specs.List.{flat_map, slice_get}
 use Rattle.std.specs.Str.{bytes_eq}
 use denote.Ref.{Bor}
@@ -64,6 +64,15 @@ abbrev pub fits : List Piece → List Token → Bool
 fits [] tokens = true
 fits (piece ∷ pieces) [] = false
 fits (piece ∷ pieces) (token ∷ tokens) = is_piece piece token && fits pieces tokens
+
+-- the tokens begin with the pattern, and `rest` is behind it
+pub record Begins (pattern : List Piece) (tokens rest : List Token) : Type 0 where
+  pub fit : fits pattern tokens ≡ true
+  pub cut : rest ≡ drop (length pattern) tokens
+
+-- the tokens don't begin with the pattern
+pub record Differs (pattern : List Piece) (tokens : List Token) : Type 0 where
+  pub unfit : fits pattern tokens ≡ false
 
 -- the text of a token; a sign has none
 abbrev pub text_of : Token → List ℕ

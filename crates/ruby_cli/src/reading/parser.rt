@@ -1,4 +1,4 @@
-ghost use Rattle.std.specs.Prelude.{◌≡◌, List, Option, Some, IfOk, false};
+ghost use Rattle.std.specs.Prelude.{◌≡◌, ◌<◌, List, Option, Some, IfOk, false, length};
 ghost use Rattle.std.specs.Option.{IfSome};
 ghost use Rattle.slicc_ast.specs.declared.token.Token.{Token as Lexeme};
 ghost use Rattle.slicc_ast.specs.declared.machine.Machine.{Machine as Tree};
@@ -22,7 +22,8 @@ trait Part: Drop {
     /// Reads the part at the front of the tokens, and gives it with the tokens behind it.
     fn read<'t>(alloc: Global, tokens: &'t [Token]) -> Result<Option<(Self, &'t [Token])>, NoMemory>
         ensures reads { IfOk result (Reads spell tokens.now) }
-        ensures open { IfOk result (λ found. IfSome found (λ _. begins_closed tokens.now ≡ false)) };
+        ensures open { IfOk result (λ found. IfSome found (λ _. begins_closed tokens.now ≡ false)) }
+        ensures shorter { IfOk result (λ found. IfSome found (λ found. length found.1.now < length tokens.now)) };
 }
 
 impl Part for State {

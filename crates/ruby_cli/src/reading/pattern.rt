@@ -1,5 +1,5 @@
-ghost use Rattle.std.specs.Prelude.{◌≡◌, IfOk, true, false, length, drop, MatchOption};
-ghost use Rattle.ruby_cli.specs.Parsing.{is_piece, fits, text_of, text_at};
+ghost use Rattle.std.specs.Prelude.{◌≡◌, IfOk, MatchOption};
+ghost use Rattle.ruby_cli.specs.Parsing.{is_piece, Begins, Differs, text_of, text_at};
 
 use super::items::split_front;
 use ruby_base::{NoMemory, Seq, Text};
@@ -34,7 +34,7 @@ fn is_piece(piece: &Piece, token: &Token) -> bool
 
 /// The tokens behind the pattern, where the tokens begin with it.
 pub fn behind<'t>(pattern: &[Piece], tokens: &'t [Token]) -> Option<&'t [Token]>
-    ensures { MatchOption result (fits pattern.now tokens.now ≡ false) (λ rest. (fits pattern.now tokens.now ≡ true) × (rest.now ≡ drop (length pattern.now) tokens.now)) }
+    ensures { MatchOption result (Differs pattern.now tokens.now) (λ rest. Begins pattern.now tokens.now rest.now) }
 {
     let mut pieces = pattern;
     let mut rest = tokens;
