@@ -29,17 +29,17 @@ one_more spell done part rest behind =
     ∙ ap (λ ts. ts ++ behind) (sym (flat_map-append spell done (part ∷ [])))
 
 only_one_more : {X : Type 0} (spell : X → List Token) (done : List X) (part : X) (rest after : List Token) → IsRead spell rest part after → begins_closed rest ≡ false → (more : List X) (behind : List Token) → rest ≡ list_tokens spell more ++ behind → (later : List X) × (done ++ more ≡ (done ++ part ∷ []) ++ later) × (after ≡ list_tokens spell later ++ behind)
-only_one_more spell done part rest after read open [] behind are = absurd (true≢false (ap begins_closed (sym are) ∙ open))
-only_one_more spell done part rest after read open (p ∷ ps) behind are =
+only_one_more spell done part rest after read unclosed [] behind are = absurd (true≢false (ap begins_closed (sym are) ∙ unclosed))
+only_one_more spell done part rest after read unclosed (p ∷ ps) behind are =
     let once = read.only p (list_tokens spell ps ++ behind) (are ∙ more_tokens spell p ps behind) in
     (ps, ap (λ q. done ++ q ∷ ps) once.0 ∙ sym (append_assoc done (part ∷ []) ps), sym once.1)
 
 pub listed_more : {X : Type 0} (spell : X → List Token) (tokens : List Token) (done : List X) (rest : List Token) (part : X) (after : List Token) → Listed spell tokens done rest → IsRead spell rest part after → begins_closed rest ≡ false → Listed spell tokens (done ++ part ∷ []) after
-listed_more spell tokens done rest part after listed read open = record {
+listed_more spell tokens done rest part after listed read unclosed = record {
   spelled = listed.spelled ∙ ap (λ ts. flat_map spell done ++ ts) read.spelled ∙ one_more spell done part rest after;
   only = λ all behind are.
       let before = listed.only all behind are in
-      let now = only_one_more spell done part rest after read open before.0 behind before.2 in
+      let now = only_one_more spell done part rest after read unclosed before.0 behind before.2 in
       (now.0, before.1 ∙ now.1, now.2);
 }
 
@@ -57,12 +57,12 @@ listed_all spell tokens done rest after listed unread closes = record {
 }
 
 none_open : {X : Type 0} (spell : X → List Token) (rest : List Token) → IsUnread spell rest → ((after : List Token) → rest ≢ Sign CloseBrace ∷ after) → (more : List X) (behind : List Token) → rest ≡ list_tokens spell more ++ behind → ⊥
-none_open spell rest unread open [] behind are = open behind are
-none_open spell rest unread open (p ∷ ps) behind are = unread.none p (list_tokens spell ps ++ behind) (are ∙ more_tokens spell p ps behind)
+none_open spell rest unread unclosed [] behind are = unclosed behind are
+none_open spell rest unread unclosed (p ∷ ps) behind are = unread.none p (list_tokens spell ps ++ behind) (are ∙ more_tokens spell p ps behind)
 
 pub listed_bad : {X : Type 0} (spell : X → List Token) (tokens : List Token) (done : List X) (rest : List Token) → Listed spell tokens done rest → IsUnread spell rest → ((after : List Token) → rest ≢ Sign CloseBrace ∷ after) → IsUnread (list_tokens spell) tokens
-listed_bad spell tokens done rest listed unread open = record {
-  none = λ all behind are. let before = listed.only all behind are in none_open spell rest unread open before.0 behind before.2;
+listed_bad spell tokens done rest listed unread unclosed = record {
+  none = λ all behind are. let before = listed.only all behind are in none_open spell rest unread unclosed before.0 behind before.2;
 }
 
 -- what a pattern says of its first token

@@ -22,7 +22,7 @@ trait Part: Drop {
     /// Reads the part at the front of the tokens, and gives it with the tokens behind it.
     fn read<'t>(alloc: Global, tokens: &'t [Token]) -> Result<Option<(Self, &'t [Token])>, NoMemory>
         ensures reads { IfOk result (Reads spell tokens.now) }
-        ensures open { IfOk result (λ found. IfSome found (λ _. begins_closed tokens.now ≡ false)) }
+        ensures unclosed { IfOk result (λ found. IfSome found (λ _. begins_closed tokens.now ≡ false)) }
         ensures shorter { IfOk result (λ found. IfSome found (λ found. length found.1.now < length tokens.now)) };
 }
 
