@@ -116,9 +116,9 @@ front_shorter bytes token rest found =
     let some : 1 ≤ length is.written = written_some token is.written is.is_written in
     omega (arith, ap length is.split, length-append is.written rest)
 
-pub empty_from : (bytes : List ℕ) → eqb (length bytes) 0 ≡ true → bytes ≡ []
+pub empty_from : {A : Type 0} (bytes : List A) → eqb (length bytes) 0 ≡ true → bytes ≡ []
 empty_from [] test = refl
 empty_from (c ∷ cs) test = let zero_length : length (c ∷ cs) ≡ 0 = eqb-true (length (c ∷ cs)) 0 test in absurd (omega arith)
 
-pub not_empty_from : (bytes : List ℕ) → eqb (length bytes) 0 ≡ false → bytes ≢ []
-not_empty_from bytes test none = true≢false (ap (λ b. eqb (length b) 0) (sym none) ∙ test)
+pub not_empty_from : {A : Type 0} (bytes : List A) → eqb (length bytes) 0 ≡ false → bytes ≢ []
+not_empty_from bytes test none = true≢false (ap (λ (n : ℕ). eqb n 0) (sym (ap length none)) ∙ test)
