@@ -1,2 +1,3 @@
 pub mod Lexing
 pub mod Parsing
+pub mod Checking

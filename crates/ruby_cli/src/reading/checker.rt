@@ -2,6 +2,7 @@ ghost use Rattle.std.specs.Prelude.{◌≡◌, ◌↔◌, ◌++◌, List, ℕ, I
 ghost use Rattle.std.specs.List.{list_any, list_all};
 ghost use Rattle.std.specs.Str.{bytes_eq};
 ghost use Rattle.slicc_ast.specs.WellFormed.{is_among, are_distinct, are_single, is_declared, is_default, is_same_pair, permissions, state_names, event_names, IsWellFormed};
+ghost use Rattle.ruby_cli.specs.Checking.{AreStatesWellFormed, AreEventsWellFormed, AreBodiesWellFormed, AreNamesWellFormed};
 ghost use Rattle.slicc_ast.specs.declared.machine.State.{State as StateTree};
 
 use super::items::split_front;
@@ -35,11 +36,25 @@ impl Named for Event {
     }
 }
 
+/// Whether every one of the tests holds.
+fn every(tests: &[bool]) -> bool
+    ensures { result ≡ list_all (λ test. test) tests.now }
+{
+    tests.iter().all(|test| *test)
+}
+
 /// Whether one of the declarations has this name.
 fn is_among<N: Named>(declared: &[N], name: &[u8]) -> bool
     ensures { result ≡ is_among (map N.name_of declared.now) name.now }
 {
-    declared.iter().any(|member| name == member.name())
+    let mut rest = declared;
+    while let Some((member, later)) = split_front(rest) {
+        if name == member.name() {
+            return true;
+        }
+        rest = later;
+    }
+    false
 }
 
 /// Whether no name is declared twice.
@@ -79,39 +94,48 @@ fn is_default_declared(m: &Machine) -> bool
 }
 
 /// Whether the states are 1 to 256 with different names, known permissions and a declared default.
-fn are_states_well_formed(m: &Machine) -> bool {
+fn are_states_well_formed(m: &Machine) -> bool
+    ensures { IsTrue result ↔ AreStatesWellFormed m.now }
+{
     let states = m.states.members.as_slice();
-    !states.is_empty()
-        && states.len() <= MOST_MEMBERS
-        && are_distinct(states)
-        && are_permitted(states)
-        && is_default_declared(m)
+    every(&[
+        0 < states.len(),
+        states.len() <= MOST_MEMBERS,
+        are_distinct(states),
+        are_permitted(states),
+        is_default_declared(m),
+    ])
 }
 
 /// Whether the events are 1 to 256 with different names.
-fn are_events_well_formed(m: &Machine) -> bool {
+fn are_events_well_formed(m: &Machine) -> bool
+    ensures { IsTrue result ↔ AreEventsWellFormed m.now }
+{
     let events = m.events.members.as_slice();
-    !events.is_empty() && events.len() <= MOST_MEMBERS && are_distinct(events)
+    every(&[0 < events.len(), events.len() <= MOST_MEMBERS, are_distinct(events)])
 }
 
 /// Whether the statements of the port and the action name the port and a declared event.
-fn are_bodies_well_formed(m: &Machine) -> bool {
+fn are_bodies_well_formed(m: &Machine) -> bool
+    ensures { IsTrue result ↔ AreBodiesWellFormed m.now }
+{
     let port = m.port.name.as_slice();
-    m.port.body.port.as_slice() == port
-        && m.port.body.then.port.as_slice() == port
-        && m.action.body.port.as_slice() == port
-        && is_among(
-            m.events.members.as_slice(),
-            m.port.body.then.then.event.as_slice(),
-        )
+    every(&[
+        m.port.body.port.as_slice() == port,
+        m.port.body.then.port.as_slice() == port,
+        m.action.body.port.as_slice() == port,
+        is_among(m.events.members.as_slice(), m.port.body.then.then.event.as_slice()),
+    ])
 }
 
 /// Whether machine, port and action have different names, and the action none that means a stall.
-fn are_names_well_formed(m: &Machine) -> bool {
+fn are_names_well_formed(m: &Machine) -> bool
+    ensures { IsTrue result ↔ AreNamesWellFormed m.now }
+{
     let name = m.name.as_slice();
     let port = m.port.name.as_slice();
     let action = m.action.name.as_slice();
-    name != port && name != action && port != action && action != "z_stall".as_bytes()
+    every(&[name != port, name != action, port != action, action != "z_stall".as_bytes()])
 }
 
 /// Whether the names in a transition are declared.
@@ -119,10 +143,12 @@ fn is_declared(m: &Machine, transition: &Transition) -> bool
     ensures { result ≡ is_declared m.now transition.now }
 {
     let states = m.states.members.as_slice();
-    is_among(states, transition.state.as_slice())
-        && is_among(m.events.members.as_slice(), transition.event.as_slice())
-        && is_among(states, transition.next.as_slice())
-        && transition.action.as_slice() == m.action.name.as_slice()
+    every(&[
+        is_among(states, transition.state.as_slice()),
+        is_among(m.events.members.as_slice(), transition.event.as_slice()),
+        is_among(states, transition.next.as_slice()),
+        transition.action.as_slice() == m.action.name.as_slice(),
+    ])
 }
 
 /// Whether the names in each transition are declared.
@@ -170,10 +196,12 @@ fn are_single(transitions: &[Transition]) -> bool
 pub fn is_well_formed(m: &Machine) -> bool
     ensures { IsTrue result ↔ IsWellFormed m.now }
 {
-    are_states_well_formed(m)
-        && are_events_well_formed(m)
-        && are_bodies_well_formed(m)
-        && are_names_well_formed(m)
-        && are_declared(m)
-        && are_single(m.transitions.as_slice())
+    every(&[
+        are_states_well_formed(m),
+        are_events_well_formed(m),
+        are_bodies_well_formed(m),
+        are_names_well_formed(m),
+        are_declared(m),
+        are_single(m.transitions.as_slice()),
+    ])
 }
