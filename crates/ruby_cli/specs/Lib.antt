@@ -1,7 +1,10 @@
 pub mod Answers
 pub mod Awake
 pub mod Book
+pub mod Checking
 pub mod Cycle
+pub mod Lexing
 pub mod Line
 pub mod Outcome
+pub mod Parsing
 pub mod Pieces

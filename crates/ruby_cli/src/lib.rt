@@ -7,6 +7,7 @@ mod driver;
 mod lines;
 mod marks;
 mod outcomes;
+mod reading;
 mod run;
 mod steps;
 mod text;

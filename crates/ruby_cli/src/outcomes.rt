@@ -2,13 +2,12 @@
 ghost use Rattle.std.specs.Prelude.{◌≡◌, ◌<◌, ◌+◌, ◌-◌, ◌^◌, ℕ, IfOk, length, slice_get};
 ghost use Rattle.std.specs.Option.{IsSomeAnd};
 ghost use Rattle.slicc_meaning.specs.FiredCount.{KeepsFired, FiresBelow};
-ghost use Rattle.slicc_meaning.specs.World.{machine_of as machine_of_controller};
 ghost use Rattle.slicc_meaning.specs.Step.{scan_at};
 ghost use Rattle.ruby_cli.specs.Outcome.{IsOutcome, CountsFired};
 
 use ruby_base::{NoMemory, Seq};
 use slicc_meaning::{
-    Controller, End, FireNote, MsgNo, Scanned, Setting, World, copy_of, scan, with_mark,
+    Controller, End, FireNote, MsgNo, Scanned, Setting, World, copy_of, machine_of, scan, with_mark,
 };
 use std::alloc::Global;
 
@@ -71,22 +70,6 @@ fn outcome_of(
             end: End::Idle,
         }),
     }
-}
-
-// The number of a controller's machine.
-fn machine_of(counts: &[u32], c: u32) -> usize
-    ensures { result ≡ machine_of_controller counts.now c }
-{
-    let mut left = c;
-    let mut machine = 0;
-    for count in counts {
-        if left < *count {
-            return machine;
-        }
-        left -= *count;
-        machine += 1;
-    }
-    machine
 }
 
 /// Scans a controller of the world once.
