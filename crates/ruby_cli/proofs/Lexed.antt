@@ -47,7 +47,7 @@ tokens_of_front bytes token rest tokens found more =
     let n : ℕ = prefix_len is_blank bytes in
     let is = written_of_front (ahead bytes) token rest found in
     let split : bytes ≡ take n bytes ++ is.written ++ rest =
-        sym (take-append-drop n bytes) ∙ ap (λ r. take n bytes ++ r) is.split ∙ sym (append_assoc (take n bytes) is.written rest) in
+    sym (take-append-drop n bytes) ∙ ap (λ r. take n bytes ++ r) is.split ∙ sym (append_assoc (take n bytes) is.written rest) in
     (take n bytes, is.written, rest, split, span_passes is_blank bytes, is.is_written, is.is_ended, more)
 
 front_none : (token : Token) (rest : List ℕ) → front [] ≡ Some (token, rest) → ⊥

@@ -114,10 +114,9 @@ module _ {pattern : List Piece} {tokens inside : List Token} (begins : Begins pa
       let p = parts.port_read.only m.port (from_action m) (sym e.1) in
       let a = parts.action_read.only m.action (from_transitions m) (sym p.1) in
       let t = parts.transitions_read.only m.transitions [] (sym a.1) in
-      let spelled : tokens ≡ opening m (from_states m) = are ∙ machine_spelled m in
-      (
+      let spelled : tokens ≡ opening m (from_states m) = are ∙ machine_spelled m in (
         machine_made m name title states events port action transitions
-        (name_is ∙ ap (λ ts. text_at ts 4) spelled ∙ of.named m (from_states m)) (title_is ∙ ap (λ ts. text_at ts 6) spelled ∙ of.titled m (from_states m))
-        (sym s.0) (sym e.0) (sym p.0) (sym a.0) (sym t.0),
+            (name_is ∙ ap (λ ts. text_at ts 4) spelled ∙ of.named m (from_states m)) (title_is ∙ ap (λ ts. text_at ts 6) spelled ∙ of.titled m (from_states m))
+            (sym s.0) (sym e.0) (sym p.0) (sym a.0) (sym t.0),
         sym t.1,
       )

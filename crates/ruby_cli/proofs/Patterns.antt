@@ -104,8 +104,8 @@ pub reads_pattern : {X : Type 0} {pattern : List Piece} {tokens rest : List Toke
 reads_pattern {X} {pattern} {tokens} {rest} spell make part begins of part_is = record {
   spelled = fits_filled pattern tokens begins.fit ∙ ap (λ f. f ++ drop (length pattern) tokens) (of.full tokens) ∙ ap (λ p. spell p ++ drop (length pattern) tokens) (sym part_is) ∙ ap (λ r. spell part ++ r) (sym begins.cut);
   only = λ other behind are. (
-      of.made other behind ∙ ap make (sym are) ∙ sym part_is,
-      of.cut other behind ∙ ap (drop (length pattern)) (sym are) ∙ sym begins.cut,
+    of.made other behind ∙ ap make (sym are) ∙ sym part_is,
+    of.cut other behind ∙ ap (drop (length pattern)) (sym are) ∙ sym begins.cut,
   );
 }
 

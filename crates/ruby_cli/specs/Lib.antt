@@ -8,3 +8,5 @@ pub mod Line
 pub mod Outcome
 pub mod Parsing
 pub mod Pieces
+pub mod Top
+pub mod Words

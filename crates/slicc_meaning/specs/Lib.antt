@@ -18,3 +18,4 @@ pub mod Plan
 pub mod Topology
 pub mod Record
 pub mod Text
+pub mod Answer

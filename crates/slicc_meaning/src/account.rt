@@ -1,55 +1,57 @@
-// Where the messages of a run have gone.
-ghost use Rattle.std.specs.Prelude.{◌≡◌, ◌<◌, ◌^◌, count_by, length};
+// Where the messages of a run have gone. The numbers are gathered before they are counted, so no count can be too large.
+ghost use Rattle.std.specs.Prelude.{◌≡◌, IfOk, count_by};
 ghost use Rattle.slicc_meaning.specs.Account.{account, consumed_in as consumed_in_entry, consumed_numbers, held_messages, is_queued as is_queued_message, is_recycled as is_recycled_message, is_stalled as is_stalled_message, issued_in as issued_in_entry, sent_numbers};
 
-use crate::{Account, Entry, Message, Place};
+use crate::{Account, Entry, Message, MsgNo, Place};
+use ruby_base::{NoMemory, Seq};
+use std::alloc::Global;
 
-// How many messages are in inboxes, by how they are there.
-#[derive(Clone, Copy)]
-struct Tally {
-    queued: u64,
-    stalled: u64,
-    recycled: u64,
-}
-
-fn issued_in(entry: &Entry) -> u64
-    ensures { result ≡ length (issued_in_entry entry.now) }
+fn issued_in(entry: &Entry) -> &[MsgNo]
+    ensures { result.now ≡ issued_in_entry entry.now }
 {
     match entry {
-        Entry::Fired { .. } | Entry::Ended { .. } => 0,
-        Entry::Turned { issued, .. } => issued.len() as u64,
+        Entry::Fired { .. } | Entry::Ended { .. } => &[],
+        Entry::Turned { issued, .. } => issued.as_slice(),
     }
 }
 
-fn consumed_in(entry: &Entry) -> u64
-    ensures { result ≡ length (consumed_in_entry entry.now) }
+fn consumed_in(entry: &Entry) -> &[MsgNo]
+    ensures { result.now ≡ consumed_in_entry entry.now }
 {
     match entry {
-        Entry::Fired { consumed, .. } => consumed.len() as u64,
-        Entry::Ended { .. } | Entry::Turned { .. } => 0,
+        Entry::Fired { consumed, .. } => consumed.as_slice(),
+        Entry::Ended { .. } | Entry::Turned { .. } => &[],
     }
 }
 
-fn sent(journal: &[Entry]) -> u64
-    requires { length (sent_numbers journal.now) < 2 ^ 64 }
-    ensures { result ≡ length (sent_numbers journal.now) }
+fn sent(alloc: Global, journal: &[Entry]) -> Result<Seq<MsgNo>, NoMemory>
+    ensures { IfOk result (λ numbers. numbers ≡ sent_numbers journal.now) }
 {
-    let mut count = 0;
+    let mut numbers = Seq::new(alloc);
     for entry in journal {
-        count += issued_in(entry);
+        numbers.append(issued_in(entry))?;
     }
-    count
+    Ok(numbers)
 }
 
-fn consumed(journal: &[Entry]) -> u64
-    requires { length (consumed_numbers journal.now) < 2 ^ 64 }
-    ensures { result ≡ length (consumed_numbers journal.now) }
+fn consumed(alloc: Global, journal: &[Entry]) -> Result<Seq<MsgNo>, NoMemory>
+    ensures { IfOk result (λ numbers. numbers ≡ consumed_numbers journal.now) }
 {
-    let mut count = 0;
+    let mut numbers = Seq::new(alloc);
     for entry in journal {
-        count += consumed_in(entry);
+        numbers.append(consumed_in(entry))?;
     }
-    count
+    Ok(numbers)
+}
+
+fn held(alloc: Global, places: &[Place]) -> Result<Seq<Message>, NoMemory>
+    ensures { IfOk result (λ messages. messages ≡ held_messages places.now) }
+{
+    let mut messages = Seq::new(alloc);
+    for place in places {
+        messages.append(place.controller.inbox.as_slice())?;
+    }
+    Ok(messages)
 }
 
 fn is_queued(m: &Message) -> bool
@@ -70,53 +72,37 @@ fn is_recycled(m: &Message) -> bool
     m.waiting.is_none() && m.recycled
 }
 
-fn held_in(inbox: &[Message]) -> Tally
-    ensures queued { result.queued ≡ count_by is_queued_message inbox.now }
-    ensures stalled { result.stalled ≡ count_by is_stalled_message inbox.now }
-    ensures recycled { result.recycled ≡ count_by is_recycled_message inbox.now }
+fn queued(messages: &[Message]) -> u64
+    ensures { result ≡ count_by is_queued_message messages.now }
 {
-    Tally {
-        queued: inbox.iter().filter(|m| is_queued(m)).count() as u64,
-        stalled: inbox.iter().filter(|m| is_stalled(m)).count() as u64,
-        recycled: inbox.iter().filter(|m| is_recycled(m)).count() as u64,
-    }
+    messages.iter().filter(|m| is_queued(m)).count() as u64
 }
 
-fn held(places: &[Place]) -> Tally
-    requires { length (held_messages places.now) < 2 ^ 64 }
-    ensures queued { result.queued ≡ count_by is_queued_message (held_messages places.now) }
-    ensures stalled { result.stalled ≡ count_by is_stalled_message (held_messages places.now) }
-    ensures recycled { result.recycled ≡ count_by is_recycled_message (held_messages places.now) }
+fn stalled(messages: &[Message]) -> u64
+    ensures { result ≡ count_by is_stalled_message messages.now }
 {
-    let mut queued = 0;
-    let mut stalled = 0;
-    let mut recycled = 0;
-    for place in places {
-        let more = held_in(place.controller.inbox.as_slice());
-        queued += more.queued;
-        stalled += more.stalled;
-        recycled += more.recycled;
-    }
-    Tally {
-        queued,
-        stalled,
-        recycled,
-    }
+    messages.iter().filter(|m| is_stalled(m)).count() as u64
+}
+
+fn recycled(messages: &[Message]) -> u64
+    ensures { result ≡ count_by is_recycled_message messages.now }
+{
+    messages.iter().filter(|m| is_recycled(m)).count() as u64
 }
 
 /// How many messages were sent and consumed by the journal, and how many are in the inboxes of the places.
-pub fn account_of(journal: &[Entry], places: &[Place]) -> Account
-    requires sent { length (sent_numbers journal.now) < 2 ^ 64 }
-    requires consumed { length (consumed_numbers journal.now) < 2 ^ 64 }
-    requires held { length (held_messages places.now) < 2 ^ 64 }
-    ensures { result ≡ account journal.now places.now }
+pub fn account_of(alloc: Global, journal: &[Entry], places: &[Place]) -> Result<Account, NoMemory>
+    ensures { IfOk result (λ a. a ≡ account journal.now places.now) }
 {
-    let held = held(places);
-    Account {
-        sent: sent(journal),
-        consumed: consumed(journal),
-        queued: held.queued,
-        stalled: held.stalled,
-        recycled: held.recycled,
-    }
+    let sent = sent(alloc, journal)?;
+    let consumed = consumed(alloc, journal)?;
+    let held = held(alloc, places)?;
+    let messages = held.as_slice();
+    Ok(Account {
+        sent: sent.len() as u64,
+        consumed: consumed.len() as u64,
+        queued: queued(messages),
+        stalled: stalled(messages),
+        recycled: recycled(messages),
+    })
 }

@@ -1,6 +1,6 @@
-use Rattle.std.proofs.Common.{◌≡◌, ◌+◌, drop, length}
+use Rattle.std.proofs.Common.{◌≡◌, ◌++◌, drop}
 use Rattle.slicc_meaning.specs.Account.{sent_numbers}
 use Rattle.slicc_meaning.proofs.account.sent.Given as goal
 
 abbrev pub invariant-loop-entry : goal.invariant-loop-entry
-invariant-loop-entry l = l.count + length (sent_numbers (drop l.entry-index l.journal)) ≡ length (sent_numbers l.journal)
+invariant-loop-entry l = l.numbers ++ sent_numbers (drop l.entry-index l.journal) ≡ sent_numbers l.journal

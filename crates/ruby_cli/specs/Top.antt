@@ -1,0 +1,76 @@
+-- What a call of the program answers: a status, a record where a run was made, and the bytes that it wrote. Each
+-- definition is one clause of the top call; `before` and `after` are counts of faults, or what a sink tells, as the
+-- call begins and ends.
+use Rattle.std.specs.Prelude.{◌≡◌, ◌≢◌, ◌≤◌, ◌⊎◌, ◌==◌, ℕ, Option, None, Some, List, [], ◌∷◌, IfSome, IsSome, MatchOption, if◌then◌else◌}
+use Rattle.std.specs.Option.{ForSome, IsSomeAnd}
+use Rattle.ruby_outside.specs.Faults.{Rose}
+use Rattle.ruby_outside.specs.Files.{Files}
+use Rattle.ruby_outside.specs.Sink.{grown, IsCutOff}
+use Rattle.slicc_meaning.specs.declared.record.Options.{Options}
+use Rattle.slicc_meaning.specs.declared.record.RunRecord.{RunRecord}
+use Rattle.slicc_meaning.specs.declared.record.Verdict.{Verdict}
+use Rattle.slicc_meaning.specs.declared.record.Verdict.TheVariants.{Stop, Quiet, Cycles}
+use Rattle.slicc_meaning.specs.declared.world.World.{World}
+use Rattle.slicc_meaning.specs.Answer.{Answer, Runs, Refused, Absent, TooLarge, IsAnswer}
+use Rattle.slicc_meaning.specs.Record.{IsRecordOf}
+use Rattle.slicc_meaning.specs.Run.{HasEnded}
+use Rattle.slicc_meaning.specs.Text.{text}
+use Rattle.ruby_cli.specs.Answers.{refused_line, absent_line, too_large_line, fault_line}
+
+-- the record is one whole run of its setting: its history leads from the opening to a world with a verdict, and its
+-- journal, finals, account and verdict are those of that history and world
+abbrev pub IsWholeRun : RunRecord → Type 0
+IsWholeRun r = (w : World) × IsRecordOf r w × HasEnded w
+
+-- the record is of what was asked: its options, and where the files are told the plan and the topology
+abbrev pub IsAsAsked : Option Files → Options → RunRecord → Type 0
+IsAsAsked files o r = (r.options ≡ o) × ForSome files (λ told. IsAnswer told o (Runs r.plan r.topology))
+
+-- 0 for a run that ended quietly, and 1 for any other
+abbrev pub verdict_status : Verdict → ℕ
+verdict_status (Quiet cycle) = 0
+verdict_status (Stop cycle c) = 1
+verdict_status (Cycles cycle) = 1
+
+-- the whole text that belongs to a status: of the run, or the line of the refusal
+abbrev pub whole_text : Options → Option RunRecord → ℕ → List ℕ
+whole_text o (Some r) status = text r
+whole_text o None status =
+    if status == 3 then refused_line o.protocol
+    else (if status == 5 then fault_line o.protocol
+    else (if status == 6 then absent_line o.protocol
+    else (if status == 9 then too_large_line o.protocol
+    else [])))
+
+abbrev pub IsOneOf : List ℕ → ℕ → Type 0
+IsOneOf [] n = ⊥
+IsOneOf (m ∷ ms) n = (n ≡ m) ⊎ IsOneOf ms n
+
+-- with 0 and 1 there is a record with such a verdict; with a record there is such a status, or 7
+abbrev pub IsVerdictStatus : Option RunRecord → ℕ → Type 0
+IsVerdictStatus None status = (status ≢ 0) × (status ≢ 1)
+IsVerdictStatus (Some r) status = (status ≡ verdict_status r.verdict) ⊎ (status ≡ 7)
+
+-- where the files are told, this status comes only where this answer is right; where it is right, this status comes,
+-- or 5, 7 or 8
+abbrev pub IsStatusOf : Option Files → Options → Answer → ℕ → ℕ → Type 0
+IsStatusOf files o answer s status =
+    ForSome files (λ told. (status ≡ s → IsAnswer told o answer) × (IsAnswer told o answer → IsOneOf (s ∷ 5 ∷ 7 ∷ 8 ∷ []) status))
+
+-- with 7 a beginning of the text of one of the statuses was written, which is not the whole; the text of 5 only where
+-- the library's count rose
+abbrev pub IsBegun : Options → Option RunRecord → Type 0 → Option (List ℕ) → Option (List ℕ) → Type 0
+IsBegun o kept rose before after =
+    (s : ℕ) × IsOneOf (0 ∷ 1 ∷ 3 ∷ 5 ∷ 6 ∷ 9 ∷ []) s × (s ≡ 5 → rose) × IsCutOff before (whole_text o kept s) after
+
+-- where the files are told, a run is right and the library's count didn't rise, 7 has a record
+abbrev pub KeepsRun : Option Files → Options → Type 0 → Option RunRecord → ℕ → Type 0
+KeepsRun files o rose kept status =
+    status ≡ 7
+    → ForSome files (λ told. (r : RunRecord) → IsAnswer told o (Runs r.plan r.topology) → (rose → ⊥) → IsSome kept)
+
+-- where the files are told, a run is right and no count rose, there is a run with 0 or 1, or want of memory
+abbrev pub IsComplete : Option Files → Options → Type 0 → Type 0 → Option RunRecord → ℕ → Type 0
+IsComplete files o read_rose write_rose kept status =
+    ForSome files (λ told. (r : RunRecord) → IsAnswer told o (Runs r.plan r.topology) → (read_rose → ⊥) → (write_rose → ⊥)
+    → (IsSome kept × IsOneOf (0 ∷ 1 ∷ []) status) ⊎ (status ≡ 8))
