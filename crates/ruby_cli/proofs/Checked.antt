@@ -2,7 +2,7 @@
 use Rattle.std.proofs.Common.{◌≡◌, ◌≢◌, ◌&&◌, ◌||◌, ℕ, Bool, true, false, List, [], ◌∷◌, ◌++◌, refl, sym, ap, ◌∙◌, append_assoc}
 use Rattle.std.specs.List.{list_any}
 use Rattle.std.specs.Str.{bytes_eq}
-use Rattle.std.proofs.lemmas.Bool.{cases_Bool, and_parts, and_from, or_from, false_from_ne_true}
+use Rattle.std.proofs.lemmas.Bool.{and_parts, and_from, or_from, false_from_ne_true}
 use Rattle.std.proofs.lemmas.List.{append_cancel_left}
 use Rattle.std.proofs.lemmas.Slice.Eq.{bytes_eq-Decides}
 
@@ -40,8 +40,8 @@ pub default_of_none : (text name middle : List ℕ) (states : List (List ℕ)) �
 default_of_none text name middle [] other = refl
 default_of_none text name middle (state ∷ states) other =
     let not_this : bytes_eq text (name ++ middle ++ state) ≡ false =
-        false_from_ne_true (bytes_eq text (name ++ middle ++ state))
-        (λ same. other (middle ++ state) ((bytes_eq-Decides text (name ++ middle ++ state)).0 same ∙ append_assoc name middle state)) in
+    false_from_ne_true (bytes_eq text (name ++ middle ++ state))
+    (λ same. other (middle ++ state) ((bytes_eq-Decides text (name ++ middle ++ state)).0 same ∙ append_assoc name middle state)) in
     sym (or_from (bytes_eq text (name ++ middle ++ state)) _ not_this (sym (default_of_none text name middle states other)))
 
 -- what is behind the name and the middle is the state
@@ -50,9 +50,9 @@ default_of_state text name middle found [] is = refl
 default_of_state text name middle found (state ∷ states) is =
     let whole : text ≡ name ++ middle ++ found = is ∙ sym (append_assoc name middle found) in
     let here : bytes_eq found state ≡ bytes_eq text (name ++ middle ++ state) =
-        same_test (bytes_eq found state) (bytes_eq text (name ++ middle ++ state))
-        (λ same. (bytes_eq-Decides text (name ++ middle ++ state)).1 (whole ∙ ap (λ s. name ++ middle ++ s) ((bytes_eq-Decides found state).0 same)))
-        (λ same. (bytes_eq-Decides found state).1 (append_cancel_left (name ++ middle) found state (sym whole ∙ (bytes_eq-Decides text (name ++ middle ++ state)).0 same))) in
+    same_test (bytes_eq found state) (bytes_eq text (name ++ middle ++ state))
+    (λ same. (bytes_eq-Decides text (name ++ middle ++ state)).1 (whole ∙ ap (λ s. name ++ middle ++ s) ((bytes_eq-Decides found state).0 same)))
+    (λ same. (bytes_eq-Decides found state).1 (append_cancel_left (name ++ middle) found state (sym whole ∙ (bytes_eq-Decides text (name ++ middle ++ state)).0 same))) in
     ap (λ b. b || list_any (bytes_eq found) states) here
     ∙ ap (λ b. bytes_eq text (name ++ middle ++ state) || b) (default_of_state text name middle found states is)
 
@@ -61,8 +61,8 @@ pub default_of_other : (text name middle behind : List ℕ) (states : List (List
 default_of_other text name middle behind [] is other = refl
 default_of_other text name middle behind (state ∷ states) is other =
     let not_this : bytes_eq text (name ++ middle ++ state) ≡ false =
-        false_from_ne_true (bytes_eq text (name ++ middle ++ state))
-        (λ same.
-            other state
-            (append_cancel_left name behind (middle ++ state) (sym is ∙ (bytes_eq-Decides text (name ++ middle ++ state)).0 same ∙ append_assoc name middle state))) in
+    false_from_ne_true (bytes_eq text (name ++ middle ++ state))
+    (λ same.
+    other state
+    (append_cancel_left name behind (middle ++ state) (sym is ∙ (bytes_eq-Decides text (name ++ middle ++ state)).0 same ∙ append_assoc name middle state))) in
     sym (or_from (bytes_eq text (name ++ middle ++ state)) _ not_this (sym (default_of_other text name middle behind states is other)))

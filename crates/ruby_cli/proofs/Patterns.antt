@@ -1,7 +1,5 @@
 -- What it says that tokens begin with a pattern, and how a part is read by its pattern.
-use Rattle.std.proofs.Common.{◌≡◌, ◌&&◌, ◌+◌, ◌≤◌, ◌<◌, ℕ, zero, suc, Bool, true, false, Option, Some, None, List, [], ◌∷◌, ◌++◌, length, drop, refl, sym, ap, ◌∙◌, subst, arith, rules, eqb, eqb-true, append_assoc, length-drop, add-one}
-use Rattle.std.specs.List.{slice_get}
-use Rattle.std.specs.Str.{bytes_eq}
+use Rattle.std.proofs.Common.{◌≡◌, ◌≤◌, ◌<◌, ℕ, suc, true, Some, List, [], ◌∷◌, ◌++◌, length, drop, refl, sym, ap, ◌∙◌, arith, eqb, eqb-true, length-drop}
 use Rattle.std.proofs.lemmas.Bool.{and_parts, true≢false, false≢true}
 use Rattle.std.proofs.lemmas.Slice.Eq.{bytes_eq-Decides}
 use Rattle.slicc_ast.specs.declared.token.Token.{Token}
@@ -104,8 +102,8 @@ pub reads_pattern : {X : Type 0} {pattern : List Piece} {tokens rest : List Toke
 reads_pattern {X} {pattern} {tokens} {rest} spell make part begins of part_is = record {
   spelled = fits_filled pattern tokens begins.fit ∙ ap (λ f. f ++ drop (length pattern) tokens) (of.full tokens) ∙ ap (λ p. spell p ++ drop (length pattern) tokens) (sym part_is) ∙ ap (λ r. spell part ++ r) (sym begins.cut);
   only = λ other behind are. (
-      of.made other behind ∙ ap make (sym are) ∙ sym part_is,
-      of.cut other behind ∙ ap (drop (length pattern)) (sym are) ∙ sym begins.cut,
+    of.made other behind ∙ ap make (sym are) ∙ sym part_is,
+    of.cut other behind ∙ ap (drop (length pattern)) (sym are) ∙ sym begins.cut,
   );
 }
 

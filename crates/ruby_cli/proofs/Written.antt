@@ -1,8 +1,8 @@
 -- What the front of bytes is found to be is a token as it is written, and each token as it is written is found.
-use Rattle.std.proofs.Common.{unwrap_or, ◌≡◌, ◌≢◌, ◌&&◌, ◌||◌, ◌⊎◌, ◌+◌, ◌≤◌, ◌<◌, ℕ, zero, suc, Bool, true, false, cond, not, Option, Some, None, List, [], ◌∷◌, ◌++◌, length, take, drop, refl, sym, ap, ◌∙◌, subst, arith, rules, eqb, leb, le-leb, leb-true, eqb-true, eq-eqb, ne_eqb, take_at, drop_at, length-take-le, append_assoc, append-nil, take-append-drop, inl, inr, ⊎_elim, one-add}
+use Rattle.std.proofs.Common.{unwrap_or, ◌≡◌, ◌&&◌, ◌||◌, ◌+◌, ℕ, suc, Bool, true, false, cond, not, Option, Some, None, List, [], ◌∷◌, ◌++◌, length, take, drop, refl, sym, ap, ◌∙◌, subst, arith, eqb, leb, leb-true, eqb-true, eq-eqb, take_at, drop_at, length-take-le, append_assoc, take-append-drop, inl, inr, ⊎_elim, one-add}
 use Rattle.std.specs.List.{prefix_len, list_all, list_any}
 use Rattle.std.specs.Str.{bytes_eq}
-use Rattle.std.proofs.lemmas.Bool.{cond-true, cond-false, cases_Bool, and_parts, and_from, and_right, or_left, or_cases, not_from_true, false≢true, true≢false, lt-leb}
+use Rattle.std.proofs.lemmas.Bool.{cond-true, cond-false, cases_Bool, and_parts, and_from, and_right, or_left, or_cases, not_from_true, false≢true}
 use Rattle.std.proofs.lemmas.Slice.Eq.{bytes_eq-Decides}
 use Rattle.std.proofs.lemmas.List.Sums.{prefix_len-le-length}
 use Rattle.slicc_ast.specs.declared.token.Token.{Token}
@@ -10,9 +10,9 @@ use Rattle.slicc_ast.specs.declared.token.Token.TheVariants.{Name, Reserved, Quo
 use Rattle.slicc_ast.specs.declared.token.Sign.{Sign as SignKind}
 use Rattle.slicc_ast.specs.declared.token.Sign.TheVariants.{OpenBrace, CloseBrace, OpenParenthesis, CloseParenthesis, Comma, Colon, Semicolon, Dot, Assign, Star}
 use Rattle.slicc_ast.specs.Bytes.{is_blank, is_letter, is_word_byte, is_printable}
-use Rattle.slicc_ast.specs.Tokens.{is_reserved, reserved_words, sign_byte, IsWord, IsQuotedBy, IsWrittenAs, IsEndedBefore, begins_with_word_byte}
+use Rattle.slicc_ast.specs.Tokens.{is_reserved, reserved_words, sign_byte, IsWord, IsWrittenAs, IsEndedBefore, begins_with_word_byte}
 use Rattle.ruby_cli.specs.Lexing.{is_quote, is_text_byte, sign_of, token_of_word, word_front, closed, quoted_front, with_sign, front}
-use Rattle.ruby_cli.proofs.Front.{token_of_reserved, token_of_name, word_front_short, quoted_front_closed, front_letter, front_quote, front_sign}
+use Rattle.ruby_cli.proofs.Front.{token_of_reserved, token_of_name, word_front_short, quoted_front_closed, front_letter, front_quote}
 
 -- a pair that was found is found once
 pub some_pair : {X Y : Type 0} (a b : X) (x y : Y) → (let p : X × Y = (a, x) in let q : X × Y = (b, y) in Some p ≡ Some q) → (a ≡ b) × (x ≡ y)
@@ -41,11 +41,11 @@ span_passes p [] = refl
 span_passes p (c ∷ cs) =
     ⊎_elim
     (λ passes.
-        let n : prefix_len p (c ∷ cs) ≡ suc (prefix_len p cs) = cond-true (p c) (1 + prefix_len p cs) 0 passes ∙ one-add (prefix_len p cs) in
-        subst (λ k. list_all p (take k (c ∷ cs)) ≡ true) (sym n) (and_from (p c) (list_all p (take (prefix_len p cs) cs)) passes (span_passes p cs)))
+    let n : prefix_len p (c ∷ cs) ≡ suc (prefix_len p cs) = cond-true (p c) (1 + prefix_len p cs) 0 passes ∙ one-add (prefix_len p cs) in
+    subst (λ k. list_all p (take k (c ∷ cs)) ≡ true) (sym n) (and_from (p c) (list_all p (take (prefix_len p cs) cs)) passes (span_passes p cs)))
     (λ fails.
-        let n : prefix_len p (c ∷ cs) ≡ 0 = cond-false (p c) (1 + prefix_len p cs) 0 fails in
-        subst (λ k. list_all p (take k (c ∷ cs)) ≡ true) (sym n) refl)
+    let n : prefix_len p (c ∷ cs) ≡ 0 = cond-false (p c) (1 + prefix_len p cs) 0 fails in
+    subst (λ k. list_all p (take k (c ∷ cs)) ≡ true) (sym n) refl)
     (cases_Bool (p c))
 
 pub span_stops : (p : ℕ → Bool) (xs : List ℕ) → begins p (drop (prefix_len p xs) xs) ≡ false
@@ -53,11 +53,11 @@ span_stops p [] = refl
 span_stops p (c ∷ cs) =
     ⊎_elim
     (λ passes.
-        let n : prefix_len p (c ∷ cs) ≡ suc (prefix_len p cs) = cond-true (p c) (1 + prefix_len p cs) 0 passes ∙ one-add (prefix_len p cs) in
-        subst (λ k. begins p (drop k (c ∷ cs)) ≡ false) (sym n) (span_stops p cs))
+    let n : prefix_len p (c ∷ cs) ≡ suc (prefix_len p cs) = cond-true (p c) (1 + prefix_len p cs) 0 passes ∙ one-add (prefix_len p cs) in
+    subst (λ k. begins p (drop k (c ∷ cs)) ≡ false) (sym n) (span_stops p cs))
     (λ fails.
-        let n : prefix_len p (c ∷ cs) ≡ 0 = cond-false (p c) (1 + prefix_len p cs) 0 fails in
-        subst (λ k. begins p (drop k (c ∷ cs)) ≡ false) (sym n) fails)
+    let n : prefix_len p (c ∷ cs) ≡ 0 = cond-false (p c) (1 + prefix_len p cs) 0 fails in
+    subst (λ k. begins p (drop k (c ∷ cs)) ≡ false) (sym n) fails)
     (cases_Bool (p c))
 
 begins_word : (rest : List ℕ) → begins_with_word_byte rest ≡ begins is_word_byte rest
@@ -163,22 +163,23 @@ word_is_front c cs token rest letter found =
     let k : ℕ = prefix_len is_word_byte cs in
     let n : prefix_len is_word_byte (c ∷ cs) ≡ suc k = cond-true (is_word_byte c) (1 + k) 0 (or_left (is_letter c) _ letter) ∙ one-add k in
     let cut : List ℕ → ℕ → Option (Token × List ℕ) = λ bytes m. cond (leb m 128) (Some (token_of_word (take m bytes), drop m bytes)) None in
-    let there : cond (leb (suc k) 128) (Some (token_of_word (c ∷ take k cs), drop k cs)) None ≡ Some (token, rest) = ap (cut (c ∷ cs)) (sym n) ∙ found in
+    let some : Option (Token × List ℕ) = Some (token, rest) in
+    let there : cut (c ∷ cs) (suc k) ≡ some = ap (cut (c ∷ cs)) (sym n) ∙ found in
     ⊎_elim
     (λ short.
-        let pair = sym (cond-true (leb (suc k) 128) _ _ short) ∙ there in
-        let parts = some_pair (token_of_word (c ∷ take k cs)) token (drop k cs) rest pair in
-        let token_is : token_of_word (c ∷ take k cs) ≡ token = parts.0 in
-        let rest_is : drop k cs ≡ rest = parts.1 in
-        let is : IsWord (c ∷ take k cs) = (letter, span_passes is_word_byte cs, omega (arith, leb-true (suc k) 128 short, length-take-le k cs (prefix_len-le-length is_word_byte cs))) in
-        let ended : begins_with_word_byte (drop k cs) ≡ false = begins_word (drop k cs) ∙ span_stops is_word_byte cs in
-        record {
-          written = c ∷ take k cs;
-          split = ap (λ w. c ∷ w) (sym (take-append-drop k cs)) ∙ ap (λ r. (c ∷ take k cs) ++ r) rest_is;
-          is_written = subst (λ t. IsWrittenAs t (c ∷ take k cs)) token_is (written_word (c ∷ take k cs) is);
-          is_ended = subst (λ r. IsEndedBefore token r) rest_is (subst (λ t. IsEndedBefore t (drop k cs)) token_is (ended_word (c ∷ take k cs) (drop k cs) ended));
-        })
-    (λ long. let none : None ≡ Some (token, rest) = sym (cond-false (leb (suc k) 128) _ _ long) ∙ there in cc)
+    let pair = sym (cond-true (leb (suc k) 128) _ _ short) ∙ there in
+    let parts = some_pair (token_of_word (c ∷ take k cs)) token (drop k cs) rest pair in
+    let token_is : token_of_word (c ∷ take k cs) ≡ token = parts.0 in
+    let rest_is : drop k cs ≡ rest = parts.1 in
+    let is : IsWord (c ∷ take k cs) = (letter, span_passes is_word_byte cs, omega (arith, leb-true (suc k) 128 short, length-take-le k cs (prefix_len-le-length is_word_byte cs))) in
+    let ended : begins_with_word_byte (drop k cs) ≡ false = begins_word (drop k cs) ∙ span_stops is_word_byte cs in
+    record {
+      written = c ∷ take k cs;
+      split = ap (λ w. c ∷ w) (sym (take-append-drop k cs)) ∙ ap (λ r. (c ∷ take k cs) ++ r) rest_is;
+      is_written = subst (λ t. IsWrittenAs t (c ∷ take k cs)) token_is (written_word (c ∷ take k cs) is);
+      is_ended = subst (λ r. IsEndedBefore token r) rest_is (subst (λ t. IsEndedBefore t (drop k cs)) token_is (ended_word (c ∷ take k cs) (drop k cs) ended));
+    })
+    (λ long. let none : Option (Token × List ℕ) = None in let clash : none ≡ some = sym (cond-false (leb (suc k) 128) _ _ long) ∙ there in cc clash)
     (cases_Bool (leb (suc k) 128))
 
 closed_parts : (quote : ℕ) (text behind : List ℕ) (token : Token) (rest : List ℕ) → closed quote text behind ≡ Some (token, rest) → (behind ≡ quote ∷ rest) × (Quoted text ≡ token)
@@ -186,10 +187,10 @@ closed_parts quote text [] token rest found = cc
 closed_parts quote text (c ∷ cs) token rest found =
     ⊎_elim
     (λ same.
-        let pair = sym (cond-true (eqb c quote) _ _ same) ∙ found in
-        let here : c ≡ quote = eqb-true c quote same in
-        let parts = some_pair (Quoted text) token cs rest pair in
-        (ap (λ d. d ∷ cs) here ∙ ap (λ r. quote ∷ r) parts.1, parts.0))
+    let pair = sym (cond-true (eqb c quote) _ _ same) ∙ found in
+    let here : c ≡ quote = eqb-true c quote same in
+    let parts = some_pair (Quoted text) token cs rest pair in
+    (ap (λ d. d ∷ cs) here ∙ ap (λ r. quote ∷ r) parts.1, parts.0))
     (λ other. let none : None ≡ Some (token, rest) = sym (cond-false (eqb c quote) _ _ other) ∙ found in cc)
     (cases_Bool (eqb c quote))
 
@@ -218,9 +219,9 @@ sign_pick : (c k : ℕ) (here sign : SignKind) (other : Option SignKind) → sig
 sign_pick c k here sign other byte later found =
     ⊎_elim
     (λ same.
-        let pair : Some here ≡ Some sign = sym (cond-true (eqb c k) _ _ same) ∙ found in
-        let is : sign ≡ here = cc pair in
-        ap sign_byte is ∙ byte ∙ sym (eqb-true c k same))
+    let pair : Some here ≡ Some sign = sym (cond-true (eqb c k) _ _ same) ∙ found in
+    let is : sign ≡ here = cc pair in
+    ap sign_byte is ∙ byte ∙ sym (eqb-true c k same))
     (λ differs. later (sym (cond-false (eqb c k) _ _ differs) ∙ found))
     (cases_Bool (eqb c k))
 
@@ -259,11 +260,11 @@ written_of_front (c ∷ cs) token rest found =
     ⊎_elim
     (λ letter. word_is_front c cs token rest letter (sym (cond-true (is_letter c) _ _ letter) ∙ found))
     (λ no_letter.
-        let behind = sym (cond-false (is_letter c) _ _ no_letter) ∙ found in
-        ⊎_elim
-        (λ quotes. string_is_front c cs token rest quotes (sym (cond-true (is_quote c) _ _ quotes) ∙ behind))
-        (λ no_quote. sign_parts c cs (sign_of c) token rest (λ s is. sign_of_byte c s is) (sym (cond-false (is_quote c) _ _ no_quote) ∙ behind))
-        (cases_Bool (is_quote c)))
+    let behind = sym (cond-false (is_letter c) _ _ no_letter) ∙ found in
+    ⊎_elim
+    (λ quotes. string_is_front c cs token rest quotes (sym (cond-true (is_quote c) _ _ quotes) ∙ behind))
+    (λ no_quote. sign_parts c cs (sign_of c) token rest (λ s is. sign_of_byte c s is) (sym (cond-false (is_quote c) _ _ no_quote) ∙ behind))
+    (cases_Bool (is_quote c)))
     (cases_Bool (is_letter c))
 
 blank_no_front : (c : ℕ) (cs : List ℕ) (token : Token) (rest : List ℕ) → is_blank c ≡ true → front (c ∷ cs) ≡ Some (token, rest) → ⊥
@@ -272,14 +273,14 @@ blank_no_front c cs token rest blank found =
     let none : (k : ℕ) → eqb c k ≡ true → front (k ∷ cs) ≡ Some (token, rest) = λ k same. ap (λ d. front (d ∷ cs)) (sym (eqb-true c k same)) ∙ found in
     ⊎_elim
     (λ three.
-        ⊎_elim
-        (λ two.
-            ⊎_elim
-            (λ space. let f : None ≡ Some (token, rest) = none 32 space in cc)
-            (λ tab. let f : None ≡ Some (token, rest) = none 9 tab in cc)
-            (or_cases (eqb c 32) (eqb c 9) two))
-        (λ return. let f : None ≡ Some (token, rest) = none 13 return in cc)
-        (or_cases (eqb c 32 || eqb c 9) (eqb c 13) three))
+    ⊎_elim
+    (λ two.
+    ⊎_elim
+    (λ space. let f : None ≡ Some (token, rest) = none 32 space in cc)
+    (λ tab. let f : None ≡ Some (token, rest) = none 9 tab in cc)
+    (or_cases (eqb c 32) (eqb c 9) two))
+    (λ return. let f : None ≡ Some (token, rest) = none 13 return in cc)
+    (or_cases (eqb c 32 || eqb c 9) (eqb c 13) three))
     (λ feed. let f : None ≡ Some (token, rest) = none 10 feed in cc)
     (or_cases (eqb c 32 || eqb c 9 || eqb c 13) (eqb c 10) blank)
 

@@ -112,7 +112,11 @@ fn are_events_well_formed(m: &Machine) -> bool
     ensures { IsTrue result ↔ AreEventsWellFormed m.now }
 {
     let events = m.events.members.as_slice();
-    every(&[0 < events.len(), events.len() <= MOST_MEMBERS, are_distinct(events)])
+    every(&[
+        0 < events.len(),
+        events.len() <= MOST_MEMBERS,
+        are_distinct(events),
+    ])
 }
 
 /// Whether the statements of the port and the action name the port and a declared event.
@@ -124,7 +128,10 @@ fn are_bodies_well_formed(m: &Machine) -> bool
         m.port.body.port.as_slice() == port,
         m.port.body.then.port.as_slice() == port,
         m.action.body.port.as_slice() == port,
-        is_among(m.events.members.as_slice(), m.port.body.then.then.event.as_slice()),
+        is_among(
+            m.events.members.as_slice(),
+            m.port.body.then.then.event.as_slice(),
+        ),
     ])
 }
 
@@ -135,7 +142,12 @@ fn are_names_well_formed(m: &Machine) -> bool
     let name = m.name.as_slice();
     let port = m.port.name.as_slice();
     let action = m.action.name.as_slice();
-    every(&[name != port, name != action, port != action, action != "z_stall".as_bytes()])
+    every(&[
+        name != port,
+        name != action,
+        port != action,
+        action != "z_stall".as_bytes(),
+    ])
 }
 
 /// Whether the names in a transition are declared.

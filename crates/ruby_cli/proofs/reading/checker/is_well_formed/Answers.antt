@@ -1,44 +1,44 @@
 use Rattle.std.proofs.Common.{ap, sym, ◌∙◌}
-use Rattle.slicc_ast.specs.WellFormed.{IsWellFormed, are_single}
+use Rattle.slicc_ast.specs.WellFormed.{are_single}
 use Rattle.ruby_cli.specs.Checking.{AreStatesWellFormed, AreEventsWellFormed, AreBodiesWellFormed, AreNamesWellFormed}
 use Rattle.ruby_cli.proofs.Checked.{six_hold, six_from}
 use Rattle.ruby_cli.proofs.reading.checker.is_well_formed.Goals as goal
 
 pub returns : goal.returns
 returns c = (
-    λ is.
-        let parts = six_hold _ _ _ _ _ _ (sym c.every.ensures ∙ is) in
-        let states : AreStatesWellFormed c.args.m.now = c.are_states_well_formed.ensures.0 parts.0 in
-        let events : AreEventsWellFormed c.args.m.now = c.are_events_well_formed.ensures.0 parts.1 in
-        let bodies : AreBodiesWellFormed c.args.m.now = c.are_bodies_well_formed.ensures.0 parts.2 in
-        let names : AreNamesWellFormed c.args.m.now = c.are_names_well_formed.ensures.0 parts.3 in
-        record {
-          some_state = states.some_state;
-          few_states = states.few_states;
-          distinct_states = states.distinct_states;
-          permitted = states.permitted;
-          default = states.default;
-          some_event = events.some_event;
-          few_events = events.few_events;
-          distinct_events = events.distinct_events;
-          ready = bodies.ready;
-          peeked = bodies.peeked;
-          dequeued = bodies.dequeued;
-          triggered = bodies.triggered;
-          machine_not_port = names.machine_not_port;
-          machine_not_action = names.machine_not_action;
-          port_not_action = names.port_not_action;
-          action_runs = names.action_runs;
-          declared = sym c.are_declared.ensures ∙ parts.4;
-          single = ap are_single (sym c.as_slice.ensures) ∙ sym c.are_single.ensures ∙ parts.5;
-        },
-    λ is.
-        c.every.ensures
-        ∙ six_from _ _ _ _ _ _
-        (c.are_states_well_formed.ensures.1 record { some_state = is.some_state; few_states = is.few_states; distinct_states = is.distinct_states; permitted = is.permitted; default = is.default })
-        (c.are_events_well_formed.ensures.1 record { some_event = is.some_event; few_events = is.few_events; distinct_events = is.distinct_events })
-        (c.are_bodies_well_formed.ensures.1 record { ready = is.ready; peeked = is.peeked; dequeued = is.dequeued; triggered = is.triggered })
-        (c.are_names_well_formed.ensures.1 record { machine_not_port = is.machine_not_port; machine_not_action = is.machine_not_action; port_not_action = is.port_not_action; action_runs = is.action_runs })
-        (c.are_declared.ensures ∙ is.declared)
-        (c.are_single.ensures ∙ ap are_single c.as_slice.ensures ∙ is.single),
+  λ is.
+      let parts = six_hold _ _ _ _ _ _ (sym c.every.ensures ∙ is) in
+      let states : AreStatesWellFormed c.args.m.now = c.are_states_well_formed.ensures.0 parts.0 in
+      let events : AreEventsWellFormed c.args.m.now = c.are_events_well_formed.ensures.0 parts.1 in
+      let bodies : AreBodiesWellFormed c.args.m.now = c.are_bodies_well_formed.ensures.0 parts.2 in
+      let names : AreNamesWellFormed c.args.m.now = c.are_names_well_formed.ensures.0 parts.3 in
+      record {
+        some_state = states.some_state;
+        few_states = states.few_states;
+        distinct_states = states.distinct_states;
+        permitted = states.permitted;
+        default = states.default;
+        some_event = events.some_event;
+        few_events = events.few_events;
+        distinct_events = events.distinct_events;
+        ready = bodies.ready;
+        peeked = bodies.peeked;
+        dequeued = bodies.dequeued;
+        triggered = bodies.triggered;
+        machine_not_port = names.machine_not_port;
+        machine_not_action = names.machine_not_action;
+        port_not_action = names.port_not_action;
+        action_runs = names.action_runs;
+        declared = sym c.are_declared.ensures ∙ parts.4;
+        single = ap are_single (sym c.as_slice.ensures) ∙ sym c.are_single.ensures ∙ parts.5;
+      },
+  λ is.
+      c.every.ensures
+      ∙ six_from _ _ _ _ _ _
+      (c.are_states_well_formed.ensures.1 record { some_state = is.some_state; few_states = is.few_states; distinct_states = is.distinct_states; permitted = is.permitted; default = is.default })
+      (c.are_events_well_formed.ensures.1 record { some_event = is.some_event; few_events = is.few_events; distinct_events = is.distinct_events })
+      (c.are_bodies_well_formed.ensures.1 record { ready = is.ready; peeked = is.peeked; dequeued = is.dequeued; triggered = is.triggered })
+      (c.are_names_well_formed.ensures.1 record { machine_not_port = is.machine_not_port; machine_not_action = is.machine_not_action; port_not_action = is.port_not_action; action_runs = is.action_runs })
+      (c.are_declared.ensures ∙ is.declared)
+      (c.are_single.ensures ∙ ap are_single c.as_slice.ensures ∙ is.single),
 )

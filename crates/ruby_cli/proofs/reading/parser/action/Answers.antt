@@ -1,6 +1,6 @@
 use Rattle.std.proofs.Common.{refl}
 use Rattle.slicc_ast.specs.Spelling.{action_tokens}
-use Rattle.ruby_cli.proofs.Patterns.{reads_pattern, unread_pattern, shorter_behind}
+use Rattle.ruby_cli.proofs.Patterns.{reads_pattern}
 use Rattle.ruby_cli.proofs.Parts.{make_action, action_made}
 use Rattle.ruby_cli.proofs.reading.parser.action.Goals as goal
 
@@ -9,4 +9,3 @@ returns c =
     reads_pattern action_tokens make_action _ c.in-Some.ensures
     (record { fit = λ _ _. refl; made = λ _ _. refl; cut = λ _ _. refl; full = λ _. refl })
     (action_made c.args.tokens.now _ _ _ _ c.in_ok-text_at.ensures c.in_ok-text_at-2.ensures c.in_ok-text_at-3.ensures c.in_ok-text_at-4.ensures)
-
