@@ -1,10 +1,9 @@
 -- What the front of bytes is found to be, step by step as the code looks.
-use Rattle.std.proofs.Common.{◌≡◌, ◌≢◌, ◌&&◌, ◌||◌, ◌+◌, ◌≤◌, ◌<◌, ℕ, Bool, true, false, cond, not, Option, Some, None, List, [], ◌∷◌, ◌++◌, length, take, drop, refl, sym, ap, ◌∙◌, subst, arith, eqb, leb, leb-true, le-leb, eqb-true, eq-eqb, ne_eqb, Result, Ok, Err, IfOk}
-use Rattle.std.specs.List.{prefix_len, list_all}
+use Rattle.std.proofs.Common.{◌≡◌, ◌≢◌, ◌≤◌, ◌<◌, ℕ, Bool, true, false, Option, Some, None, List, [], ◌∷◌, take, drop, sym, ap, ◌∙◌, arith, leb, le-leb, eq-eqb, ne_eqb, Result, Ok, Err, IfOk}
+use Rattle.std.specs.List.{prefix_len}
 use Rattle.std.proofs.lemmas.Bool.{cond-true, cond-false, lt-leb}
 use Rattle.slicc_ast.specs.declared.token.Token.{Token}
-use Rattle.slicc_ast.specs.declared.token.Token.TheVariants.{Name, Reserved, Quoted, Sign}
-use Rattle.slicc_ast.specs.declared.token.Sign.{Sign as SignKind}
+use Rattle.slicc_ast.specs.declared.token.Token.TheVariants.{Name, Reserved, Quoted}
 use Rattle.slicc_ast.specs.Bytes.{is_letter, is_word_byte}
 use Rattle.slicc_ast.specs.Tokens.{is_reserved}
 use Rattle.ruby_cli.specs.Lexing.{is_quote, is_text_byte, sign_of, token_of_word, word_front, closed, quoted_front, with_sign, front}

@@ -1,13 +1,13 @@
 -- The lexer's invariant: some tokens are read, and the bytes' tokens are these and then those of what is left.
-use Rattle.std.proofs.Common.{◌≡◌, ◌≢◌, ◌&&◌, ◌+◌, ◌≤◌, ◌<◌, ℕ, suc, Bool, true, false, Option, Some, None, List, [], ◌∷◌, ◌++◌, length, take, drop, refl, sym, ap, ◌∙◌, subst, arith, take_at, drop_at, drop_of_length-le, append_assoc, append-nil, take-append-drop, length-append, length-drop, inl, inr, eqb, eqb-true}
+use Rattle.std.proofs.Common.{◌≡◌, ◌≢◌, ◌≤◌, ◌<◌, ℕ, true, false, Option, Some, None, List, [], ◌∷◌, ◌++◌, length, take, drop, refl, sym, ap, ◌∙◌, subst, arith, drop_at, append_assoc, append-nil, take-append-drop, length-append, length-drop, inl, inr, eqb, eqb-true}
 use Rattle.std.proofs.lemmas.Bool.{true≢false}
 use Rattle.std.specs.List.{prefix_len, list_all}
 use Rattle.slicc_ast.specs.declared.token.Token.{Token}
 use Rattle.slicc_ast.specs.declared.token.Token.TheVariants.{Name, Reserved, Quoted, Sign}
 use Rattle.slicc_ast.specs.Bytes.{is_blank}
-use Rattle.slicc_ast.specs.Tokens.{IsWrittenAs, IsEndedBefore, AreTokensOf}
+use Rattle.slicc_ast.specs.Tokens.{IsWrittenAs, AreTokensOf}
 use Rattle.ruby_cli.specs.Lexing.{front}
-use Rattle.ruby_cli.proofs.Written.{IsWord-from_reserved, some_pair, begins, len_span, span_passes, IsFront, front_of_written, written_of_front, front_unblank}
+use Rattle.ruby_cli.proofs.Written.{IsWord-from_reserved, some_pair, begins, len_span, span_passes, front_of_written, written_of_front, front_unblank}
 
 -- what is behind the blanks at the front
 abbrev pub ahead : List ℕ → List ℕ

@@ -1,10 +1,10 @@
 -- The invariant of reading a list: some parts are read, and the list is these and then those of what is left.
-use Rattle.std.proofs.Common.{◌≡◌, ◌≢◌, ◌<◌, ℕ, Bool, true, false, List, [], ◌∷◌, ◌++◌, length, drop, refl, sym, ap, ◌∙◌, subst, append_assoc, append-nil}
+use Rattle.std.proofs.Common.{◌≡◌, ◌≢◌, true, false, List, [], ◌∷◌, ◌++◌, drop, refl, sym, ap, ◌∙◌, append_assoc, append-nil}
 use Rattle.std.specs.List.{flat_map}
 use Rattle.std.proofs.lemmas.Bool.{true≢false}
 use Rattle.std.proofs.lemmas.List.Concat.{flat_map-append}
 use Rattle.slicc_ast.specs.declared.token.Token.{Token}
-use Rattle.slicc_ast.specs.declared.token.Token.TheVariants.{Name, Reserved, Quoted, Sign}
+use Rattle.slicc_ast.specs.declared.token.Token.TheVariants.{Sign}
 use Rattle.slicc_ast.specs.declared.token.Sign.TheVariants.{CloseBrace}
 use Rattle.ruby_cli.specs.declared.reading.pattern.Piece.{Piece}
 use Rattle.ruby_cli.specs.Parsing.{IsRead, IsUnread, Begins, Differs, begins_closed, list_tokens, fits}

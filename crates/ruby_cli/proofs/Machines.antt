@@ -1,9 +1,9 @@
 -- A machine's tokens, part behind part, and the machine that is made of parts that were read.
-use Rattle.std.proofs.Common.{◌≡◌, ℕ, true, Option, Some, List, [], ◌∷◌, ◌++◌, length, drop, refl, sym, ap, ◌∙◌, subst, append_assoc, append-nil}
+use Rattle.std.proofs.Common.{◌≡◌, ℕ, true, List, [], ◌∷◌, ◌++◌, length, drop, sym, ap, ◌∙◌, append_assoc, append-nil}
 use Rattle.std.specs.List.{flat_map}
 use Rattle.std.proofs.lemmas.Bool.{true≢false}
 use Rattle.slicc_ast.specs.declared.token.Token.{Token}
-use Rattle.slicc_ast.specs.declared.token.Token.TheVariants.{Name, Reserved, Quoted, Sign}
+use Rattle.slicc_ast.specs.declared.token.Token.TheVariants.{Sign}
 use Rattle.slicc_ast.specs.declared.token.Sign.TheVariants.{OpenBrace, CloseBrace}
 use Rattle.slicc_ast.specs.declared.machine.Machine.{Machine}
 use Rattle.slicc_ast.specs.declared.machine.States.{States}
@@ -13,7 +13,7 @@ use Rattle.slicc_ast.specs.declared.machine.Action.{Action}
 use Rattle.slicc_ast.specs.declared.machine.Transition.{Transition}
 use Rattle.slicc_ast.specs.Spelling.{states_tokens, events_tokens, port_tokens, action_tokens, transition_tokens, header_tokens, machine_tokens}
 use Rattle.ruby_cli.specs.declared.reading.pattern.Piece.{Piece}
-use Rattle.ruby_cli.specs.Parsing.{IsRead, IsUnread, Begins, Differs, fits, text_at, list_tokens}
+use Rattle.ruby_cli.specs.Parsing.{IsRead, Begins, Differs, fits, text_at, list_tokens}
 use Rattle.ruby_cli.proofs.Patterns.{filled, fits_filled}
 
 -- the tokens from the transitions on, from the action on, and so on

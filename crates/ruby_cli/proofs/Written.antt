@@ -1,8 +1,8 @@
 -- What the front of bytes is found to be is a token as it is written, and each token as it is written is found.
-use Rattle.std.proofs.Common.{unwrap_or, ◌≡◌, ◌≢◌, ◌&&◌, ◌||◌, ◌⊎◌, ◌+◌, ◌≤◌, ◌<◌, ℕ, zero, suc, Bool, true, false, cond, not, Option, Some, None, List, [], ◌∷◌, ◌++◌, length, take, drop, refl, sym, ap, ◌∙◌, subst, arith, rules, eqb, leb, le-leb, leb-true, eqb-true, eq-eqb, ne_eqb, take_at, drop_at, length-take-le, append_assoc, append-nil, take-append-drop, inl, inr, ⊎_elim, one-add}
+use Rattle.std.proofs.Common.{unwrap_or, ◌≡◌, ◌&&◌, ◌||◌, ◌+◌, ℕ, suc, Bool, true, false, cond, not, Option, Some, None, List, [], ◌∷◌, ◌++◌, length, take, drop, refl, sym, ap, ◌∙◌, subst, arith, eqb, leb, leb-true, eqb-true, eq-eqb, take_at, drop_at, length-take-le, append_assoc, take-append-drop, inl, inr, ⊎_elim, one-add}
 use Rattle.std.specs.List.{prefix_len, list_all, list_any}
 use Rattle.std.specs.Str.{bytes_eq}
-use Rattle.std.proofs.lemmas.Bool.{cond-true, cond-false, cases_Bool, and_parts, and_from, and_right, or_left, or_cases, not_from_true, false≢true, true≢false, lt-leb}
+use Rattle.std.proofs.lemmas.Bool.{cond-true, cond-false, cases_Bool, and_parts, and_from, and_right, or_left, or_cases, not_from_true, false≢true}
 use Rattle.std.proofs.lemmas.Slice.Eq.{bytes_eq-Decides}
 use Rattle.std.proofs.lemmas.List.Sums.{prefix_len-le-length}
 use Rattle.slicc_ast.specs.declared.token.Token.{Token}
@@ -10,9 +10,9 @@ use Rattle.slicc_ast.specs.declared.token.Token.TheVariants.{Name, Reserved, Quo
 use Rattle.slicc_ast.specs.declared.token.Sign.{Sign as SignKind}
 use Rattle.slicc_ast.specs.declared.token.Sign.TheVariants.{OpenBrace, CloseBrace, OpenParenthesis, CloseParenthesis, Comma, Colon, Semicolon, Dot, Assign, Star}
 use Rattle.slicc_ast.specs.Bytes.{is_blank, is_letter, is_word_byte, is_printable}
-use Rattle.slicc_ast.specs.Tokens.{is_reserved, reserved_words, sign_byte, IsWord, IsQuotedBy, IsWrittenAs, IsEndedBefore, begins_with_word_byte}
+use Rattle.slicc_ast.specs.Tokens.{is_reserved, reserved_words, sign_byte, IsWord, IsWrittenAs, IsEndedBefore, begins_with_word_byte}
 use Rattle.ruby_cli.specs.Lexing.{is_quote, is_text_byte, sign_of, token_of_word, word_front, closed, quoted_front, with_sign, front}
-use Rattle.ruby_cli.proofs.Front.{token_of_reserved, token_of_name, word_front_short, quoted_front_closed, front_letter, front_quote, front_sign}
+use Rattle.ruby_cli.proofs.Front.{token_of_reserved, token_of_name, word_front_short, quoted_front_closed, front_letter, front_quote}
 
 -- a pair that was found is found once
 pub some_pair : {X Y : Type 0} (a b : X) (x y : Y) → (let p : X × Y = (a, x) in let q : X × Y = (b, y) in Some p ≡ Some q) → (a ≡ b) × (x ≡ y)
@@ -163,7 +163,8 @@ word_is_front c cs token rest letter found =
     let k : ℕ = prefix_len is_word_byte cs in
     let n : prefix_len is_word_byte (c ∷ cs) ≡ suc k = cond-true (is_word_byte c) (1 + k) 0 (or_left (is_letter c) _ letter) ∙ one-add k in
     let cut : List ℕ → ℕ → Option (Token × List ℕ) = λ bytes m. cond (leb m 128) (Some (token_of_word (take m bytes), drop m bytes)) None in
-    let there : cond (leb (suc k) 128) (Some (token_of_word (c ∷ take k cs), drop k cs)) None ≡ Some (token, rest) = ap (cut (c ∷ cs)) (sym n) ∙ found in
+    let some : Option (Token × List ℕ) = Some (token, rest) in
+    let there : cut (c ∷ cs) (suc k) ≡ some = ap (cut (c ∷ cs)) (sym n) ∙ found in
     ⊎_elim
     (λ short.
     let pair = sym (cond-true (leb (suc k) 128) _ _ short) ∙ there in
@@ -178,7 +179,7 @@ word_is_front c cs token rest letter found =
       is_written = subst (λ t. IsWrittenAs t (c ∷ take k cs)) token_is (written_word (c ∷ take k cs) is);
       is_ended = subst (λ r. IsEndedBefore token r) rest_is (subst (λ t. IsEndedBefore t (drop k cs)) token_is (ended_word (c ∷ take k cs) (drop k cs) ended));
     })
-    (λ long. let none : None ≡ Some (token, rest) = sym (cond-false (leb (suc k) 128) _ _ long) ∙ there in cc)
+    (λ long. let none : Option (Token × List ℕ) = None in let clash : none ≡ some = sym (cond-false (leb (suc k) 128) _ _ long) ∙ there in cc clash)
     (cases_Bool (leb (suc k) 128))
 
 closed_parts : (quote : ℕ) (text behind : List ℕ) (token : Token) (rest : List ℕ) → closed quote text behind ≡ Some (token, rest) → (behind ≡ quote ∷ rest) × (Quoted text ≡ token)

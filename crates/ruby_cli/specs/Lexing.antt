@@ -1,5 +1,5 @@
 -- How the token at the front of bytes is found: by its first byte, and then as long as it can be.
-use Rattle.std.specs.Prelude.{◌≡◌, ◌==◌, ◌&&◌, ◌||◌, ℕ, Bool, not, cond, nat_le, Option, Some, None, List, [], ◌∷◌, take, drop}
+use Rattle.std.specs.Prelude.{◌==◌, ◌&&◌, ◌||◌, ℕ, Bool, not, cond, nat_le, Option, Some, None, List, [], ◌∷◌, take, drop}
 use Rattle.std.specs.List.{prefix_len}
 use denote.Ref.{Bor}
 use Rattle.slicc_ast.specs.declared.token.Token.{Token}

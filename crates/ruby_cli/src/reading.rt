@@ -42,6 +42,7 @@ pub fn read_machine(alloc: Global, bytes: &[u8]) -> Result<Option<Machine>, NoMe
 #[cfg(test)]
 mod tests {
     use super::*;
+    use ruby_base::Seq;
     use std::test::Fail;
 
     const TICK: &str = "machine(MachineType:Node, \"ticker\")
@@ -66,7 +67,7 @@ mod tests {
 ";
 
     /// Changes of the ticker, each a text and what it becomes everywhere, which leave it a machine of the small form.
-    const ACCEPTED: [(&str, &str); 6] = [
+    const ACCEPTED: &[(&str, &str)] = &[
         ("\"", "'"),
         (" ", ""),
         ("\n", "\r\n\t "),
@@ -76,7 +77,7 @@ mod tests {
     ];
 
     /// Changes which make it one of another form.
-    const REFUSED: [(&str, &str); 24] = [
+    const REFUSED: &[(&str, &str)] = &[
         ("  enumeration", "  // a comment\n  enumeration"),
         ("mandatoryQueue;", "mandatoryQueue"),
         ("Go", "new"),
@@ -114,45 +115,74 @@ mod tests {
         Ok(read_machine(alloc, text.as_bytes())?.is_some())
     }
 
-    /// The ticker with each occurrence of a text changed.
-    fn changed(alloc: Global, from: &str, to: &str) -> Result<String, NoMemory> {
-        Ok(TICK.replace(alloc, from, to)?)
+    /// Whether the ticker is read as a machine with each occurrence of a text changed.
+    fn is_read_changed(alloc: Global, from: &str, to: &str) -> Result<bool, NoMemory> {
+        let text = TICK.replace(alloc, from, to)?;
+        is_read(alloc, text.as_str())
+    }
+
+    /// The first change after which the ticker is read, or isn't, against what is wanted.
+    fn first_other<'a>(
+        alloc: Global,
+        changes: &[(&'a str, &'a str)],
+        wanted: bool,
+    ) -> Result<Option<&'a str>, NoMemory> {
+        for (from, to) in changes {
+            if is_read_changed(alloc, from, to)? != wanted {
+                return Ok(Some(*to));
+            }
+        }
+        Ok(None)
+    }
+
+    /// Whether a name of the ticker's may be this many bytes long.
+    fn is_name_len(alloc: Global, len: usize) -> Result<bool, NoMemory> {
+        let mut text = String::new(alloc);
+        for _ in 0..len {
+            text.push_str("a")?;
+        }
+        is_read_changed(alloc, "p_pop", text.as_str())
+    }
+
+    /// The texts of a machine that the ticker's text determines, each in a line.
+    fn written(alloc: Global, m: &Machine) -> Result<Seq<u8>, NoMemory> {
+        let mut out = Seq::new(alloc);
+        out.append(m.name.as_slice())?;
+        out.append(m.title.as_slice())?;
+        out.append(m.states.default.as_slice())?;
+        for state in m.states.members.as_slice() {
+            out.append(state.name.as_slice())?;
+            out.append(state.permission.as_slice())?;
+        }
+        for event in m.events.members.as_slice() {
+            out.append(event.name.as_slice())?;
+        }
+        out.append(m.port.name.as_slice())?;
+        out.append(m.action.name.as_slice())?;
+        out.append(m.action.short.as_slice())?;
+        for transition in m.transitions.as_slice() {
+            out.append(transition.state.as_slice())?;
+            out.append(transition.event.as_slice())?;
+            out.append(transition.next.as_slice())?;
+            out.append(transition.action.as_slice())?;
+        }
+        Ok(out)
     }
 
     #[test]
     fn reads_the_ticker(rt: HostRuntime) -> Result<(), Fail> {
         let m = read_machine(rt.alloc(), TICK.as_bytes())?.ok_or("the ticker is refused")?;
-        assert_eq!(rt; m.name.as_slice(), "Node".as_bytes());
-        assert_eq!(rt; m.title.as_slice(), "ticker".as_bytes());
-        assert_eq!(rt; m.states.default.as_slice(), "Node_State_A".as_bytes());
-        assert_eq!(rt; m.states.members.len(), 2);
-        assert_eq!(rt; m.events.members.len(), 1);
-        assert_eq!(rt; m.port.name.as_slice(), "mandatory_in".as_bytes());
-        assert_eq!(rt; m.port.body.then.then.event.as_slice(), "Go".as_bytes());
-        assert_eq!(rt; m.action.short.as_slice(), "p".as_bytes());
-        assert_eq!(rt; m.transitions.len(), 2);
-        let last = m.transitions.get(1).ok_or("no second transition")?;
-        assert_eq!(rt; last.state.as_slice(), "B".as_bytes());
-        assert_eq!(rt; last.event.as_slice(), "Go".as_bytes());
-        assert_eq!(rt; last.next.as_slice(), "A".as_bytes());
-        assert_eq!(rt; last.action.as_slice(), "p_pop".as_bytes());
+        let names =
+            "NodetickerNode_State_AAInvalidBRead_WriteGomandatory_inp_poppAGoBp_popBGoAp_pop";
+        assert!(rt; written(rt.alloc(), &m)?.as_slice() == names.as_bytes());
         Ok(())
     }
 
     #[test]
     fn tells_the_small_form_from_others(rt: HostRuntime) -> Result<(), Fail> {
-        for (from, to) in ACCEPTED {
-            let text = changed(rt.alloc(), from, to)?;
-            assert!(rt; is_read(rt.alloc(), text.as_str())?, "{from} as {to}");
-        }
-        for (from, to) in REFUSED {
-            let text = changed(rt.alloc(), from, to)?;
-            assert!(rt; !is_read(rt.alloc(), text.as_str())?, "{from} as {to}");
-        }
-        let longest = changed(rt.alloc(), "p_pop", "a".repeat(rt.alloc(), 128)?.as_str())?;
-        assert!(rt; is_read(rt.alloc(), longest.as_str())?);
-        let too_long = changed(rt.alloc(), "p_pop", "a".repeat(rt.alloc(), 129)?.as_str())?;
-        assert!(rt; !is_read(rt.alloc(), too_long.as_str())?);
+        assert_eq!(rt; first_other(rt.alloc(), ACCEPTED, true)?, None);
+        assert_eq!(rt; first_other(rt.alloc(), REFUSED, false)?, None);
+        assert!(rt; is_name_len(rt.alloc(), 128)? && !is_name_len(rt.alloc(), 129)?);
         Ok(())
     }
 }

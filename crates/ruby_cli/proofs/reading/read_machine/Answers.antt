@@ -1,6 +1,5 @@
-use Rattle.std.proofs.Common.{◌≡◌, Some, List, ap, sym, subst, ◌∙◌}
+use Rattle.std.proofs.Common.{◌≡◌, sym, subst, ◌∙◌}
 use Rattle.std.proofs.lemmas.Bool.{true≢false}
-use Rattle.slicc_ast.specs.declared.token.Token.{Token}
 use Rattle.slicc_ast.specs.declared.machine.Machine.{Machine}
 use Rattle.slicc_ast.specs.Spelling.{machine_tokens}
 use Rattle.slicc_ast.specs.WellFormed.{IsWellFormed}

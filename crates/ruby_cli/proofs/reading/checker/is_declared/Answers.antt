@@ -1,4 +1,4 @@
-use Rattle.std.proofs.Common.{◌≡◌, List, ℕ, map, ap, ap₂, ◌∙◌}
+use Rattle.std.proofs.Common.{List, ℕ, map, ap₂, ◌∙◌}
 use Rattle.std.specs.Str.{bytes_eq}
 use Rattle.slicc_ast.specs.declared.machine.State.{State}
 use Rattle.slicc_ast.specs.declared.machine.Event.{Event}

@@ -1,4 +1,4 @@
-use Rattle.std.proofs.Common.{◌≡◌, ◌++◌, List, ℕ, None, Some, Option, Bor, map, codes, ap, ap₂, sym, subst, ◌∙◌}
+use Rattle.std.proofs.Common.{◌++◌, List, ℕ, None, Some, map, codes, ap, ap₂, sym, ◌∙◌}
 use Rattle.std.proofs.lemmas.Bool.Decides.{Decides-eqb}
 use Rattle.std.proofs.lemmas.Slice.Eq.{strip_prefix_is}
 use Rattle.slicc_ast.specs.declared.machine.State.{State}

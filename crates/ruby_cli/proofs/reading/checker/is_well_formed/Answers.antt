@@ -1,5 +1,5 @@
 use Rattle.std.proofs.Common.{ap, sym, ◌∙◌}
-use Rattle.slicc_ast.specs.WellFormed.{IsWellFormed, are_single}
+use Rattle.slicc_ast.specs.WellFormed.{are_single}
 use Rattle.ruby_cli.specs.Checking.{AreStatesWellFormed, AreEventsWellFormed, AreBodiesWellFormed, AreNamesWellFormed}
 use Rattle.ruby_cli.proofs.Checked.{six_hold, six_from}
 use Rattle.ruby_cli.proofs.reading.checker.is_well_formed.Goals as goal

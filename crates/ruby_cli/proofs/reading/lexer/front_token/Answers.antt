@@ -1,6 +1,5 @@
-use Rattle.std.proofs.Common.{◌≡◌, List, Option, ap, sym, ◌∙◌, Bor}
+use Rattle.std.proofs.Common.{◌≡◌, ap, sym}
 use Rattle.std.specs.Option.{option_map}
-use Rattle.slicc_ast.specs.declared.token.Token.{Token}
 use Rattle.ruby_cli.specs.Lexing.{word_front, quoted_front, front, with_rest, with_sign}
 use Rattle.ruby_cli.proofs.Front.{if_ok, front_empty, front_letter, front_quote, front_sign}
 use Rattle.ruby_cli.proofs.reading.lexer.front_token.Goals as goal

@@ -1,9 +1,8 @@
-use Rattle.std.proofs.Common.{◌≡◌, ◌≢◌, ◌++◌, List, [], Option, Some, None, ℕ, length, arith, refl, sym, ap, ◌∙◌, subst, eqb-true}
+use Rattle.std.proofs.Common.{List, Some, arith, sym, ap, ◌∙◌, subst}
 use Rattle.std.specs.Option.{option_map}
 use Rattle.std.proofs.lemmas.List.Sums.{prefix_len-le-length}
 use Rattle.slicc_ast.specs.Bytes.{is_blank}
 use Rattle.slicc_ast.specs.declared.token.Token.{Token}
-use Rattle.slicc_ast.specs.Tokens.{AreTokensOf}
 use Rattle.ruby_cli.specs.Lexing.{front, with_rest}
 use Rattle.ruby_cli.proofs.Lexed.{Lexed, ahead, split_ahead, ahead_shorter, lexed_none, lexed_more, lexed_all, lexed_only, lexed_bad, front_shorter, empty_from, not_empty_from}
 use Rattle.ruby_cli.proofs.reading.lexer.tokens.Goals as goal

@@ -1,12 +1,7 @@
-use Rattle.std.proofs.Common.{◌≡◌, List, [], Some, ap, subst, sym, ◌∙◌, refl}
-use Rattle.slicc_ast.specs.declared.token.Token.{Token}
+use Rattle.std.proofs.Common.{[], Some, ap, subst, sym, refl}
 use Rattle.slicc_ast.specs.declared.machine.Machine.{Machine}
-use Rattle.slicc_ast.specs.declared.machine.States.{States}
-use Rattle.slicc_ast.specs.declared.machine.Events.{Events}
-use Rattle.slicc_ast.specs.declared.machine.InPort.{InPort}
-use Rattle.slicc_ast.specs.declared.machine.Action.{Action}
 use Rattle.slicc_ast.specs.Spelling.{states_tokens, events_tokens, port_tokens, action_tokens, transition_tokens}
-use Rattle.ruby_cli.specs.Parsing.{Reads, IsRead, list_tokens}
+use Rattle.ruby_cli.specs.Parsing.{Reads, list_tokens}
 use Rattle.ruby_cli.proofs.Lexed.{empty_from, not_empty_from}
 use Rattle.ruby_cli.proofs.Machines.{AreParts, to_states, from_events, from_port, from_action, from_transitions, machine_sound, machine_only}
 use Rattle.ruby_cli.proofs.reading.parser.machine.Goals as goal

@@ -1,6 +1,6 @@
 use Rattle.std.proofs.Common.{refl}
 use Rattle.slicc_ast.specs.Spelling.{port_tokens}
-use Rattle.ruby_cli.proofs.Patterns.{reads_pattern, unread_pattern, shorter_behind}
+use Rattle.ruby_cli.proofs.Patterns.{reads_pattern}
 use Rattle.ruby_cli.proofs.Parts.{make_port, port_made}
 use Rattle.ruby_cli.proofs.reading.parser.port.Goals as goal
 

@@ -1,6 +1,6 @@
 use Rattle.std.proofs.Common.{refl, lit<}
 use Rattle.slicc_ast.specs.Spelling.{event_tokens}
-use Rattle.ruby_cli.proofs.Patterns.{reads_pattern, unread_pattern, shorter_behind}
+use Rattle.ruby_cli.proofs.Patterns.{reads_pattern, shorter_behind}
 use Rattle.ruby_cli.proofs.Parts.{make_event, event_made}
 use Rattle.ruby_cli.proofs.reading.parser.EventPart.read.Goals as goal
 

@@ -1,6 +1,6 @@
 use Rattle.std.proofs.Common.{refl, lit<}
 use Rattle.slicc_ast.specs.Spelling.{state_tokens}
-use Rattle.ruby_cli.proofs.Patterns.{reads_pattern, unread_pattern, shorter_behind}
+use Rattle.ruby_cli.proofs.Patterns.{reads_pattern, shorter_behind}
 use Rattle.ruby_cli.proofs.Parts.{make_state, state_made}
 use Rattle.ruby_cli.proofs.reading.parser.StatePart.read.Goals as goal
 

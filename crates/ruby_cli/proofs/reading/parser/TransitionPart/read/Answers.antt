@@ -1,6 +1,6 @@
 use Rattle.std.proofs.Common.{refl, lit<}
 use Rattle.slicc_ast.specs.Spelling.{transition_tokens}
-use Rattle.ruby_cli.proofs.Patterns.{reads_pattern, unread_pattern, shorter_behind}
+use Rattle.ruby_cli.proofs.Patterns.{reads_pattern, shorter_behind}
 use Rattle.ruby_cli.proofs.Parts.{make_transition, transition_made}
 use Rattle.ruby_cli.proofs.reading.parser.TransitionPart.read.Goals as goal
 
