@@ -3,7 +3,7 @@ use Rattle.std.specs.Prelude.{◌≡◌, ◌≢◌, ◌≤◌, IsTrue, length, c
 use Rattle.std.specs.List.{list_any, list_all}
 use Rattle.slicc_ast.specs.declared.machine.Machine.{Machine}
 use Rattle.slicc_ast.specs.declared.machine.State.{State}
-use Rattle.slicc_ast.specs.WellFormed.{permissions, is_among, are_distinct, state_names, event_names, is_default}
+use Rattle.slicc_ast.specs.WellFormed.{permissions, is_among, are_distinct, state_names, event_names, is_default, are_single}
 
 pub record AreStatesWellFormed (m : Machine) : Type 0 where
   pub some_state : 1 ≤ length m.states.members
@@ -28,3 +28,7 @@ pub record AreNamesWellFormed (m : Machine) : Type 0 where
   pub machine_not_action : m.name ≢ m.action.name
   pub port_not_action : m.port.name ≢ m.action.name
   pub action_runs : m.action.name ≢ codes "z_stall"
+
+pub record AreTransitionsWellFormed (m : Machine) : Type 0 where
+  pub some_transition : 1 ≤ length m.transitions
+  pub single : IsTrue (are_single m.transitions)

@@ -1,17 +1,16 @@
 -- What a call of the program answers: a status, a record where a run was made, and the bytes that it wrote. Each
 -- definition is one clause of the top call; `before` and `after` are counts of faults, or what a sink tells, as the
 -- call begins and ends.
-use Rattle.std.specs.Prelude.{◌≡◌, ◌≢◌, ◌≤◌, ◌⊎◌, ◌==◌, ℕ, Option, None, Some, List, [], ◌∷◌, IfSome, IsSome, MatchOption, if◌then◌else◌}
-use Rattle.std.specs.Option.{ForSome, IsSomeAnd}
-use Rattle.ruby_outside.specs.Faults.{Rose}
+use Rattle.std.specs.Prelude.{◌≡◌, ◌≢◌, ◌⊎◌, ◌==◌, ℕ, Option, None, Some, List, [], ◌∷◌, IsSome, if◌then◌else◌}
+use Rattle.std.specs.Option.{ForSome}
 use Rattle.ruby_outside.specs.Files.{Files}
-use Rattle.ruby_outside.specs.Sink.{grown, IsCutOff}
+use Rattle.ruby_outside.specs.Sink.{IsCutOff}
 use Rattle.slicc_meaning.specs.declared.record.Options.{Options}
 use Rattle.slicc_meaning.specs.declared.record.RunRecord.{RunRecord}
 use Rattle.slicc_meaning.specs.declared.record.Verdict.{Verdict}
 use Rattle.slicc_meaning.specs.declared.record.Verdict.TheVariants.{Stop, Quiet, Cycles}
 use Rattle.slicc_meaning.specs.declared.world.World.{World}
-use Rattle.slicc_meaning.specs.Answer.{Answer, Runs, Refused, Absent, TooLarge, IsAnswer}
+use Rattle.slicc_meaning.specs.Answer.{Answer, Runs, IsAnswer}
 use Rattle.slicc_meaning.specs.Record.{IsRecordOf}
 use Rattle.slicc_meaning.specs.Run.{HasEnded}
 use Rattle.slicc_meaning.specs.Text.{text}

@@ -3,7 +3,6 @@
 use Rattle.std.specs.Prelude.{ℕ, Bool, Option, None, Some, List, [], ◌∷◌, ◌+◌, ◌-◌, ◌*◌, ◌&&◌, nat_le, fold, length, codes, if◌then◌else◌}
 use Rattle.std.specs.List.{list_all}
 use Rattle.std.specs.Str.{bytes_eq}
-use Rattle.slicc_meaning.specs.declared.record.Command.{Command}
 use Rattle.slicc_meaning.specs.declared.record.Command.TheVariants.{Plain}
 use Rattle.slicc_meaning.specs.declared.record.Options.{Options}
 

@@ -2,7 +2,7 @@ ghost use Rattle.std.specs.Prelude.{◌≡◌, ◌↔◌, ◌++◌, List, ℕ, I
 ghost use Rattle.std.specs.List.{list_any, list_all};
 ghost use Rattle.std.specs.Str.{bytes_eq};
 ghost use Rattle.slicc_ast.specs.WellFormed.{is_among, are_distinct, are_single, is_declared, is_default, is_same_pair, permissions, state_names, event_names, IsWellFormed};
-ghost use Rattle.ruby_cli.specs.Checking.{AreStatesWellFormed, AreEventsWellFormed, AreBodiesWellFormed, AreNamesWellFormed};
+ghost use Rattle.ruby_cli.specs.Checking.{AreStatesWellFormed, AreEventsWellFormed, AreBodiesWellFormed, AreNamesWellFormed, AreTransitionsWellFormed};
 ghost use Rattle.slicc_ast.specs.declared.machine.State.{State as StateTree};
 
 use super::items::split_front;
@@ -204,6 +204,14 @@ fn are_single(transitions: &[Transition]) -> bool
     true
 }
 
+/// Whether there is a transition, and no pair of state and event has two.
+fn are_transitions_well_formed(m: &Machine) -> bool
+    ensures { IsTrue result ↔ AreTransitionsWellFormed m.now }
+{
+    let transitions = m.transitions.as_slice();
+    every(&[0 < transitions.len(), are_single(transitions)])
+}
+
 /// Whether the machine keeps every condition that the grammar doesn't state.
 pub fn is_well_formed(m: &Machine) -> bool
     ensures { IsTrue result ↔ IsWellFormed m.now }
@@ -214,6 +222,6 @@ pub fn is_well_formed(m: &Machine) -> bool
         are_bodies_well_formed(m),
         are_names_well_formed(m),
         are_declared(m),
-        are_single(m.transitions.as_slice()),
+        are_transitions_well_formed(m),
     ])
 }

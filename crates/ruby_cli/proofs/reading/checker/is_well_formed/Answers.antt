@@ -1,6 +1,5 @@
-use Rattle.std.proofs.Common.{ap, sym, ◌∙◌}
-use Rattle.slicc_ast.specs.WellFormed.{are_single}
-use Rattle.ruby_cli.specs.Checking.{AreStatesWellFormed, AreEventsWellFormed, AreBodiesWellFormed, AreNamesWellFormed}
+use Rattle.std.proofs.Common.{sym, ◌∙◌}
+use Rattle.ruby_cli.specs.Checking.{AreStatesWellFormed, AreEventsWellFormed, AreBodiesWellFormed, AreNamesWellFormed, AreTransitionsWellFormed}
 use Rattle.ruby_cli.proofs.Checked.{six_hold, six_from}
 use Rattle.ruby_cli.proofs.reading.checker.is_well_formed.Goals as goal
 
@@ -12,6 +11,7 @@ returns c = (
       let events : AreEventsWellFormed c.args.m.now = c.are_events_well_formed.ensures.0 parts.1 in
       let bodies : AreBodiesWellFormed c.args.m.now = c.are_bodies_well_formed.ensures.0 parts.2 in
       let names : AreNamesWellFormed c.args.m.now = c.are_names_well_formed.ensures.0 parts.3 in
+      let transitions : AreTransitionsWellFormed c.args.m.now = c.are_transitions_well_formed.ensures.0 parts.5 in
       record {
         some_state = states.some_state;
         few_states = states.few_states;
@@ -30,7 +30,8 @@ returns c = (
         port_not_action = names.port_not_action;
         action_runs = names.action_runs;
         declared = sym c.are_declared.ensures ∙ parts.4;
-        single = ap are_single (sym c.as_slice.ensures) ∙ sym c.are_single.ensures ∙ parts.5;
+        some_transition = transitions.some_transition;
+        single = transitions.single;
       },
   λ is.
       c.every.ensures
@@ -40,5 +41,5 @@ returns c = (
       (c.are_bodies_well_formed.ensures.1 record { ready = is.ready; peeked = is.peeked; dequeued = is.dequeued; triggered = is.triggered })
       (c.are_names_well_formed.ensures.1 record { machine_not_port = is.machine_not_port; machine_not_action = is.machine_not_action; port_not_action = is.port_not_action; action_runs = is.action_runs })
       (c.are_declared.ensures ∙ is.declared)
-      (c.are_single.ensures ∙ ap are_single c.as_slice.ensures ∙ is.single),
+      (c.are_transitions_well_formed.ensures.1 record { some_transition = is.some_transition; single = is.single }),
 )
