@@ -8,5 +8,6 @@ pub mod Line
 pub mod Outcome
 pub mod Parsing
 pub mod Pieces
+pub mod Reply
 pub mod Top
 pub mod Words

@@ -8,15 +8,19 @@ mod lines;
 mod marks;
 mod outcomes;
 mod reading;
+mod recording;
+mod reply;
 mod run;
 mod steps;
 mod text;
+mod top;
 mod turn;
 mod waking;
 
 pub use answers::{absent_line, fault_line, refused_line, too_large_line, usage_line};
 pub use lines::write_lines;
 pub use text::text_of;
+pub use top::Done;
 
 #[cfg(test)]
 mod tests;

@@ -1,0 +1,60 @@
+-- What the program has found to answer before it writes: a run, or why there is none, for the named protocol.
+use Rattle.std.specs.Prelude.{◌≡◌, ℕ, Bool, Option, None, Some, List, if◌then◌else◌}
+use Rattle.std.specs.Option.{ForSome}
+use Rattle.ruby_outside.specs.Files.{Files}
+use Rattle.slicc_ast.specs.declared.machine.Machine.{Machine}
+use Rattle.slicc_ast.specs.SmallForm.{IsSmallForm}
+use Rattle.slicc_meaning.specs.declared.record.Options.{Options}
+use Rattle.slicc_meaning.specs.declared.record.RunRecord.{RunRecord}
+use Rattle.slicc_meaning.specs.Answer.{Runs, Refused, Absent, TooLarge, IsAnswer}
+use Rattle.slicc_meaning.specs.Plan.{plan_of}
+use Rattle.slicc_meaning.specs.Text.{text}
+use Rattle.slicc_meaning.specs.Topology.{plain_of}
+use Rattle.ruby_cli.specs.declared.top.Done.{Done}
+use Rattle.ruby_cli.specs.declared.reply.Reply.{Reply}
+use Rattle.ruby_cli.specs.declared.reply.Reply.TheVariants as reply
+use Rattle.ruby_cli.specs.Answers.{refused_line, absent_line, too_large_line, fault_line}
+use Rattle.ruby_cli.specs.Top.{IsWholeRun, IsAsAsked, verdict_status}
+
+-- the reply to these bytes
+abbrev pub IsReplyTo : List ℕ → Options → Reply → Type 0
+IsReplyTo bytes o (reply.Ran r) =
+    IsWholeRun r × (r.options ≡ o)
+    × ((m : Machine) × IsSmallForm bytes m × (r.plan ≡ plan_of m) × (r.topology ≡ plain_of r.plan))
+IsReplyTo bytes o (reply.Refused name) = (name ≡ o.protocol) × ((m : Machine) → IsSmallForm bytes m → ⊥)
+IsReplyTo bytes o (reply.Absent name) = ⊥
+IsReplyTo bytes o (reply.TooLarge name) = ⊥
+IsReplyTo bytes o (reply.Faulted name) = ⊥
+
+-- the reply over a library; a fault only where its count rose
+abbrev pub IsReply : Option Files → Type 0 → Options → Reply → Type 0
+IsReply files rose o (reply.Ran r) = IsWholeRun r × IsAsAsked files o r
+IsReply files rose o (reply.Refused name) = (name ≡ o.protocol) × ForSome files (λ told. IsAnswer told o Refused)
+IsReply files rose o (reply.Absent name) = (name ≡ o.protocol) × ForSome files (λ told. IsAnswer told o Absent)
+IsReply files rose o (reply.TooLarge name) = (name ≡ o.protocol) × ForSome files (λ told. IsAnswer told o TooLarge)
+IsReply files rose o (reply.Faulted name) = (name ≡ o.protocol) × rose
+
+abbrev pub reply_text : Reply → List ℕ
+reply_text (reply.Ran r) = text r
+reply_text (reply.Refused name) = refused_line name
+reply_text (reply.Absent name) = absent_line name
+reply_text (reply.TooLarge name) = too_large_line name
+reply_text (reply.Faulted name) = fault_line name
+
+abbrev pub reply_status : Reply → ℕ
+reply_status (reply.Ran r) = verdict_status r.verdict
+reply_status (reply.Refused name) = 3
+reply_status (reply.Absent name) = 6
+reply_status (reply.TooLarge name) = 9
+reply_status (reply.Faulted name) = 5
+
+abbrev pub reply_kept : Reply → Option RunRecord
+reply_kept (reply.Ran r) = Some r
+reply_kept (reply.Refused name) = None
+reply_kept (reply.Absent name) = None
+reply_kept (reply.TooLarge name) = None
+reply_kept (reply.Faulted name) = None
+
+-- what the call answers once its text was written, or cut off
+abbrev pub done_with : Reply → Bool → Done
+done_with r written = record { status = if written then reply_status r else 7; kept = reply_kept r }
