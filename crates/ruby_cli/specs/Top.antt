@@ -10,11 +10,11 @@ use Rattle.slicc_meaning.specs.declared.record.RunRecord.{RunRecord}
 use Rattle.slicc_meaning.specs.declared.record.Verdict.{Verdict}
 use Rattle.slicc_meaning.specs.declared.record.Verdict.TheVariants.{Stop, Quiet, Cycles}
 use Rattle.slicc_meaning.specs.declared.world.World.{World}
-use Rattle.slicc_meaning.specs.Answer.{Answer, Runs, IsAnswer}
+use Rattle.slicc_meaning.specs.Answer.{Answer, Runs, Refused, Absent, TooLarge, IsAnswer}
 use Rattle.slicc_meaning.specs.Record.{IsRecordOf}
 use Rattle.slicc_meaning.specs.Run.{HasEnded}
 use Rattle.slicc_meaning.specs.Text.{text}
-use Rattle.ruby_cli.specs.Answers.{refused_line, absent_line, too_large_line, fault_line}
+use Rattle.ruby_cli.specs.Answers.{refused_line, absent_line, too_large_line, fault_line, usage_line}
 
 -- the record is one whole run of its setting: its history leads from the opening to a world with a verdict, and its
 -- journal, finals, account and verdict are those of that history and world
@@ -56,11 +56,19 @@ abbrev pub IsStatusOf : Option Files → Options → Answer → ℕ → ℕ → 
 IsStatusOf files o answer s status =
     ForSome files (λ told. (status ≡ s → IsAnswer told o answer) × (IsAnswer told o answer → IsOneOf (s ∷ 5 ∷ 7 ∷ 8 ∷ []) status))
 
--- with 7 a beginning of the text of one of the statuses was written, which is not the whole; the text of 5 only where
--- the library's count rose
-abbrev pub IsBegun : Options → Option RunRecord → Type 0 → Option (List ℕ) → Option (List ℕ) → Type 0
-IsBegun o kept rose before after =
-    (s : ℕ) × IsOneOf (0 ∷ 1 ∷ 3 ∷ 5 ∷ 6 ∷ 9 ∷ []) s × (s ≡ 5 → rose) × IsCutOff before (whole_text o kept s) after
+-- the text of this status is the right one: a refusal's where the files are told only for its answer, and that of 5
+-- only where the library's count rose
+pub record IsRightText (files : Option Files) (o : Options) (rose : Type 0) (s : ℕ) : Type 0 where
+  pub one_of : IsOneOf (0 ∷ 1 ∷ 3 ∷ 5 ∷ 6 ∷ 9 ∷ []) s
+  pub refused : s ≡ 3 → ForSome files (λ told. IsAnswer told o Refused)
+  pub absent : s ≡ 6 → ForSome files (λ told. IsAnswer told o Absent)
+  pub too_large : s ≡ 9 → ForSome files (λ told. IsAnswer told o TooLarge)
+  pub faulted : s ≡ 5 → rose
+
+-- with 7 a beginning of the right text was written, which is not the whole; with a record it is that of its run
+abbrev pub IsBegun : Option Files → Options → Option RunRecord → Type 0 → Option (List ℕ) → Option (List ℕ) → Type 0
+IsBegun files o kept rose before after =
+    (s : ℕ) × IsRightText files o rose s × IsCutOff before (whole_text o kept s) after
 
 -- where the files are told, a run is right and the library's count didn't rise, 7 has a record
 abbrev pub KeepsRun : Option Files → Options → Type 0 → Option RunRecord → ℕ → Type 0
@@ -73,3 +81,8 @@ abbrev pub IsComplete : Option Files → Options → Type 0 → Type 0 → Optio
 IsComplete files o read_rose write_rose kept status =
     ForSome files (λ told. (r : RunRecord) → IsAnswer told o (Runs r.plan r.topology) → (read_rose → ⊥) → (write_rose → ⊥)
     → (IsSome kept × IsOneOf (0 ∷ 1 ∷ []) status) ⊎ (status ≡ 8))
+
+-- what belongs to a status for words that may ask for nothing: then it is the usage line, with status 2
+abbrev pub asked_text : Option Options → Option RunRecord → ℕ → List ℕ
+asked_text None kept status = if status == 2 then usage_line else []
+asked_text (Some o) kept status = whole_text o kept status

@@ -7,6 +7,7 @@ mod driver;
 mod lines;
 mod marks;
 mod outcomes;
+mod program;
 mod reading;
 mod recording;
 mod reply;
@@ -16,11 +17,13 @@ mod text;
 mod top;
 mod turn;
 mod waking;
+mod words;
 
 pub use answers::{absent_line, fault_line, refused_line, too_large_line, usage_line};
 pub use lines::write_lines;
+pub use program::ruby;
 pub use text::text_of;
-pub use top::Done;
+pub use top::{Done, ruby_alone};
 
 #[cfg(test)]
 mod tests;

@@ -1,10 +1,17 @@
 // The top call on one thread.
-ghost use Rattle.std.specs.Prelude.{◌≡◌, true};
-ghost use Rattle.ruby_cli.specs.Reply.{done_with};
-ghost use Rattle.ruby_cli.specs.Top.{verdict_status as verdict_status_of};
+ghost use Rattle.std.specs.Prelude.{◌≡◌, ◌≢◌, ◌<◌, ◌≤◌, ◌^◌, ◌∷◌, [], None, true, IfOk, IfSome, IsUtf8, is_some};
+ghost use Rattle.ruby_outside.specs.Faults.{Rose};
+ghost use Rattle.ruby_outside.specs.Sink.{grown};
+ghost use Rattle.slicc_meaning.specs.Answer.{Refused, Absent, TooLarge};
+ghost use Rattle.ruby_cli.specs.Reply.{IsReply, reply_text, done_with};
+ghost use Rattle.ruby_cli.specs.Top.{IsWholeRun, IsAsAsked, IsVerdictStatus, IsStatusOf, IsOneOf, IsBegun, KeepsRun, IsComplete, whole_text, verdict_status as verdict_status_of};
 
-use crate::reply::Reply;
-use slicc_meaning::{RunRecord, Verdict};
+use crate::lines::write_lines;
+use crate::reply::{Reply, find_reply, text_of_reply};
+use ruby_base::{NoMemory, Text};
+use ruby_outside::{Library, Sink};
+use slicc_meaning::{Options, RunRecord, Verdict};
+use std::alloc::Global;
 
 /// What a call of the program answers.
 #[derive(Drop)]
@@ -59,4 +66,77 @@ fn finish(reply: Reply, written: bool) -> Done
         done.status = 7;
     }
     done
+}
+
+// The reply and its whole text, for which all memory is taken before anything is written.
+fn prepare<L: Library>(
+    alloc: Global,
+    options: Options,
+    library: &mut L,
+) -> Result<(Reply, Text), NoMemory>
+    requires name { IsUtf8 options.protocol }
+    requires cycles { options.cycles < 2 ^ 63 }
+    requires limit { options.limit < 2 ^ 63 }
+    ensures reply { IfOk result (λ r. IsReply (L.files library.old) (Rose (L.faults library.old) (L.faults library.new)) options r.0) }
+    ensures text { IfOk result (λ r. r.1 ≡ reply_text r.0) }
+    ensures files { L.files library.new ≡ L.files library.old }
+    ensures counts { L.faults library.old ≤ L.faults library.new }
+{
+    let reply = find_reply(alloc, options, library)?;
+    let text = text_of_reply(alloc, &reply)?;
+    Ok((reply, text))
+}
+
+/// Answers what the options ask for over a library, and writes its text to a sink. It waits for nobody and returns.
+///
+/// The status is 0 for a run that ended quietly and 1 for any other run; 3, 6 or 9 where the protocol's file is of
+/// another form, absent or too long; 5 where the library met a fault; 7 where the sink did, and then a beginning of the
+/// text is written; and 8 for want of memory, and then nothing is written. The statuses are this project's own.
+pub fn ruby_alone<L: Library, S: Sink>(
+    alloc: Global,
+    options: Options,
+    library: &mut L,
+    sink: &mut S,
+) -> Done
+    requires name { IsUtf8 options.protocol }
+    requires count { options.count ≤ 100000 }
+    requires cycles { (1 ≤ options.cycles) × (options.cycles ≤ 10 ^ 12) }
+    requires limit { (1 ≤ options.limit) × (options.limit ≤ 1000) }
+
+    // A record is of one whole run, and of what was asked.
+    ensures record_is_a_run { IfSome result.kept IsWholeRun }
+    ensures as_asked { IfSome result.kept (IsAsAsked (L.files library.old) options) }
+
+    // What is written is the whole text, or with 7 a beginning of it.
+    ensures as_written { result.status ≢ 7 → S.written sink.new ≡ grown (S.written sink.old) (whole_text options result.kept result.status) }
+    ensures cut_off { result.status ≡ 7 → IsBegun (L.files library.old) options result.kept (Rose (L.faults library.old) (L.faults library.new)) (S.written sink.old) (S.written sink.new) }
+
+    // When each status comes.
+    ensures statuses { IsOneOf (0 ∷ 1 ∷ 3 ∷ 5 ∷ 6 ∷ 7 ∷ 8 ∷ 9 ∷ []) result.status }
+    ensures verdict { IsVerdictStatus result.kept result.status }
+    ensures refused { IsStatusOf (L.files library.old) options Refused 3 result.status }
+    ensures absent { IsStatusOf (L.files library.old) options Absent 6 result.status }
+    ensures too_large { IsStatusOf (L.files library.old) options TooLarge 9 result.status }
+    ensures library_fault { result.status ≡ 5 → Rose (L.faults library.old) (L.faults library.new) }
+    ensures sink_fault { result.status ≡ 7 → Rose (S.faults sink.old) (S.faults sink.new) }
+    ensures nothing_written { result.status ≡ 8 → S.written sink.new ≡ S.written sink.old }
+    ensures keeps_run { KeepsRun (L.files library.old) options (Rose (L.faults library.old) (L.faults library.new)) result.kept result.status }
+    ensures complete { IsComplete (L.files library.old) options (Rose (L.faults library.old) (L.faults library.new)) (Rose (S.faults sink.old) (S.faults sink.new)) result.kept result.status }
+
+    // What lasts.
+    ensures files { L.files library.new ≡ L.files library.old }
+    ensures counts { L.faults library.old ≤ L.faults library.new }
+    ensures sink_counts { S.faults sink.old ≤ S.faults sink.new }
+    ensures tells { is_some (S.written sink.new) ≡ is_some (S.written sink.old) }
+{
+    match prepare(alloc, options, library) {
+        Err(NoMemory) => Done {
+            status: 8,
+            kept: None,
+        },
+        Ok((reply, text)) => {
+            let written = write_lines(sink, text.as_slice());
+            finish(reply, written)
+        }
+    }
 }

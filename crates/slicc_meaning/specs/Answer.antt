@@ -1,6 +1,5 @@
 -- What is right to answer to options over a finite map from names to bytes: a run of the plan of the named protocol, or
--- that the file isn't there, is too long, or is of another form. Exactly one of these is right. The limit is this
--- project's own.
+-- that the file isn't there, is too long, or is of another form. The limit is this project's own.
 use Rattle.std.specs.Prelude.{◌≡◌, ◌<◌, ◌≤◌, ℕ, List, None, Some, length}
 use Rattle.ruby_outside.specs.Files.{Files, bytes_of}
 use Rattle.slicc_ast.specs.declared.machine.Machine.{Machine}

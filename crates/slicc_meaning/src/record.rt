@@ -96,7 +96,7 @@ pub struct Final {
     pub state: u16,
 }
 
-/// Where the messages of a run have gone. The last four parts add up to the first.
+/// Where the messages of a run have gone: how many were sent, and how many of them are in each place.
 #[derive(Clone, Copy, PartialEq, Eq)]
 pub struct Account {
     pub sent: u64,

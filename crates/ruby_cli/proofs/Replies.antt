@@ -1,0 +1,204 @@
+-- Each clause of the top call, from the reply that it found and whether its text was written whole.
+use Rattle.std.proofs.Common.{◌≡◌, ◌≢◌, ◌<◌, ◌≤◌, ◌⊎◌, inl, inr, ℕ, Bool, true, false, Option, None, Some, List, [], ◌∷◌, length, refl, sym, ◌∙◌, ap, subst, arith, IfSome, IsSome}
+use Rattle.std.specs.Option.{ForSome}
+use Rattle.std.specs.Bool.{OnTrue, OnFalse}
+use Rattle.ruby_outside.specs.Sink.{grown, IsCutOff}
+use Rattle.ruby_cli.specs.declared.top.Done.{Done}
+use Rattle.ruby_outside.specs.Files.{Files, bytes_of}
+use Rattle.slicc_ast.specs.declared.machine.Machine.{Machine}
+use Rattle.slicc_ast.specs.SmallForm.{IsSmallForm}
+use Rattle.slicc_meaning.specs.declared.record.Options.{Options}
+use Rattle.slicc_meaning.specs.declared.record.RunRecord.{RunRecord}
+use Rattle.slicc_meaning.specs.declared.record.Verdict.{Verdict}
+use Rattle.slicc_meaning.specs.declared.record.Verdict.TheVariants.{Stop, Quiet, Cycles}
+use Rattle.slicc_meaning.specs.Answer.{Answer, Runs, Refused, Absent, TooLarge, IsAnswer, file_limit}
+use Rattle.ruby_cli.specs.declared.reply.Reply.{Reply}
+use Rattle.ruby_cli.specs.declared.reply.Reply.TheVariants as reply
+use Rattle.ruby_cli.specs.Reply.{IsReply, reply_text, reply_status, reply_kept, done_with}
+use Rattle.ruby_cli.specs.Top.{IsWholeRun, IsAsAsked, IsVerdictStatus, IsStatusOf, IsOneOf, IsRightText, IsBegun, KeepsRun, IsComplete, whole_text, verdict_status}
+
+same_bytes : (files : Files) (o : Options) (a b : List ℕ) → bytes_of files o.protocol ≡ Some a → bytes_of files o.protocol ≡ Some b → a ≡ b
+same_bytes files o a b is_a is_b = cc
+
+-- no two answers are right
+refused_runs : (files : Files) (o : Options) (r : RunRecord) → IsAnswer files o Refused → IsAnswer files o (Runs r.plan r.topology) → ⊥
+refused_runs files o r (a, read_a, none) (b, m, read_b, form, plan, topology) =
+    none m (subst (λ (x : List ℕ). IsSmallForm x m) (same_bytes files o b a read_b.0 read_a.0) form)
+
+absent_read : (files : Files) (o : Options) (a : List ℕ) → bytes_of files o.protocol ≡ None → bytes_of files o.protocol ≡ Some a → ⊥
+absent_read files o a none some = absurd (cc (none, some))
+
+long_read : (files : Files) (o : Options) (a b : List ℕ) → bytes_of files o.protocol ≡ Some a → bytes_of files o.protocol ≡ Some b → length a ≤ file_limit → file_limit < length b → ⊥
+long_read files o a b is_a is_b short long =
+    let same : length a ≡ length b = ap (λ (x : List ℕ). length x) (same_bytes files o a b is_a is_b) in
+    absurd (omega (arith, same, short, long))
+
+absent_runs : (files : Files) (o : Options) (r : RunRecord) → IsAnswer files o Absent → IsAnswer files o (Runs r.plan r.topology) → ⊥
+absent_runs files o r none (b, m, read_b, form, plan, topology) = absent_read files o b none read_b.0
+
+long_runs : (files : Files) (o : Options) (r : RunRecord) → IsAnswer files o TooLarge → IsAnswer files o (Runs r.plan r.topology) → ⊥
+long_runs files o r (a, there, long) (b, m, read_b, form, plan, topology) = long_read files o b a read_b.0 there read_b.1 long
+
+absent_refused : (files : Files) (o : Options) → IsAnswer files o Absent → IsAnswer files o Refused → ⊥
+absent_refused files o none (a, read_a, other) = absent_read files o a none read_a.0
+
+long_refused : (files : Files) (o : Options) → IsAnswer files o TooLarge → IsAnswer files o Refused → ⊥
+long_refused files o (a, there, long) (b, read_b, other) = long_read files o b a read_b.0 there read_b.1 long
+
+absent_long : (files : Files) (o : Options) → IsAnswer files o Absent → IsAnswer files o TooLarge → ⊥
+absent_long files o none (a, there, long) = absent_read files o a none there
+
+-- a run's status is 0 or 1
+verdict_low : (v : Verdict) → IsOneOf (0 ∷ 1 ∷ []) (verdict_status v)
+verdict_low (Quiet cycle) = inl refl
+verdict_low (Stop cycle c) = inr (inl refl)
+verdict_low (Cycles cycle) = inr (inl refl)
+
+verdict_not : (v : Verdict) (n : ℕ) → 1 < n → verdict_status v ≡ n → ⊥
+verdict_not (Quiet cycle) n more is = absurd (omega (arith, more, is))
+verdict_not (Stop cycle c) n more is = absurd (omega (arith, more, is))
+verdict_not (Cycles cycle) n more is = absurd (omega (arith, more, is))
+
+module _ (rose : Type 0) (o : Options) where
+  pub run-clause : (files : Option Files) (r : Reply) (written : Bool) → IsReply files rose o r → IfSome (done_with r written).kept IsWholeRun
+  run-clause files (reply.Ran r) written is = is.0
+  run-clause files (reply.Refused name) written is = tt
+  run-clause files (reply.Absent name) written is = tt
+  run-clause files (reply.TooLarge name) written is = tt
+  run-clause files (reply.Faulted name) written is = tt
+
+  pub asked-clause : (files : Option Files) (r : Reply) (written : Bool) → IsReply files rose o r → IfSome (done_with r written).kept (IsAsAsked files o)
+  asked-clause files (reply.Ran r) written is = is.1
+  asked-clause files (reply.Refused name) written is = tt
+  asked-clause files (reply.Absent name) written is = tt
+  asked-clause files (reply.TooLarge name) written is = tt
+  asked-clause files (reply.Faulted name) written is = tt
+
+  -- the text of a reply is that of its status
+  pub text-clause : (files : Option Files) (r : Reply) → IsReply files rose o r → reply_text r ≡ whole_text o (reply_kept r) (reply_status r)
+  text-clause files (reply.Ran r) is = refl
+  text-clause files (reply.Refused name) is = ap (λ (n : List ℕ). reply_text (reply.Refused n)) is.0
+  text-clause files (reply.Absent name) is = ap (λ (n : List ℕ). reply_text (reply.Absent n)) is.0
+  text-clause files (reply.TooLarge name) is = ap (λ (n : List ℕ). reply_text (reply.TooLarge n)) is.0
+  text-clause files (reply.Faulted name) is = ap (λ (n : List ℕ). reply_text (reply.Faulted n)) is.0
+
+  -- the statuses of texts
+  pub begun-clause : (v : Verdict) → IsOneOf (0 ∷ 1 ∷ 3 ∷ 5 ∷ 6 ∷ 9 ∷ []) (verdict_status v)
+  begun-clause (Quiet cycle) = inl refl
+  begun-clause (Stop cycle c) = inr (inl refl)
+  begun-clause (Cycles cycle) = inr (inl refl)
+
+  pub member-clause : (r : Reply) → IsOneOf (0 ∷ 1 ∷ 3 ∷ 5 ∷ 6 ∷ 9 ∷ []) (reply_status r)
+  member-clause (reply.Ran r) = begun-clause r.verdict
+  member-clause (reply.Refused name) = inr (inr (inl refl))
+  member-clause (reply.Absent name) = inr (inr (inr (inr (inl refl))))
+  member-clause (reply.TooLarge name) = inr (inr (inr (inr (inr (inl refl)))))
+  member-clause (reply.Faulted name) = inr (inr (inr (inl refl)))
+
+  right-clause : (files : Option Files) (r : Reply) → IsReply files rose o r → IsRightText files o rose (reply_status r)
+  right-clause files (reply.Ran r) is =
+      record {
+        one_of = begun-clause r.verdict;
+        refused = λ e. absurd (verdict_not r.verdict 3 (omega arith) e);
+        absent = λ e. absurd (verdict_not r.verdict 6 (omega arith) e);
+        too_large = λ e. absurd (verdict_not r.verdict 9 (omega arith) e);
+        faulted = λ e. absurd (verdict_not r.verdict 5 (omega arith) e);
+      }
+  right-clause files (reply.Refused name) is =
+      record {
+        one_of = member-clause (reply.Refused name);
+        refused = λ e. is.1;
+        absent = λ e. absurd (omega (arith, e));
+        too_large = λ e. absurd (omega (arith, e));
+        faulted = λ e. absurd (omega (arith, e));
+      }
+  right-clause files (reply.Absent name) is =
+      record {
+        one_of = member-clause (reply.Absent name);
+        refused = λ e. absurd (omega (arith, e));
+        absent = λ e. is.1;
+        too_large = λ e. absurd (omega (arith, e));
+        faulted = λ e. absurd (omega (arith, e));
+      }
+  right-clause files (reply.TooLarge name) is =
+      record {
+        one_of = member-clause (reply.TooLarge name);
+        refused = λ e. absurd (omega (arith, e));
+        absent = λ e. absurd (omega (arith, e));
+        too_large = λ e. is.1;
+        faulted = λ e. absurd (omega (arith, e));
+      }
+  right-clause files (reply.Faulted name) is =
+      record {
+        one_of = member-clause (reply.Faulted name);
+        refused = λ e. absurd (omega (arith, e));
+        absent = λ e. absurd (omega (arith, e));
+        too_large = λ e. absurd (omega (arith, e));
+        faulted = λ e. is.1;
+      }
+
+  not_seven : (r : Reply) → reply_status r ≡ 7 → ⊥
+  not_seven (reply.Ran r) is = verdict_not r.verdict 7 (omega arith) is
+  not_seven (reply.Refused name) is = absurd (omega (arith, is))
+  not_seven (reply.Absent name) is = absurd (omega (arith, is))
+  not_seven (reply.TooLarge name) is = absurd (omega (arith, is))
+  not_seven (reply.Faulted name) is = absurd (omega (arith, is))
+
+  pub written-clause : (files : Option Files) (r : Reply) (written : Bool) (before after : Option (List ℕ)) (text : List ℕ) (d : Done)
+      → IsReply files rose o r → text ≡ reply_text r → d ≡ done_with r written → OnTrue written (after ≡ grown before text)
+      → d.status ≢ 7 → after ≡ grown before (whole_text o d.kept d.status)
+  written-clause files r true before after text d is same done whole other =
+      let all : text ≡ whole_text o (reply_kept r) (reply_status r) = same ∙ text-clause files r is in
+      let told : after ≡ grown before (whole_text o (reply_kept r) (reply_status r)) = whole ∙ ap (λ (t : List ℕ). grown before t) all in
+      subst (λ (e : Done). after ≡ grown before (whole_text o e.kept e.status)) (sym done) told
+  written-clause files r false before after text d is same done whole other =
+      absurd (other (ap (λ (e : Done). e.status) done))
+
+  pub cut-clause : (files : Option Files) (r : Reply) (written : Bool) (before after : Option (List ℕ)) (text : List ℕ) (d : Done)
+      → IsReply files rose o r → text ≡ reply_text r → d ≡ done_with r written → OnFalse written (IsCutOff before text after)
+      → d.status ≡ 7 → IsBegun files o d.kept rose before after
+  cut-clause files r true before after text d is same done cut seven =
+      absurd (not_seven r (sym (ap (λ (e : Done). e.status) done) ∙ seven))
+  cut-clause files r false before after text d is same done cut seven =
+      let all : text ≡ whole_text o (reply_kept r) (reply_status r) = same ∙ text-clause files r is in
+      let told : IsCutOff before (whole_text o (reply_kept r) (reply_status r)) after = subst (λ (t : List ℕ). IsCutOff before t after) all cut in
+      let begun : IsBegun files o (reply_kept r) rose before after = (reply_status r, right-clause files r is, told) in
+      subst (λ (e : Done). IsBegun files o e.kept rose before after) (sym done) begun
+
+  -- where a run is right and the library met no fault, the reply is a run
+  ran : (files : Option Files) (r : Reply) (told : Files) (run : RunRecord)
+      → IsReply files rose o r → files ≡ Some told → IsAnswer told o (Runs run.plan run.topology) → (rose → ⊥) → IsSome (reply_kept r)
+  ran files (reply.Ran r) told run is tells right still = refl
+  ran files (reply.Refused name) told run is tells right still = absurd (refused_runs told o run (is.1 told tells) right)
+  ran files (reply.Absent name) told run is tells right still = absurd (absent_runs told o run (is.1 told tells) right)
+  ran files (reply.TooLarge name) told run is tells right still = absurd (long_runs told o run (is.1 told tells) right)
+  ran files (reply.Faulted name) told run is tells right still = absurd (still is.1)
+
+  pub keeps-clause : (files : Option Files) (r : Reply) (written : Bool) (d : Done)
+      → IsReply files rose o r → d ≡ done_with r written → KeepsRun files o rose d.kept d.status
+  keeps-clause files r written d is done =
+      λ seven told tells run right still.
+      subst (λ (e : Done). IsSome e.kept) (sym done) (ran files r told run is tells right still)
+
+  low : (r : Reply) → IsSome (reply_kept r) → IsOneOf (0 ∷ 1 ∷ []) (reply_status r)
+  low (reply.Ran r) kept = verdict_low r.verdict
+  low (reply.Refused name) kept = absurd (cc kept)
+  low (reply.Absent name) kept = absurd (cc kept)
+  low (reply.TooLarge name) kept = absurd (cc kept)
+  low (reply.Faulted name) kept = absurd (cc kept)
+
+  complete_with : (files : Option Files) (write_rose : Type 0) (r : Reply) (written : Bool)
+      → IsReply files rose o r → OnFalse written write_rose
+      → IsComplete files o rose write_rose (done_with r written).kept (done_with r written).status
+  complete_with files write_rose r true is cause =
+      λ told tells run right still sink_still.
+      let kept = ran files r told run is tells right still in
+      inl (kept, low r kept)
+  complete_with files write_rose r false is cause =
+      λ told tells run right still sink_still. absurd (sink_still cause)
+
+  pub complete-clause : (files : Option Files) (write_rose : Type 0) (r : Reply) (written : Bool) (d : Done)
+      → IsReply files rose o r → d ≡ done_with r written → OnFalse written write_rose
+      → IsComplete files o rose write_rose d.kept d.status
+  complete-clause files write_rose r written d is done cause =
+      subst (λ (e : Done). IsComplete files o rose write_rose e.kept e.status) (sym done) (complete_with files write_rose r written is cause)

@@ -1,0 +1,44 @@
+use Rattle.std.proofs.Common.{IfSome, sym, ◌∙◌, subst}
+use Rattle.ruby_outside.specs.Faults.{Rose}
+use Rattle.ruby_cli.specs.declared.top.Done.{Done}
+use Rattle.ruby_cli.specs.Top.{IsWholeRun, IsAsAsked}
+use Rattle.ruby_cli.proofs.Replies.{run-clause, asked-clause, written-clause, cut-clause, keeps-clause, complete-clause}
+use Rattle.ruby_cli.proofs.top.ruby_alone.Goals as goal
+
+pub returns-in-Ok-clause-record_is_a_run : goal.returns-in-Ok-clause-record_is_a_run
+returns-in-Ok-clause-record_is_a_run g c =
+    let rose = Rose (g.L.Library.faults c.args.library.now) (g.L.Library.faults c.prepare.new.library) in
+    subst (λ (d : Done). IfSome d.kept IsWholeRun) (sym c.finish.ensures)
+    (run-clause rose c.args.options (g.L.Library.files c.args.library.now) c.in-Ok.reply c.write_lines-written.result c.in-Ok.ensures.reply)
+
+pub returns-in-Ok-clause-as_asked : goal.returns-in-Ok-clause-as_asked
+returns-in-Ok-clause-as_asked g c =
+    let rose = Rose (g.L.Library.faults c.args.library.now) (g.L.Library.faults c.prepare.new.library) in
+    let files = g.L.Library.files c.args.library.now in
+    subst (λ (d : Done). IfSome d.kept (IsAsAsked files c.args.options)) (sym c.finish.ensures)
+    (asked-clause rose c.args.options files c.in-Ok.reply c.write_lines-written.result c.in-Ok.ensures.reply)
+
+pub returns-in-Ok-clause-as_written : goal.returns-in-Ok-clause-as_written
+returns-in-Ok-clause-as_written g c =
+    let rose = Rose (g.L.Library.faults c.args.library.now) (g.L.Library.faults c.prepare.new.library) in
+    written-clause rose c.args.options (g.L.Library.files c.args.library.now) c.in-Ok.reply c.write_lines-written.result
+    (g.S.Sink.written c.args.sink.now) (g.S.Sink.written c.write_lines-written.new.sink) c.as_slice.result.now c.finish.result
+    c.in-Ok.ensures.reply (c.as_slice.ensures ∙ c.in-Ok.ensures.text) c.finish.ensures c.write_lines-written.ensures.whole
+
+pub returns-in-Ok-clause-cut_off : goal.returns-in-Ok-clause-cut_off
+returns-in-Ok-clause-cut_off g c =
+    let rose = Rose (g.L.Library.faults c.args.library.now) (g.L.Library.faults c.prepare.new.library) in
+    cut-clause rose c.args.options (g.L.Library.files c.args.library.now) c.in-Ok.reply c.write_lines-written.result
+    (g.S.Sink.written c.args.sink.now) (g.S.Sink.written c.write_lines-written.new.sink) c.as_slice.result.now c.finish.result
+    c.in-Ok.ensures.reply (c.as_slice.ensures ∙ c.in-Ok.ensures.text) c.finish.ensures c.write_lines-written.ensures.cut_off
+
+pub returns-in-Ok-clause-keeps_run : goal.returns-in-Ok-clause-keeps_run
+returns-in-Ok-clause-keeps_run g c =
+    let rose = Rose (g.L.Library.faults c.args.library.now) (g.L.Library.faults c.prepare.new.library) in
+    keeps-clause rose c.args.options (g.L.Library.files c.args.library.now) c.in-Ok.reply c.write_lines-written.result c.finish.result c.in-Ok.ensures.reply c.finish.ensures
+
+pub returns-in-Ok-clause-complete : goal.returns-in-Ok-clause-complete
+returns-in-Ok-clause-complete g c =
+    let rose = Rose (g.L.Library.faults c.args.library.now) (g.L.Library.faults c.prepare.new.library) in
+    let write_rose = Rose (g.S.Sink.faults c.args.sink.now) (g.S.Sink.faults c.write_lines-written.new.sink) in
+    complete-clause rose c.args.options (g.L.Library.files c.args.library.now) write_rose c.in-Ok.reply c.write_lines-written.result c.finish.result c.in-Ok.ensures.reply c.finish.ensures c.write_lines-written.ensures.cause

@@ -1,0 +1,75 @@
+// What the words of a command line ask for.
+ghost use Rattle.std.specs.Prelude.{◌≡◌, ◌≤◌, ◌<◌, ◌*◌, ◌+◌, ◌-◌, IfOk, IfSome, IfNone, IsTrue, IsUtf8, Some, None, if◌then◌else◌, map, string_bytes};
+ghost use Rattle.std.specs.List.{list_all};
+ghost use Rattle.ruby_cli.specs.Words.{is_digit as is_digit_byte, is_count as is_count_word, value_of, asked as asked_of};
+
+use ruby_base::{NoMemory, Text};
+use slicc_meaning::{Command, Options};
+use std::alloc::Global;
+
+// The most requests of a plain run.
+const MOST_REQUESTS: u64 = 100_000;
+
+fn is_digit(c: u8) -> bool
+    ensures { result ≡ is_digit_byte c }
+{
+    48 <= c && c <= 57
+}
+
+fn are_digits(word: &[u8]) -> bool
+    ensures { result ≡ list_all is_digit_byte word.now }
+{
+    word.iter().all(|c| is_digit(*c))
+}
+
+// The value of digits, or none where it is above the bound.
+fn value(word: &[u8]) -> Option<u64>
+    requires { IsTrue (list_all is_digit_byte word.now) }
+    ensures some { IfSome result (λ n. (n ≡ value_of word.now) × (n ≤ 100000)) }
+    ensures none { IfNone result (100000 < value_of word.now) }
+{
+    let mut value = 0;
+    for c in word {
+        value = value * 10 + u64::from(*c - 48);
+        if MOST_REQUESTS < value {
+            return None;
+        }
+    }
+    Some(value)
+}
+
+// The number that a word is, if it is one of at most twenty digits and within the bound.
+fn count(word: &[u8]) -> Option<u64>
+    ensures { result ≡ (if is_count_word word.now then Some (value_of word.now) else None) }
+{
+    if word.is_empty() || 20 < word.len() || !are_digits(word) {
+        return None;
+    }
+    value(word)
+}
+
+/// What the words ask for, if they ask for anything. Its protocol is one of the words, which are UTF-8.
+pub fn asked(alloc: Global, words: &[String]) -> Result<Option<Options>, NoMemory>
+    ensures asked { IfOk result (λ o. o ≡ asked_of (map string_bytes words.now)) }
+    ensures name { IfOk result (λ o. IfSome o (λ options. IsUtf8 options.protocol)) }
+    ensures bounds { IfOk result (λ o. IfSome o (λ options. (options.count ≤ 100000) × (options.cycles ≡ 1000000) × (options.limit ≡ 32))) }
+{
+    let [command, protocol, number] = words else {
+        return Ok(None);
+    };
+    if command.as_bytes() != b"run".as_slice() {
+        return Ok(None);
+    }
+    let Some(count) = count(number.as_bytes()) else {
+        return Ok(None);
+    };
+    let name = protocol.as_str();
+    let protocol = Text::copied(alloc, name.as_bytes())?;
+    Ok(Some(Options {
+        command: Command::Plain,
+        protocol,
+        count,
+        cycles: 1_000_000,
+        limit: 32,
+    }))
+}
