@@ -26,4 +26,6 @@ pub use text::text_of;
 pub use top::{Done, ruby_alone};
 
 #[cfg(test)]
+mod calls;
+#[cfg(test)]
 mod tests;

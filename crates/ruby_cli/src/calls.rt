@@ -1,0 +1,152 @@
+// Whole calls over libraries and sinks in memory. The expected bytes are those that the texts' forms prescribe.
+use super::*;
+use ruby_base::{NoMemory, Seq, Text};
+use ruby_outside::{MemLibrary, MemSink, OpenGate, SureLibrary, SureSink};
+use std::alloc::Global;
+use std::test::Fail;
+
+const TICK: &str = "machine(MachineType:Node, \"ticker\")
+  : MessageBuffer * mandatoryQueue;
+{
+  state_declaration(State, desc=\"states\", default=\"Node_State_A\") {
+    A, AccessPermission:Invalid, desc=\"a\";
+    B, AccessPermission:Read_Write, desc=\"b\";
+  }
+  enumeration(Event, desc=\"events\") { Go, desc=\"go\"; }
+  in_port(mandatory_in, RubyRequest, mandatoryQueue) {
+    if (mandatory_in.isReady(clockEdge())) {
+      peek(mandatory_in, RubyRequest) {
+        trigger(Event:Go, in_msg.LineAddress);
+      }
+    }
+  }
+  action(p_pop, \"p\", desc=\"pop\") { mandatory_in.dequeue(clockEdge()); }
+  transition(A, Go, B) { p_pop; }
+";
+
+const BACK: &str = "  transition(B, Go, A) { p_pop; }
+";
+
+const THREE: &str = "1 Node-0 0x0 A Go B
+2 Node-0 0x0 B Go A
+3 Node-0 0x0 A Go B
+final Node-0 0x0 B
+messages 3 consumed 3 queued 0 stalled 0 recycled 0
+verdict quiet 3
+";
+
+const NONE: &str = "messages 0 consumed 0 queued 0 stalled 0 recycled 0
+verdict quiet 0
+";
+
+const STOPPED: &str = "1 Node-0 0x0 A Go B
+stop 2 Node-0 0x0 B Go invalid
+final Node-0 0x0 B
+messages 2 consumed 1 queued 1 stalled 0 recycled 0
+verdict stop 2 Node-0
+";
+
+const USAGE: &str =
+    "usage: ruby run PROTOCOL TOPOLOGY, check PROTOCOL, table PROTOCOL, code PROTOCOL, gen N
+";
+
+/// The ticker, with its last transition or without it.
+fn ticker(alloc: Global, whole: bool) -> Result<Text, NoMemory> {
+    let mut text = Text::copied(alloc, TICK.as_bytes())?;
+    if whole {
+        text.append(BACK.as_bytes())?;
+    }
+    text.append(b"}\n")?;
+    Ok(text)
+}
+
+/// The one file `tick.sm`.
+fn files(alloc: Global, bytes: Text) -> Result<Seq<(Text, Text)>, NoMemory> {
+    let mut files = Seq::new(alloc);
+    files.push((Text::copied(alloc, b"tick.sm")?, bytes))?;
+    Ok(files)
+}
+
+fn words(alloc: Global, words: &[&str]) -> Result<Vec<String>, NoMemory> {
+    let mut all = Vec::new(alloc);
+    for word in words {
+        all.push(String::from_str(alloc, word)?)?;
+    }
+    Ok(all)
+}
+
+#[test]
+fn answers_each_kind_of_call(rt: HostRuntime) -> Result<(), Fail> {
+    let alloc = rt.alloc();
+    let rows: [(&[&str], u8, &str); 9] = [
+        (&["run", "tick.sm", "3"], 0, THREE),
+        (&["run", "tick.sm", "003"], 0, THREE),
+        (&["run", "tick.sm", "0"], 0, NONE),
+        (&["run", "gone.sm", "3"], 6, "absent gone.sm\n"),
+        (&["run", "tick.sm"], 2, USAGE),
+        (&["walk", "tick.sm", "3"], 2, USAGE),
+        (&["run", "tick.sm", "100001"], 2, USAGE),
+        (&["run", "tick.sm", "3a"], 2, USAGE),
+        (&["run", "tick.sm", "3", "4"], 2, USAGE),
+    ];
+    for (asked, status, expected) in rows {
+        let mut library = MemLibrary::new(
+            alloc,
+            files(alloc, ticker(alloc, true)?)?,
+            Seq::new(alloc),
+        );
+        let mut sink = MemSink::new(alloc, Seq::new(alloc), 4096, 4096)?;
+        let asked = words(alloc, asked)?;
+        let done = ruby(
+            &rt,
+            alloc,
+            asked.as_slice(),
+            &mut library,
+            &mut sink,
+            &OpenGate,
+        );
+        assert_eq!(rt; sink.bytes(), expected.as_bytes());
+        assert_eq!(rt; done.status, status);
+    }
+    Ok(())
+}
+
+#[test]
+fn answers_each_kind_of_file(rt: HostRuntime) -> Result<(), Fail> {
+    let alloc = rt.alloc();
+    let whole = ticker(alloc, true)?;
+    let room = 1_048_576 - whole.len();
+    let spaces = vec![in alloc; b' '; room]?;
+    let mut longest = ticker(alloc, true)?;
+    longest.append(&spaces)?;
+    let mut too_long = ticker(alloc, true)?;
+    too_long.append(&spaces)?;
+    too_long.push(b' ')?;
+    let rows = [
+        (ticker(alloc, false)?, "2", 1, STOPPED),
+        (
+            Text::copied(alloc, b"// a comment")?,
+            "2",
+            3,
+            "refused tick.sm:1:1 U1\n",
+        ),
+        (longest, "3", 0, THREE),
+        (too_long, "3", 9, "too large tick.sm\n"),
+    ];
+    for (bytes, count, status, expected) in rows {
+        let mut library = MemLibrary::new(alloc, files(alloc, bytes)?, Seq::new(alloc));
+        let mut sink = MemSink::new(alloc, Seq::new(alloc), 4096, 4096)?;
+        let asked = words(alloc, &["run", "tick.sm", count])?;
+        let done = ruby(
+            &rt,
+            alloc,
+            asked.as_slice(),
+            &mut library,
+            &mut sink,
+            &OpenGate,
+        );
+        assert_eq!(rt; sink.bytes(), expected.as_bytes());
+        assert_eq!(rt; done.status, status);
+    }
+    Ok(())
+}
