@@ -1,0 +1,7 @@
+pub mod DefaultValue
+pub mod HasKind
+pub mod IsBefore
+pub mod SameKind
+pub mod TakesValue
+pub mod WithMember
+pub mod WithoutMember

@@ -1,0 +1,24 @@
+/// What values a field, a parameter or an operand of the action machine may have. Two kinds are equal where
+/// they take the same values, whatever the default member of an enumeration is.
+#[derive(Clone, Copy, Debug)]
+#[derive_where(PartialEq, Eq)]
+pub enum Kind {
+    /// `bool`.
+    Bool,
+    /// `int`, `Cycles` and `Tick`: a signed number of 64 bits.
+    Int,
+    /// A member of the enumeration of this number, and the member that a new value has.
+    Enum(u16, #[derive_where(skip(EqHashOrd))] u16),
+    /// `Addr`: a byte address.
+    Addr,
+    /// `MachineID`: the number of a controller.
+    Machine,
+    /// `NetDest`: a set of controllers.
+    Dest,
+    /// `DataBlock`: the 64 bytes of a line.
+    Block,
+    /// A reference to a line of a cache or of a directory, of the structure of this number.
+    Entry(u16),
+    /// A reference to a line of a TBE table, of the structure of this number.
+    Tbe(u16),
+}
