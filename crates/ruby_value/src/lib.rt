@@ -6,6 +6,7 @@ mod arithmetic;
 mod fault;
 mod fields;
 mod kind;
+mod line_map;
 mod message;
 mod net_dest;
 #[cfg(test)]
@@ -16,6 +17,7 @@ pub use arithmetic::{add, mul, sub};
 pub use fault::{Fault, Finding};
 pub use fields::Fields;
 pub use kind::Kind;
+pub use line_map::LineMap;
 pub use message::{Message, MsgNo};
 pub use net_dest::NetDest;
 pub use ruby_base::{NoMemory, Seq, Text};

@@ -138,3 +138,17 @@ fn numbers_go_by_sender_and_then_by_count(rt: HostRuntime) -> Result<(), Fail> {
     assert_eq!(rt; copy.arrival, 17);
     Ok(())
 }
+
+#[test]
+fn a_map_keeps_one_value_under_each_line(rt: HostRuntime) -> Result<(), Fail> {
+    let mut kept = LineMap::new(rt.alloc());
+    for (line, value, old) in [(7, 1u8, None), (3, 2, None), (7, 4, Some(1))] {
+        assert_eq!(rt; kept.insert(line, value), Ok(old));
+    }
+    assert_eq!(rt; kept.len(), 2);
+    assert_eq!(rt; kept.get(7), Some(&4));
+    assert_eq!(rt; kept.remove(3), Some(2));
+    assert_eq!(rt; kept.remove(3), None);
+    assert!(rt; kept.contains(7) && !kept.contains(3));
+    Ok(())
+}
