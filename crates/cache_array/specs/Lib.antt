@@ -1,0 +1,9 @@
+pub mod Available
+pub mod Cache
+pub mod Directory
+pub mod FieldsOf
+pub mod MadeRecent
+pub mod SetOf
+pub mod WithFields
+pub mod WithSet
+pub mod WithoutLine
