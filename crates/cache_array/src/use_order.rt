@@ -1,4 +1,5 @@
 ghost use Rattle.std.specs.Prelude.{◌≡◌, ◌==◌, ◌<◌, ◌↔◌, [], ◌∷◌, ◌++◌, length, position, slice_get, is_some, IsTrue, IsSome, IfSome, IfNone, OnOk, OnErr, OnSome, IfOk, IfErr, None, Some};
+ghost use Rattle.std.specs.Bool.{OnFalse};
 ghost use Rattle.std.specs.Option.{option_copied, option_map};
 ghost use Rattle.cache_array.specs.FieldsOf.{fields_of};
 ghost use Rattle.cache_array.specs.MadeRecent.{made_recent};
@@ -98,6 +99,7 @@ impl UseOrder {
     pub(crate) fn make_recent(&mut self, line: u64) -> bool
         ensures found { result ≡ is_some (fields_of self.old line) }
         ensures after { self.new ≡ made_recent self.old line }
+        ensures not_there { OnFalse result (self.new ≡ self.old) }
     {
         let Some(at) = self.place(line) else {
             return false;

@@ -1,4 +1,4 @@
-use Rattle.std.proofs.Common.{refl, sym, ap, ◌∙◌}
+use Rattle.std.proofs.Common.{sym}
 use Rattle.cache_array.proofs.Lines.{found, absent}
 use Rattle.cache_array.proofs.use_order.UseOrder.replace.Goals as goal
 
