@@ -1,4 +1,5 @@
 pub mod DefaultValue
+pub mod EqualKinds
 pub mod HasKind
 pub mod IsBefore
 pub mod SameKind

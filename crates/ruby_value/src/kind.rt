@@ -1,3 +1,6 @@
+ghost use Rattle.std.specs.Prelude.{◌≡◌};
+ghost use Rattle.ruby_value.specs.EqualKinds.{equal_kinds};
+
 /// What values a field, a parameter or an operand of the action machine may have. Two kinds are equal where
 /// they take the same values, whatever the default member of an enumeration is.
 #[derive(Clone, Copy, Debug)]
@@ -21,4 +24,13 @@ pub enum Kind {
     Entry(u16),
     /// A reference to a line of a TBE table, of the structure of this number.
     Tbe(u16),
+}
+
+impl Kind {
+    /// Whether the two kinds are equal, which `==` tells too.
+    pub fn equals(self, other: Kind) -> bool
+        ensures { result ≡ equal_kinds self other }
+    {
+        self == other
+    }
 }

@@ -84,7 +84,8 @@ fn references_are_of_one_kind_whatever_they_name(rt: HostRuntime) -> Result<(), 
     let mut fields = Fields::of(held);
     assert_eq!(rt; fields.set(0, Value::Entry(Some(line))), Ok(()));
     assert_eq!(rt; fields.set(1, Value::Entry(None)), Err(Value::Entry(None)));
-    assert_eq!(rt; Kind::Enum(1, 0), Kind::Enum(1, 5));
+    assert!(rt; Kind::Enum(1, 0).equals(Kind::Enum(1, 5)));
+    assert!(rt; !Kind::Enum(1, 0).equals(Kind::Enum(2, 0)));
     assert_ne!(rt; Kind::Entry(1), Kind::Entry(2));
     Ok(())
 }
