@@ -1,7 +1,10 @@
+pub mod AreLinesOf
 pub mod Available
 pub mod Cache
 pub mod Directory
 pub mod FieldsOf
+pub mod HasLawfulSets
+pub mod IsCache
 pub mod MadeRecent
 pub mod SetOf
 pub mod WithFields

@@ -1,7 +1,8 @@
-ghost use Rattle.std.specs.Prelude.{◌≡◌, ◌≢◌, ◌≤◌, ◌<◌, ◌*◌, ◌%◌, ◌↔◌, [], ◌∷◌, ◌++◌, length, replicate, slice_get, is_some, IsTrue, IsNone, IsErrOf, IfOk, IfErr, OnOk, OnErr, OnSome, None, Some, false};
+ghost use Rattle.std.specs.Prelude.{◌≡◌, ◌≢◌, ◌≤◌, ◌<◌, ◌*◌, ◌%◌, ◌↔◌, [], ◌∷◌, ◌++◌, length, replicate, slice_get, is_some, IsTrue, IsNone, IsOk, IsErrOf, IfOk, IfErr, OnOk, OnErr, OnSome, None, Some, false};
 ghost use Rattle.std.specs.Option.{option_copied, option_map};
 ghost use Rattle.cache_array.specs.Available.{available};
 ghost use Rattle.cache_array.specs.FieldsOf.{fields_of};
+ghost use Rattle.cache_array.specs.IsCache.{IsCache};
 ghost use Rattle.cache_array.specs.MadeRecent.{made_recent};
 ghost use Rattle.cache_array.specs.SetOf.{set_of};
 ghost use Rattle.cache_array.specs.WithFields.{with_fields};
@@ -41,8 +42,8 @@ pub struct CacheArray {
 }
 
 impl Model for CacheArray {
-    ghost use Rattle.std.specs.Prelude.{◌<◌, vec_len};
     ghost use Rattle.cache_array.specs.Cache.{Cache, cache_code};
+    ghost use Rattle.cache_array.specs.IsCache.{IsCache};
 
     ghost Value = { Cache };
 
@@ -50,7 +51,7 @@ impl Model for CacheArray {
 
     ghost view = { λ c. record { ways = c.ways; sets = c.sets.items } };
 
-    ghost invariant = { λ c. (0 < c.ways) × (0 < vec_len c.sets) };
+    ghost invariant = { λ c. IsCache (record { ways = c.ways; sets = c.sets.items }) };
 }
 
 impl CacheArray {
@@ -86,7 +87,7 @@ impl CacheArray {
     /// Whether the line is in the cache or its set has a free way, as gem5's `cacheAvail`. It takes no memory.
     pub fn avail(&self, line: u64) -> bool
         ensures answer { result ≡ available self.now line }
-        ensures some_ways { 1 ≤ self.now.ways }
+        ensures lawful { IsCache self.now }
     {
         let set = self.set(line);
         set.holds(line) || set.len() < self.ways as usize
@@ -125,10 +126,10 @@ impl CacheArray {
             return Err((CacheFault::SetFull, f));
         }
         let at = self.place(line);
-        match self.sets[at].push(line, f) {
-            Ok(()) => Ok(()),
-            Err(f) => Err((CacheFault::NoMemory, f)),
+        if let Err(f) = self.sets[at].push(line, f) {
+            return Err((CacheFault::NoMemory, f));
         }
+        Ok(())
     }
 
     /// Takes a line out of the cache and gives its fields back, or `NotThere` exactly where it isn't in the
@@ -142,23 +143,25 @@ impl CacheArray {
         ensures refused { OnErr result (self.new ≡ self.old) }
     {
         let at = self.place(line);
-        self.sets[at].remove(line).ok_or(CacheFault::NotThere)
+        let Some(f) = self.sets[at].remove(line) else {
+            return Err(CacheFault::NotThere);
+        };
+        Ok(f)
     }
 
     /// Makes a line the most recently used one of its set, in which the others stay in their order, or answers
     /// `NotThere` exactly where it isn't in the cache, and then the cache is as it was. It takes no memory.
     pub fn set_mru(&mut self, line: u64) -> Result<(), CacheFault>
         ensures ok { OnOk result (self.new ≡ with_set self.old line (made_recent (set_of self.old line) line)) }
-        ensures not_there { IsErrOf result CacheFault.NotThere ↔ (fields_of (set_of self.old line) line ≡ None) }
+        ensures there { IsOk result ↔ IsTrue (is_some (fields_of (set_of self.old line) line)) }
         ensures only_not_there { IfErr result (λ fault. fault ≡ CacheFault.NotThere) }
         ensures refused { OnErr result (self.new ≡ self.old) }
     {
         let at = self.place(line);
-        if self.sets[at].make_recent(line) {
-            Ok(())
-        } else {
-            Err(CacheFault::NotThere)
+        if !self.sets[at].make_recent(line) {
+            return Err(CacheFault::NotThere);
         }
+        Ok(())
     }
 
     /// Puts fields in the place of those of a line, which it gives back, or `NotThere` with the new fields
@@ -174,7 +177,7 @@ impl CacheArray {
         let at = self.place(line);
         match self.sets[at].replace(line, f) {
             Ok(old) => Ok(old),
-            Err(f) => Err((CacheFault::NotThere, f)),
+            Err(f) => return Err((CacheFault::NotThere, f)),
         }
     }
 
