@@ -2,7 +2,8 @@ ghost use Rattle.std.specs.Prelude.{◌+ℤ◌, ◌-ℤ◌, ◌*ℤ◌, FitsSign
 ghost use Rattle.std.specs.Int.{w64};
 ghost use Rattle.std.specs.Option.{SomeIff};
 
-/// The sum of two signed numbers, or `None` exactly where it is outside 64 bits.
+/// The sum of two signed numbers, or `None` exactly where it is outside 64 bits. That nothing wraps is this
+/// project's own rule; in gem5 it is left to C++. So it is for `sub` and `mul`.
 pub fn add(a: i64, b: i64) -> Option<i64>
     ensures { SomeIff result (FitsSigned w64 (a +ℤ b)) (a +ℤ b) }
 {

@@ -1,7 +1,10 @@
-use crate::Text;
+ghost use Rattle.std.specs.Prelude.{◌≡◌, IfOk};
 
-/// Why a transition can't go on, one variant for each word that the program prints. Which rule each of them
-/// breaks is this project's own reading of what SLICC and Ruby in gem5 assert.
+use crate::{NoMemory, Text};
+use std::alloc::Global;
+
+/// Why a transition can't go on, one variant for each word that the program prints. gem5 stops there with an
+/// assertion or a panic; the words, and which case has which, are this project's own.
 #[derive(Debug, Drop)]
 pub enum Fault {
     /// No transition is written for the state and the event.
@@ -34,8 +37,32 @@ pub enum Fault {
     Copies,
 }
 
-/// What a driver finds at its turn. The lines are line numbers, the bytes of a line are counted from 0, and
-/// cycles are counted from 0.
+impl Fault {
+    /// The same fault once more, with a text of its own.
+    pub fn copied(alloc: Global, fault: &Fault) -> Result<Fault, NoMemory>
+        ensures { IfOk result (λ f. f ≡ fault.now) }
+    {
+        Ok(match fault {
+            Fault::Invalid => Fault::Invalid,
+            Fault::Assert => Fault::Assert,
+            Fault::Error(text) => Fault::Error(Text::copied(alloc, text.as_slice())?),
+            Fault::Overflow => Fault::Overflow,
+            Fault::Latency => Fault::Latency,
+            Fault::Reference => Fault::Reference,
+            Fault::Front => Fault::Front,
+            Fault::Full => Fault::Full,
+            Fault::Present => Fault::Present,
+            Fault::Absent => Fault::Absent,
+            Fault::Probe => Fault::Probe,
+            Fault::Callback => Fault::Callback,
+            Fault::Route => Fault::Route,
+            Fault::Copies => Fault::Copies,
+        })
+    }
+}
+
+/// What a driver finds at its turn, which is this project's own. Lines are line numbers, the bytes of a line are
+/// counted from 0, and so are cycles.
 #[derive(Clone, Copy, Debug, PartialEq, Eq)]
 pub enum Finding {
     /// A load answered another byte than the one that was stored last.

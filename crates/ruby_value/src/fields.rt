@@ -9,7 +9,7 @@ use std::marker::Model;
 use std::mem;
 
 /// The fields of a message or of a table's line, in the order of their declaration. A contract sees them as the
-/// list of their values.
+/// list of their values. A field keeps the kind of its first value, as SLICC's fields keep their types.
 #[derive(Debug, Drop)]
 pub struct Fields {
     values: Vec<Value>,

@@ -1,8 +1,8 @@
 ghost use Rattle.std.specs.Prelude.{◌≡◌};
 ghost use Rattle.ruby_value.specs.EqualKinds.{equal_kinds};
 
-/// What values a field, a parameter or an operand of the action machine may have. Two kinds are equal where
-/// they take the same values, whatever the default member of an enumeration is.
+/// What values a field, a parameter or an operand of the action machine may have: SLICC's types, and the default
+/// member of an enumeration beside its number. No comparison of kinds looks at the default member.
 #[derive(Clone, Copy, Debug)]
 #[derive_where(PartialEq, Eq)]
 pub enum Kind {

@@ -7,8 +7,9 @@ use crate::NoMemory;
 use std::alloc::{AllocError, Global};
 use std::marker::Model;
 
-/// A set of controllers, as the destination of a message. A contract sees it as the ascending list of their
-/// numbers, in which none comes twice.
+/// A set of controllers, as the destination of a message, which is what gem5's SLICC calls `NetDest`. A contract
+/// sees it as the ascending list of their numbers, in which none comes twice; that they are numbered over all
+/// machines is this project's own rule. A look-up costs about the logarithm of how many there are.
 #[derive(Debug, Drop)]
 pub struct NetDest {
     members: Vec<u32>,

@@ -153,3 +153,15 @@ fn a_map_keeps_one_value_under_each_line(rt: HostRuntime) -> Result<(), Fail> {
     assert!(rt; kept.contains(7) && !kept.contains(3));
     Ok(())
 }
+
+#[test]
+fn a_fault_is_copied_with_its_text(rt: HostRuntime) -> Result<(), Fail> {
+    let alloc = rt.alloc();
+    let fault = Fault::Error(Text::copied(alloc, b"no such state")?);
+    let Fault::Error(text) = Fault::copied(alloc, &fault)? else {
+        return Err(Fail::from("another fault"));
+    };
+    assert_eq!(rt; text.as_slice(), b"no such state".as_slice());
+    assert!(rt; matches!(Fault::copied(alloc, &Fault::Probe)?, Fault::Probe));
+    Ok(())
+}

@@ -13,14 +13,14 @@ pub struct Block {
 }
 
 /// Names a line of one of a controller's tables: the table's number within its machine, and the line number,
-/// which is the byte address divided by 64.
+/// which is the byte address divided by 64. gem5 has a pointer to the entry in its place.
 #[derive(Clone, Copy, Debug, PartialEq, Eq)]
 pub struct Ref {
     pub table: u16,
     pub line: u64,
 }
 
-/// A value of a local, a parameter, or a field of a message or of a table's line.
+/// A value of a local, a parameter, or a field of a message or of a table's line. The types are SLICC's.
 #[derive(Debug, Drop, PartialEq, Eq)]
 pub enum Value {
     Bool(bool),
