@@ -51,7 +51,8 @@ fn each_kind_has_its_default(rt: HostRuntime) -> Result<(), Fail> {
     assert_eq!(rt; fields.as_slice(), want.as_slice());
     for (kind, value) in kinds.iter().zip(want.iter()) {
         assert_eq!(rt; default_of(alloc, kind)?, *value);
-        assert!(rt; value.has_kind(kind));
+        assert!(rt; value.has_kind(kind) && value.shares_kind(value));
+        assert!(rt; value.equals(&value.clone()?));
     }
     Ok(())
 }

@@ -1,4 +1,4 @@
-ghost use Rattle.std.specs.Prelude.{◌≡◌, IsTrue};
+ghost use Rattle.std.specs.Prelude.{◌≡◌, ◌↔◌, IsTrue};
 ghost use Rattle.ruby_value.specs.DefaultValue.{default_value};
 ghost use Rattle.ruby_value.specs.HasKind.{has_kind};
 ghost use Rattle.ruby_value.specs.SameKind.{same_kind};
@@ -42,6 +42,13 @@ pub enum Value {
 }
 
 impl Value {
+    /// Whether the two values are the same, which `==` tells too.
+    pub fn equals(&self, other: &Value) -> bool
+        ensures { IsTrue result ↔ (self.now ≡ other.now) }
+    {
+        *self == *other
+    }
+
     /// Whether the two values are of one kind: the same variant, and two members of the same enumeration.
     /// References are of one kind whatever structures they name.
     pub fn shares_kind(&self, other: &Value) -> bool
