@@ -1,12 +1,10 @@
 -- A line's set is read, edited and put back: what the cache is then.
-use Rattle.std.proofs.Common.{◌≡◌, ℕ, ◌<◌, ◌≤◌, ◌%◌, true, false, List, [], ◌∷◌, ◌++◌, length, get_or, set, replicate, Option, Some, None, is_some, eqb, refl, sym, ap, ◌∙◌, subst, arith, length-append}
+use Rattle.std.proofs.Common.{◌≡◌, ℕ, ◌<◌, ◌≤◌, ◌%◌, false, List, [], ◌∷◌, ◌++◌, length, get_or, set, replicate, Option, Some, None, is_some, eqb, refl, sym, ap, ◌∙◌, subst, arith, length-append}
 use mathlib.Core.Bool.{false≢true}
 use Rattle.std.proofs.Math.ListN.{length-set}
-use Rattle.std.proofs.lemmas.Bool.{ltb-true}
 use Rattle.std.proofs.lemmas.List.{get_or_default, length-replicate}
 use Rattle.ruby_value.specs.declared.value.Value.{Value}
 use Rattle.cache_array.specs.AreLinesOf.{AreLinesOf}
-use Rattle.cache_array.specs.Available.{available}
 use Rattle.cache_array.specs.Cache.{Cache, Line}
 use Rattle.cache_array.specs.FieldsOf.{fields_of}
 use Rattle.cache_array.specs.IsCache.{IsCache}
@@ -68,10 +66,10 @@ module _ (cache : Cache) (line at : ℕ) (lines : List Line) (r : IsRead cache l
     pub cache_same : (new : List Line) → new ≡ lines → IsCache (record { ways = cache.ways; sets = set cache.sets at new })
     cache_same new is = rw is (edited lines within own)
 
-    pub cache_push : (new : List Line) (f : List Value) → is_some (fields_of (set_of cache line) line) ≡ false → available cache line ≡ true → new ≡ lines ++ (line, f) ∷ [] → IsCache (record { ways = cache.ways; sets = set cache.sets at new })
+    pub cache_push : (new : List Line) (f : List Value) → is_some (fields_of (set_of cache line) line) ≡ false → length (set_of cache line) < cache.ways → new ≡ lines ++ (line, f) ∷ [] → IsCache (record { ways = cache.ways; sets = set cache.sets at new })
     cache_push new f absent room is =
         let none = subst (λ s. fields_of s line ≡ None) (sym read_set) (none_from _ absent) in
-        let free : length lines < cache.ways = rw read_set (ltb-true _ _ (rw absent at room)) in
+        let free : length lines < cache.ways = rw read_set room in
         rw is (edited _ (rw length-append (omega arith)) (lines_push _ _ lines line f own refl none))
 
 -- a new cache

@@ -2,6 +2,7 @@ pub mod AreLinesOf
 pub mod Available
 pub mod Cache
 pub mod Directory
+pub mod FieldsAt
 pub mod FieldsOf
 pub mod HasLawfulSets
 pub mod IsCache

@@ -122,7 +122,7 @@ impl CacheArray {
         if self.is_tag_present(line) {
             return Err((CacheFault::AlreadyThere, f));
         }
-        if !self.avail(line) {
+        if self.set(line).len() >= self.ways as usize {
             return Err((CacheFault::SetFull, f));
         }
         let at = self.place(line);
@@ -175,10 +175,11 @@ impl CacheArray {
         ensures refused { OnErr result (self.new ≡ self.old) }
     {
         let at = self.place(line);
-        match self.sets[at].replace(line, f) {
-            Ok(old) => Ok(old),
+        let old = match self.sets[at].replace(line, f) {
+            Ok(old) => old,
             Err(f) => return Err((CacheFault::NotThere, f)),
-        }
+        };
+        Ok(old)
     }
 
     /// The line at a place of the set that a line belongs to, counted from 0 and from the least recently used

@@ -1,6 +1,7 @@
 ghost use Rattle.std.specs.Prelude.{◌≡◌, IfErr, OnOk, OnErr};
 ghost use Rattle.std.specs.FinMap as map;
-ghost use Rattle.cache_array.specs.Directory.{Directory, fields_at};
+ghost use Rattle.cache_array.specs.Directory.{Directory};
+ghost use Rattle.cache_array.specs.FieldsAt.{fields_at};
 
 use crate::{Fields, NoMemory};
 use ruby_value::LineMap;

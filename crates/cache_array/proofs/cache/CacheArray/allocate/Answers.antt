@@ -1,5 +1,6 @@
-use Rattle.std.proofs.Common.{◌∷◌, [], ◌++◌, sym}
+use Rattle.std.proofs.Common.{◌<◌, length, arith, ◌∷◌, [], ◌++◌, sym}
 use Rattle.cache_array.specs.Cache.{Cache}
+use Rattle.cache_array.specs.SetOf.{set_of}
 use Rattle.cache_array.proofs.Edits.{IsRead, put_back, cache_push}
 use Rattle.cache_array.proofs.cache.CacheArray.allocate.Goals as goal
 
@@ -8,7 +9,8 @@ pub invariant_of-self-2 : goal.invariant_of-self-2
 invariant_of-self-2 c =
     let cache : Cache = record { ways = c.self.inside.ways; sets = c.self.inside.sets.items } in
     let r : IsRead cache c.args.line c.place-at.result c.index_mut.result.now = record { place = rw (← c.self.view_is) at c.place-at.ensures.place; inside = rw (← c.self.view_is) at c.place-at.ensures.within; read = c.index_mut.ensures.value } in
-    cache_push cache _ _ _ r c.self.invariant c.push.new.self c.args.f (sym (rw (← c.self.view_is) at c.if-is_tag_present.ensures)) (sym (rw (← c.self.view_is) at c.if-not-avail.ensures.answer)) c.in_default.ensures.ok
+    let free : length (set_of c.args.self.now c.args.line) < c.self.inside.ways = rw (← c.set.ensures, ← c.len.ensures) (omega arith) in
+    cache_push cache _ _ _ r c.self.invariant c.push.new.self c.args.f (sym (rw (← c.self.view_is) at c.if-is_tag_present.ensures)) (rw (← c.self.view_is) at free) c.in_default.ensures.ok
 
 pub returns-clause-ok : goal.returns-clause-ok
 returns-clause-ok c =
