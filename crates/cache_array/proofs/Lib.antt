@@ -1,0 +1,3 @@
+mod Edits
+mod Lines
+mod Sets

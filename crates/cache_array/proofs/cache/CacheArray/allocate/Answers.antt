@@ -1,0 +1,19 @@
+use Rattle.std.proofs.Common.{◌<◌, length, arith, ◌∷◌, [], ◌++◌, sym}
+use Rattle.cache_array.specs.Cache.{Cache}
+use Rattle.cache_array.specs.SetOf.{set_of}
+use Rattle.cache_array.proofs.Edits.{IsRead, put_back, cache_push}
+use Rattle.cache_array.proofs.cache.CacheArray.allocate.Goals as goal
+
+-- the set with one more line is a lawful one, since the line wasn't there and a way was free
+pub invariant_of-self-2 : goal.invariant_of-self-2
+invariant_of-self-2 c =
+    let cache : Cache = record { ways = c.self.inside.ways; sets = c.self.inside.sets.items } in
+    let r : IsRead cache c.args.line c.place-at.result c.index_mut.result.now = record { place = rw (← c.self.view_is) at c.place-at.ensures.place; inside = rw (← c.self.view_is) at c.place-at.ensures.within; read = c.index_mut.ensures.value } in
+    let free : length (set_of c.args.self.now c.args.line) < c.self.inside.ways = rw (← c.set.ensures, ← c.len.ensures) (omega arith) in
+    cache_push cache _ _ _ r c.self.invariant c.push.new.self c.args.f (sym (rw (← c.self.view_is) at c.if-is_tag_present.ensures)) (rw (← c.self.view_is) at free) c.in_default.ensures.ok
+
+pub returns-clause-ok : goal.returns-clause-ok
+returns-clause-ok c =
+    let cache : Cache = record { ways = c.self.inside.ways; sets = c.self.inside.sets.items } in
+    let r : IsRead cache c.args.line c.place-at.result c.index_mut.result.now = record { place = rw (← c.self.view_is) at c.place-at.ensures.place; inside = rw (← c.self.view_is) at c.place-at.ensures.within; read = c.index_mut.ensures.value } in
+    rw (← c.self.view_is) (put_back cache _ _ _ r (λ s. s ++ (c.args.line, c.args.f) ∷ []) c.push.new.self c.in_default.ensures.ok)

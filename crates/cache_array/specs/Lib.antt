@@ -1,0 +1,13 @@
+pub mod AreLinesOf
+pub mod Available
+pub mod Cache
+pub mod Directory
+pub mod FieldsAt
+pub mod FieldsOf
+pub mod HasLawfulSets
+pub mod IsCache
+pub mod MadeRecent
+pub mod SetOf
+pub mod WithFields
+pub mod WithSet
+pub mod WithoutLine

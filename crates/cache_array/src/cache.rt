@@ -1,0 +1,207 @@
+ghost use Rattle.std.specs.Prelude.{◌≡◌, ◌≢◌, ◌≤◌, ◌<◌, ◌*◌, ◌%◌, ◌↔◌, [], ◌∷◌, ◌++◌, length, replicate, slice_get, is_some, IsTrue, IsNone, IsOk, IsErrOf, IfOk, IfErr, OnOk, OnErr, OnSome, None, Some, false};
+ghost use Rattle.std.specs.Option.{option_copied, option_map};
+ghost use Rattle.cache_array.specs.Available.{available};
+ghost use Rattle.cache_array.specs.FieldsOf.{fields_of};
+ghost use Rattle.cache_array.specs.IsCache.{IsCache};
+ghost use Rattle.cache_array.specs.MadeRecent.{made_recent};
+ghost use Rattle.cache_array.specs.SetOf.{set_of};
+ghost use Rattle.cache_array.specs.WithFields.{with_fields};
+ghost use Rattle.cache_array.specs.WithSet.{with_set};
+ghost use Rattle.cache_array.specs.WithoutLine.{without_line};
+
+use crate::use_order::UseOrder;
+use crate::{Fields, NoMemory};
+use std::alloc::Global;
+use std::marker::Model;
+
+/// Why a cache refuses a call.
+#[derive(Clone, Copy, Debug, PartialEq, Eq)]
+pub enum CacheFault {
+    /// An allocation, of a line that isn't in the cache, where its set has as many lines as ways.
+    SetFull,
+    /// An allocation of a line that is in the cache.
+    AlreadyThere,
+    /// A call for a line that has to be in the cache and isn't.
+    NotThere,
+    /// There was no memory for one more line.
+    NoMemory,
+}
+
+/// A cache of sets and ways. Lines are line numbers, which are byte addresses divided by 64, and a line's set is
+/// its number modulo the sets, as in gem5. A contract sees for each set the list of its lines with their fields,
+/// the least recently used first; that no other order of replacement is offered is this project's own rule.
+///
+/// A call touches the set of its line alone and walks along the lines of that set, so it costs at most as many
+/// steps as there are ways, however many sets there are and however many lines they hold. Fields move in and
+/// out, and none are cloned. A set takes memory for the lines that it has held at once, and an empty one for its
+/// place in the list of sets alone.
+#[derive(Debug, Drop)]
+pub struct CacheArray {
+    ways: u32,
+    sets: Vec<UseOrder>,
+}
+
+impl Model for CacheArray {
+    ghost use Rattle.cache_array.specs.Cache.{Cache, cache_code};
+    ghost use Rattle.cache_array.specs.IsCache.{IsCache};
+
+    ghost Value = { Cache };
+
+    ghost coded = { cache_code };
+
+    ghost view = { λ c. record { ways = c.ways; sets = c.sets.items } };
+
+    ghost invariant = { λ c. IsCache (record { ways = c.ways; sets = c.sets.items }) };
+}
+
+impl CacheArray {
+    /// The empty cache with so many sets of so many ways each. It costs one step for each set.
+    pub fn new(alloc: Global, sets: u32, ways: u32) -> Result<CacheArray, NoMemory>
+        requires some_sets { 1 ≤ sets }
+        requires some_ways { 1 ≤ ways }
+        requires small { sets * ways ≤ 65536 }
+        ensures { IfOk result (λ cache. cache ≡ record { ways = ways; sets = replicate sets [] }) }
+    {
+        let mut empty = Vec::with_capacity(alloc, sets as usize)?;
+        for _set in 0..sets {
+            empty.push(UseOrder::new(alloc))?;
+        }
+        Ok(CacheArray { ways, sets: empty })
+    }
+
+    /// The fields of a line, or `None` exactly where the line isn't in the cache. The order of use stays as it
+    /// is, which is this project's own rule. It takes no memory.
+    pub fn lookup(&self, line: u64) -> Option<&Fields>
+        ensures { option_copied result ≡ fields_of (set_of self.now line) line }
+    {
+        self.set(line).get(line)
+    }
+
+    /// Whether the line is in the cache. It takes no memory.
+    pub fn is_tag_present(&self, line: u64) -> bool
+        ensures { result ≡ is_some (fields_of (set_of self.now line) line) }
+    {
+        self.set(line).holds(line)
+    }
+
+    /// Whether the line is in the cache or its set has a free way, as gem5's `cacheAvail`. It takes no memory.
+    pub fn avail(&self, line: u64) -> bool
+        ensures answer { result ≡ available self.now line }
+        ensures lawful { IsCache self.now }
+    {
+        let set = self.set(line);
+        set.holds(line) || set.len() < self.ways as usize
+    }
+
+    /// The least recently used line of the set that a line belongs to, or `None` exactly where the line has a
+    /// place already. It takes no memory.
+    pub fn probe(&self, line: u64) -> Option<u64>
+        ensures none { IsNone result ↔ IsTrue (available self.now line) }
+        ensures least_recently_used { OnSome result (result ≡ option_map (λ l. l.0) (slice_get (set_of self.now line) 0)) }
+    {
+        if self.avail(line) {
+            return None;
+        }
+        self.set(line).line_at(0)
+    }
+
+    /// Puts a line with its fields into its set, as the most recently used one, which is this project's own
+    /// rule. Where it is refused the cache is as it was and the fields come back: first `AlreadyThere`, where
+    /// the line is in the cache; then `SetFull`, where its set has as many lines as ways; else `NoMemory`, where
+    /// there is no memory for it.
+    pub fn allocate(&mut self, line: u64, f: Fields) -> Result<(), (CacheFault, Fields)>
+        ensures ok { OnOk result (self.new ≡ with_set self.old line (set_of self.old line ++ (line, f) ∷ [])) }
+
+        ensures already_there { IsErrOf result (CacheFault.AlreadyThere, f) ↔ IsTrue (is_some (fields_of (set_of self.old line) line)) }
+        ensures set_full { IsErrOf result (CacheFault.SetFull, f) ↔ (available self.old line ≡ false) }
+        ensures never_not_there { IfErr result (λ refusal. refusal.0 ≢ CacheFault.NotThere) }
+
+        ensures refused { OnErr result (self.new ≡ self.old) }
+        ensures given_back { IfErr result (λ refusal. refusal.1 ≡ f) }
+    {
+        if self.is_tag_present(line) {
+            return Err((CacheFault::AlreadyThere, f));
+        }
+        if self.set(line).len() >= self.ways as usize {
+            return Err((CacheFault::SetFull, f));
+        }
+        let at = self.place(line);
+        if let Err(f) = self.sets[at].push(line, f) {
+            return Err((CacheFault::NoMemory, f));
+        }
+        Ok(())
+    }
+
+    /// Takes a line out of the cache and gives its fields back, or `NotThere` exactly where it isn't in the
+    /// cache, and then the cache is as it was. The other lines of its set stay in their order. It takes no
+    /// memory.
+    pub fn deallocate(&mut self, line: u64) -> Result<Fields, CacheFault>
+        ensures fields { IfOk result (λ f. fields_of (set_of self.old line) line ≡ Some f) }
+        ensures ok { OnOk result (self.new ≡ with_set self.old line (without_line (set_of self.old line) line)) }
+        ensures not_there { OnErr result (fields_of (set_of self.old line) line ≡ None) }
+        ensures only_not_there { IfErr result (λ fault. fault ≡ CacheFault.NotThere) }
+        ensures refused { OnErr result (self.new ≡ self.old) }
+    {
+        let at = self.place(line);
+        let Some(f) = self.sets[at].remove(line) else {
+            return Err(CacheFault::NotThere);
+        };
+        Ok(f)
+    }
+
+    /// Makes a line the most recently used one of its set, in which the others stay in their order, or answers
+    /// `NotThere` exactly where it isn't in the cache, and then the cache is as it was. It takes no memory.
+    pub fn set_mru(&mut self, line: u64) -> Result<(), CacheFault>
+        ensures ok { OnOk result (self.new ≡ with_set self.old line (made_recent (set_of self.old line) line)) }
+        ensures there { IsOk result ↔ IsTrue (is_some (fields_of (set_of self.old line) line)) }
+        ensures only_not_there { IfErr result (λ fault. fault ≡ CacheFault.NotThere) }
+        ensures refused { OnErr result (self.new ≡ self.old) }
+    {
+        let at = self.place(line);
+        if !self.sets[at].make_recent(line) {
+            return Err(CacheFault::NotThere);
+        }
+        Ok(())
+    }
+
+    /// Puts fields in the place of those of a line, which it gives back, or `NotThere` with the new fields
+    /// exactly where the line isn't in the cache, and then the cache is as it was. The order of use stays as it
+    /// is. It takes no memory.
+    pub fn replace(&mut self, line: u64, f: Fields) -> Result<Fields, (CacheFault, Fields)>
+        ensures fields { IfOk result (λ old. fields_of (set_of self.old line) line ≡ Some old) }
+        ensures ok { OnOk result (self.new ≡ with_set self.old line (with_fields (set_of self.old line) line f)) }
+        ensures not_there { OnErr result (fields_of (set_of self.old line) line ≡ None) }
+        ensures only_not_there { IfErr result (λ refusal. refusal ≡ (CacheFault.NotThere, f)) }
+        ensures refused { OnErr result (self.new ≡ self.old) }
+    {
+        let at = self.place(line);
+        let old = match self.sets[at].replace(line, f) {
+            Ok(old) => old,
+            Err(f) => return Err((CacheFault::NotThere, f)),
+        };
+        Ok(old)
+    }
+
+    /// The line at a place of the set that a line belongs to, counted from 0 and from the least recently used
+    /// one, or `None` exactly where that set has no more lines than the place says. It takes no memory, and
+    /// costs one step.
+    pub fn used(&self, line: u64, i: u32) -> Option<u64>
+        ensures { result ≡ option_map (λ l. l.0) (slice_get (set_of self.now line) i) }
+    {
+        self.set(line).line_at(i as usize)
+    }
+
+    // Where the set of a line stands.
+    fn place(&self, line: u64) -> usize
+        ensures place { result ≡ line % length self.now.sets }
+        ensures within { result < length self.now.sets }
+    {
+        (line % self.sets.len() as u64) as usize
+    }
+
+    fn set(&self, line: u64) -> &UseOrder
+        ensures { result.now ≡ set_of self.now line }
+    {
+        &self.sets[self.place(line)]
+    }
+}

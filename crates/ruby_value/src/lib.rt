@@ -1,0 +1,25 @@
+//! The plain data that a controller works on: values and their kinds, the fields of a message or of a table's
+//! line, sets of controllers, message numbers, a map from lines, and the words for what a run finds and what goes
+//! wrong.
+#![tactic(auto)]
+
+mod arithmetic;
+mod fault;
+mod fields;
+mod kind;
+mod line_map;
+mod message;
+mod net_dest;
+#[cfg(test)]
+mod tests;
+mod value;
+
+pub use arithmetic::{add, mul, sub};
+pub use fault::{Fault, Finding};
+pub use fields::Fields;
+pub use kind::Kind;
+pub use line_map::LineMap;
+pub use message::{Message, MsgNo};
+pub use net_dest::NetDest;
+pub use ruby_base::{NoMemory, Seq, Text};
+pub use value::{Block, Ref, Value, default_of};

@@ -1,0 +1,50 @@
+ghost use Rattle.std.specs.Prelude.{◌≡◌, ◌↔◌, IsTrue};
+ghost use Rattle.ruby_value.specs.IsBefore.{IsBefore};
+
+use crate::Fields;
+use std::alloc::AllocError;
+
+/// The number of a message copy: the actor that sent it, and how many copies that actor had sent before. Numbers
+/// are ordered by their sender and then by their count, which is this project's own rule.
+#[derive(Clone, Copy, Debug, PartialEq, Eq, PartialOrd, Ord, Hash)]
+pub struct MsgNo {
+    pub sender: u32,
+    pub count: u64,
+}
+
+impl MsgNo {
+    /// Whether this number comes before the other one.
+    pub fn is_before(self, other: MsgNo) -> bool
+        ensures { IsTrue result ↔ IsBefore self other }
+    {
+        self < other
+    }
+}
+
+/// A message copy in a buffer of a controller.
+#[derive(Debug, Drop)]
+pub struct Message {
+    pub number: MsgNo,
+    /// The number of the buffer within its machine.
+    pub buffer: u16,
+    /// The cycle from which on the message is ready.
+    pub arrival: u64,
+    /// Whether it was put back by `recycle` since it last came in.
+    pub recycled: bool,
+    /// The fields of the buffer's message type.
+    pub fields: Fields,
+}
+
+impl Clone for Message {
+    ghost is_clone = { λ old new. new ≡ old };
+
+    fn clone(&self) -> Result<Message, AllocError> {
+        Ok(Message {
+            number: self.number,
+            buffer: self.buffer,
+            arrival: self.arrival,
+            recycled: self.recycled,
+            fields: self.fields.clone()?,
+        })
+    }
+}
