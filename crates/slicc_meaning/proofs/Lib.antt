@@ -1,1 +1,3 @@
 pub mod FiredCounts
+pub mod Invalid
+pub mod InvalidRuns

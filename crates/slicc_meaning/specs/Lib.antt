@@ -19,3 +19,5 @@ pub mod Topology
 pub mod Record
 pub mod Text
 pub mod Answer
+pub mod InvalidExactly
+pub mod Tally

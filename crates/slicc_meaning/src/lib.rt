@@ -8,6 +8,7 @@ mod between;
 mod controller;
 mod finals;
 mod front;
+mod laws;
 mod plan;
 mod planning;
 mod record;
@@ -16,6 +17,7 @@ mod scanning;
 mod single;
 mod statements;
 mod states;
+mod tallies;
 mod topology;
 mod trigger;
 mod world;
@@ -25,15 +27,17 @@ pub use ascending::{has_mark, marks_from, with_mark};
 pub use controller::{Acted, Controller, Message, MsgNo, Scanned, StateAt};
 pub use finals::finals_of;
 pub use front::with_message;
+pub use laws::invalid_comes_exactly;
 pub use plan::{
     ActionPlan, Dequeue, If, MachinePlan, Peek, Plan, PortPlan, Trigger, WrittenTransition,
 };
 pub use planning::plan_of;
 pub use record::{
-    Account, Command, End, Entry, Event, Fault, Final, FireNote, Options, RunRecord, StopAt,
+    Account, Command, End, Entry, Event, Fault, Final, FireNote, Options, RunRecord, StopAt, Tally,
     Verdict,
 };
 pub use ruby_base::{NoMemory, Seq, Text};
 pub use scanning::{copy_of, scan};
+pub use tallies::tally_of;
 pub use topology::{machine_of, plain_of};
 pub use world::{DriverTurn, Place, PlainDriver, Request, Seat, Setting, Topology, World};

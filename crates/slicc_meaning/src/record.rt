@@ -106,6 +106,17 @@ pub struct Account {
     pub recycled: u64,
 }
 
+/// How many events of each kind a worker has in a history.
+#[derive(Clone, Copy, PartialEq, Eq)]
+pub struct Tally {
+    pub worker: u32,
+    pub takes: u64,
+    pub fires: u64,
+    pub dones: u64,
+    pub releases: u64,
+    pub turns: u64,
+}
+
 /// What the program is asked to do.
 #[derive(Clone, Copy, PartialEq, Eq)]
 pub enum Command {
@@ -138,4 +149,6 @@ pub struct RunRecord {
     pub finals: Seq<Final>,
     pub account: Account,
     pub verdict: Verdict,
+    /// One for each worker, in increasing number.
+    pub tallies: Seq<Tally>,
 }

@@ -1,0 +1,141 @@
+-- Over a run, each end of a wake-up says `invalid` exactly where its scan tried a pair without a transition.
+use Rattle.std.proofs.Common.{◌≡◌, ℕ, Bool, true, false, Option, None, Some, List, [], ◌∷◌, ◌++◌, cond, is_none, fold, refl, sym, ap, ◌∙◌, subst, append_assoc, slice_get}
+use Rattle.std.proofs.lemmas.List.{append-nil}
+use Rattle.std.specs.Option.{option_to_list}
+use Rattle.slicc_meaning.specs.declared.controller.Controller.{Controller}
+use Rattle.slicc_meaning.specs.declared.controller.Scanned.{Scanned}
+use Rattle.slicc_meaning.specs.declared.controller.Scanned.TheVariants as scanned
+use Rattle.slicc_meaning.specs.declared.plan.MachinePlan.{MachinePlan}
+use Rattle.slicc_meaning.specs.declared.record.End.{End}
+use Rattle.slicc_meaning.specs.declared.record.End.TheVariants as end
+use Rattle.slicc_meaning.specs.declared.record.Entry.{Entry}
+use Rattle.slicc_meaning.specs.declared.record.Entry.TheVariants.{Ended}
+use Rattle.slicc_meaning.specs.declared.record.Event.{Event}
+use Rattle.slicc_meaning.specs.declared.record.Event.TheVariants.{Done}
+use Rattle.slicc_meaning.specs.declared.record.Fault.TheVariants.{Invalid}
+use Rattle.slicc_meaning.specs.declared.record.StopAt.{StopAt}
+use Rattle.slicc_meaning.specs.declared.world.Place.{Place}
+use Rattle.slicc_meaning.specs.declared.world.Setting.{Setting}
+use Rattle.slicc_meaning.specs.declared.world.World.{World}
+use Rattle.slicc_meaning.specs.InvalidExactly.{IsInvalidTry, invalid_at, IsExact, IsEndedExactly, InvalidExactly}
+use Rattle.slicc_meaning.specs.Run.{Ran, ran_on, go_on, run, IsRun}
+use Rattle.slicc_meaning.specs.Scan.{scan}
+use Rattle.slicc_meaning.specs.Step.{Stepped, step, is_holder, ended_by, given_back, done, scan_at}
+use Rattle.slicc_meaning.specs.World.{machine_plan, scan_of, opening}
+use Rattle.slicc_meaning.proofs.Invalid.{invalid-caused, invalid-comes}
+
+-- a run that broke off stays so
+broken : (s : Setting) (es : List Event) → fold (go_on s) None es ≡ None
+broken s [] = refl
+broken s (e ∷ es) = broken s es
+
+-- more events only add entries
+pub record Extends (before after : List Entry) : Type 0 where
+  pub later : List Entry
+  pub is : after ≡ before ++ later
+
+some_inj : {X : Type 0} {x y : X} → Some x ≡ Some y → x ≡ y
+some_inj h = cc h
+
+extends_by : (s : Setting) (e : Event) (es : List Event) (r r' : Ran) → fold (go_on s) (Some r) (e ∷ es) ≡ Some r'
+    → ((next : Ran) → fold (go_on s) (Some next) es ≡ Some r' → Extends next.journal r'.journal)
+    → (o : Option Stepped) → step s r.world e ≡ o → Extends r.journal r'.journal
+extends_by s e es r r' same rest None is =
+    absurd (cc (sym (broken s es) ∙ sym (ap (λ (o : Option Stepped). fold (go_on s) (ran_on o r.journal) es) is) ∙ same))
+extends_by s e es r r' same rest (Some st) is =
+    let next : Ran = record { world = st.world; journal = r.journal ++ option_to_list st.entry } in
+    let more = rest next (sym (ap (λ (o : Option Stepped). fold (go_on s) (ran_on o r.journal) es) is) ∙ same) in
+    record { later = option_to_list st.entry ++ more.later; is = more.is ∙ append_assoc r.journal (option_to_list st.entry) more.later }
+
+extends : (s : Setting) (es : List Event) (r r' : Ran) → fold (go_on s) (Some r) es ≡ Some r' → Extends r.journal r'.journal
+extends s [] r r' same = record { later = []; is = ap (λ (x : Ran). x.journal) (sym (some_inj same)) ∙ sym (append-nil r.journal) }
+extends s (e ∷ es) r r' same = extends_by s e es r r' same (λ next more. extends s es next r' more) (step s r.world e) refl
+
+fold-append : {A B : Type 0} (f : B → A → B) (b : B) (xs ys : List A) → fold f b (xs ++ ys) ≡ fold f (fold f b xs) ys
+fold-append f b [] ys = refl
+fold-append f b (x ∷ xs) ys = fold-append f (f b x) xs ys
+
+-- the end of a wake-up is exact, from the scan that it came of
+exact : (m : MachinePlan) (c after : Controller) (now limit : ℕ) (e : End) (s : Scanned) → scan m c now limit ≡ s → ended_by now c s ≡ Some (after, e) → IsExact m c now limit e
+exact m c after now limit e scanned.Full is ended =
+    let full : e ≡ end.Full = ap (λ (x : Controller × End). x.1) (some_inj (sym ended)) in
+    record {
+      caused = λ at stop invalid. absurd (cc (full, stop));
+      comes = λ address state event cause. absurd (cc (sym is ∙ invalid-comes m c now limit address state event cause));
+    }
+exact m c after now limit e (scanned.Fired note consumed d) is ended = absurd (cc ended)
+exact m c after now limit e (scanned.Stop at) is ended =
+    let stopped : e ≡ end.Stop at = ap (λ (x : Controller × End). x.1) (some_inj (sym ended)) in
+    record {
+      caused = λ at' stop invalid.
+          let same : at ≡ at' = cc (stopped, stop) in
+          invalid-caused m c now limit at' (is ∙ ap (λ (a : StopAt). scanned.Stop a) same) invalid;
+      comes = λ address state event cause.
+          let here : at ≡ invalid_at address state event = cc (sym is ∙ invalid-comes m c now limit address state event cause) in
+          stopped ∙ ap (λ (a : StopAt). end.Stop a) here;
+    }
+exact m c after now limit e (scanned.Idle d) is ended =
+    let idle : e ≡ end.Idle = ap (λ (x : Controller × End). x.1) (some_inj (sym ended)) in
+    record {
+      caused = λ at stop invalid. absurd (cc (idle, stop));
+      comes = λ address state event cause. absurd (cc (sym is ∙ invalid-comes m c now limit address state event cause));
+    }
+
+-- a lawful Done of this controller ends with an entry of this end
+pub record IsDone (s : Setting) (w : World) (c : ℕ) (p : Place) (m : MachinePlan) (st : Stepped) : Type 0 where
+  pub «end» : End
+  pub entry : st.entry ≡ Some (Ended w.now c «end»)
+  pub exact : IsExact m p.controller w.now s.limit «end»
+
+given : (s : Setting) (w : World) (c : ℕ) (p : Place) (m : MachinePlan) (st : Stepped) (scan_is : Scanned) → scan m p.controller w.now s.limit ≡ scan_is
+    → (o : Option (Controller × End)) → ended_by w.now p.controller scan_is ≡ o → given_back w c o ≡ Some st → IsDone s w c p m st
+given s w c p m st scan_is is None ended back = absurd (cc back)
+given s w c p m st scan_is is (Some (after, e)) ended back =
+    let entry : st.entry ≡ Some (Ended w.now c e) = ap (λ (x : Stepped). x.entry) (sym (some_inj back)) in
+    record { «end» = e; entry = entry; exact = exact m p.controller after w.now s.limit e scan_is is ended }
+
+cond_some : {X : Type 0} (b : Bool) (x : Option X) (y : X) → cond b x None ≡ Some y → x ≡ Some y
+cond_some true x y is = is
+cond_some false x y is = absurd (cc is)
+
+done_is : (s : Setting) (w : World) (worker c : ℕ) (p : Place) (m : MachinePlan) (st : Stepped)
+    → slice_get w.places c ≡ Some p → machine_plan s c ≡ Some m → step s w (Done worker c) ≡ Some st → IsDone s w c p m st
+done_is s w worker c p m st there plan lawful =
+    let act : done s w worker c (slice_get w.places c) ≡ Some st = cond_some (is_none w.verdict) (done s w worker c (slice_get w.places c)) st lawful in
+    let at_p : done s w worker c (Some p) ≡ Some st = sym (ap (λ (o : Option Place). done s w worker c o) there) ∙ act in
+    let back : given_back w c (ended_by w.now p.controller (scan_at s w c p)) ≡ Some st =
+    cond_some (is_holder worker p.holder) (given_back w c (ended_by w.now p.controller (scan_at s w c p))) st at_p in
+    let scanned : scan_at s w c p ≡ scan m p.controller w.now s.limit = ap (λ (o : Option MachinePlan). scan_of s o p.controller w.now) plan in
+    let back' : given_back w c (ended_by w.now p.controller (scan m p.controller w.now s.limit)) ≡ Some st =
+    sym (ap (λ (x : Scanned). given_back w c (ended_by w.now p.controller x)) scanned) ∙ back in
+    given s w c p m st (scan m p.controller w.now s.limit) refl (ended_by w.now p.controller (scan m p.controller w.now s.limit)) refl back'
+
+ended_at : (s : Setting) (after : List Event) (worker c : ℕ) (w world : World) (sofar journal : List Entry) (p : Place) (m : MachinePlan)
+    → fold (go_on s) (go_on s (Some (record { world = w; journal = sofar })) (Done worker c)) after ≡ Some (record { world = world; journal = journal })
+    → slice_get w.places c ≡ Some p → machine_plan s c ≡ Some m
+    → (o : Option Stepped) → step s w (Done worker c) ≡ o → (e : End) × IsEndedExactly s w c p m sofar journal e
+ended_at s after worker c w world sofar journal p m whole there plan None is =
+    absurd (cc (sym (broken s after) ∙ sym (ap (λ (o : Option Stepped). fold (go_on s) (ran_on o sofar) after) is) ∙ whole))
+ended_at s after worker c w world sofar journal p m whole there plan (Some st) is =
+    let done = done_is s w worker c p m st there plan is in
+    let next : Ran = record { world = st.world; journal = sofar ++ option_to_list st.entry } in
+    let more = extends s after next (record { world = world; journal = journal }) (sym (ap (λ (o : Option Stepped). fold (go_on s) (ran_on o sofar) after) is) ∙ whole) in
+    let told : sofar ++ option_to_list st.entry ≡ sofar ++ Ended w.now c done.«end» ∷ [] = ap (λ (o : Option Entry). sofar ++ option_to_list o) done.entry in (
+      done.«end»,
+      record {
+        later = more.later;
+        entry = more.is ∙ ap (λ (j : List Entry). j ++ more.later) told ∙ append_assoc sofar (Ended w.now c done.«end» ∷ []) more.later;
+        exact = done.exact;
+      },
+    )
+
+pub invalid_exactly : (s : Setting) (history : List Event) (world : World) (journal : List Entry) → IsRun s history world journal → InvalidExactly s history journal
+invalid_exactly s history world journal is_run =
+    λ before after worker c w sofar p m split before_run there plan.
+    let start : Option Ran = Some (record { world = opening s; journal = [] }) in
+    let whole : fold (go_on s) (go_on s (Some (record { world = w; journal = sofar })) (Done worker c)) after ≡ Some (record { world = world; journal = journal }) =
+    sym (ap (λ (r : Option Ran). fold (go_on s) r (Done worker c ∷ after)) before_run)
+    ∙ sym (fold-append (go_on s) start before (Done worker c ∷ after))
+    ∙ sym (ap (λ (h : List Event). run s h) split)
+    ∙ is_run in
+    ended_at s after worker c w world sofar journal p m whole there plan (step s w (Done worker c)) refl
