@@ -12,10 +12,12 @@ use Rattle.slicc_meaning.specs.declared.record.RunRecord.{RunRecord}
 use Rattle.slicc_meaning.specs.declared.record.Verdict.{Verdict}
 use Rattle.slicc_meaning.specs.declared.record.Verdict.TheVariants.{Stop, Quiet, Cycles}
 use Rattle.slicc_meaning.specs.Answer.{Answer, Runs, Refused, Absent, TooLarge, IsAnswer, file_limit}
+use Rattle.slicc_meaning.specs.Record.{setting}
+use Rattle.slicc_meaning.proofs.InvalidRuns.{invalid_exactly}
 use Rattle.ruby_cli.specs.declared.reply.Reply.{Reply}
 use Rattle.ruby_cli.specs.declared.reply.Reply.TheVariants as reply
 use Rattle.ruby_cli.specs.Reply.{IsReply, reply_text, reply_status, reply_kept, done_with}
-use Rattle.ruby_cli.specs.Top.{IsWholeRun, IsAsAsked, IsVerdictStatus, IsStatusOf, IsOneOf, IsRightText, IsBegun, KeepsRun, IsComplete, whole_text, verdict_status}
+use Rattle.ruby_cli.specs.Top.{IsWholeRun, IsInvalidExactly, IsTallied, IsAsAsked, IsVerdictStatus, IsStatusOf, IsOneOf, IsRightText, IsBegun, KeepsRun, IsComplete, whole_text, verdict_status}
 
 same_bytes : (files : Files) (o : Options) (a b : List ℕ) → bytes_of files o.protocol ≡ Some a → bytes_of files o.protocol ≡ Some b → a ≡ b
 same_bytes files o a b is_a is_b = cc
@@ -58,6 +60,17 @@ verdict_not : (v : Verdict) (n : ℕ) → 1 < n → verdict_status v ≡ n → �
 verdict_not (Quiet cycle) n more is = absurd (omega (arith, more, is))
 verdict_not (Stop cycle c) n more is = absurd (omega (arith, more, is))
 verdict_not (Cycles cycle) n more is = absurd (omega (arith, more, is))
+
+-- what follows for a whole run holds of a record that is one
+pub for_kept : (P : RunRecord → Type 0) → ((r : RunRecord) → IsWholeRun r → P r) → (kept : Option RunRecord) → IfSome kept IsWholeRun → IfSome kept P
+for_kept P follows None whole = tt
+for_kept P follows (Some r) whole = follows r whole
+
+pub invalid-whole : (r : RunRecord) → IsWholeRun r → IsInvalidExactly r
+invalid-whole r (w, is_record, ended) = invalid_exactly (setting r) r.history w r.journal is_record.run
+
+pub tallied-whole : (r : RunRecord) → IsWholeRun r → IsTallied r
+tallied-whole r (w, is_record, ended) = is_record.tallies
 
 module _ (rose : Type 0) (o : Options) where
   pub run-clause : (files : Option Files) (r : Reply) (written : Bool) → IsReply files rose o r → IfSome (done_with r written).kept IsWholeRun

@@ -11,7 +11,10 @@ use Rattle.slicc_meaning.specs.declared.record.Verdict.{Verdict}
 use Rattle.slicc_meaning.specs.declared.record.Verdict.TheVariants.{Stop, Quiet, Cycles}
 use Rattle.slicc_meaning.specs.declared.world.World.{World}
 use Rattle.slicc_meaning.specs.Answer.{Answer, Runs, Refused, Absent, TooLarge, IsAnswer}
-use Rattle.slicc_meaning.specs.Record.{IsRecordOf}
+use Rattle.slicc_meaning.specs.InvalidExactly.{InvalidExactly}
+use Rattle.slicc_meaning.specs.Record.{IsRecordOf, setting}
+use Rattle.slicc_meaning.specs.Tally.{tally}
+use Rattle.slicc_meaning.specs.WakesOnce.{WakesOnce}
 use Rattle.slicc_meaning.specs.Run.{HasEnded}
 use Rattle.slicc_meaning.specs.Text.{text}
 use Rattle.ruby_cli.specs.Answers.{refused_line, absent_line, too_large_line, fault_line, usage_line}
@@ -20,6 +23,18 @@ use Rattle.ruby_cli.specs.Answers.{refused_line, absent_line, too_large_line, fa
 -- journal, finals, account and verdict are those of that history and world
 abbrev pub IsWholeRun : RunRecord → Type 0
 IsWholeRun r = (w : World) × IsRecordOf r w × HasEnded w
+
+-- each controller that must wake at a cycle of the record's run wakes in it once, and no other does
+abbrev pub IsWokenOnce : RunRecord → Type 0
+IsWokenOnce r = WakesOnce (setting r) r.history
+
+-- a wake-up ended as `invalid` exactly where its scan triggered a pair without a transition, and then with that pair
+abbrev pub IsInvalidExactly : RunRecord → Type 0
+IsInvalidExactly r = InvalidExactly (setting r) r.history r.journal
+
+-- one tally, of the one worker, has the counts of its events
+abbrev pub IsTallied : RunRecord → Type 0
+IsTallied r = r.tallies ≡ tally 0 r.history ∷ []
 
 -- the record is of what was asked: its options, and where the files are told the plan and the topology
 abbrev pub IsAsAsked : Option Files → Options → RunRecord → Type 0

@@ -6,11 +6,11 @@ ghost use Rattle.ruby_cli.specs.Cycle.{IsBetween};
 ghost use Rattle.ruby_cli.specs.Top.{IsWholeRun};
 
 use crate::book::Book;
-use crate::run::run_on;
+use crate::run::{WORKER, run_on};
 use ruby_base::{NoMemory, Seq};
 use slicc_meaning::{
     Controller, Options, Place, PlainDriver, Plan, RunRecord, Setting, Topology, World, account_of,
-    finals_of,
+    finals_of, tally_of,
 };
 use std::alloc::Global;
 
@@ -83,6 +83,8 @@ pub fn run_plain(
     let finals = finals_of(alloc, book.journal.as_slice())?;
     let account = account_of(alloc, book.journal.as_slice(), book.world.places.as_slice())?;
     let verdict = book.world.verdict.unwrap();
+    let mut tallies = Seq::new(alloc);
+    tallies.push(tally_of(book.history.as_slice(), WORKER))?;
     Ok(RunRecord {
         plan: setting.plan,
         topology: setting.topology,
@@ -92,5 +94,6 @@ pub fn run_plain(
         finals,
         account,
         verdict,
+        tallies,
     })
 }

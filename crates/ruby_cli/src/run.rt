@@ -15,8 +15,8 @@ use ruby_base::{NoMemory, Seq};
 use slicc_meaning::{Event, Place, Setting, has_mark};
 use std::alloc::Global;
 
-// The number of the one worker.
-const WORKER: u32 = 0;
+/// The number of the one worker.
+pub const WORKER: u32 = 0;
 
 fn is_free(p: &Place, now: u64) -> bool
     ensures { result ≡ is_free_at now p.now }

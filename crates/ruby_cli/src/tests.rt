@@ -102,6 +102,7 @@ fn record(alloc: Global, verdict: Verdict) -> Result<RunRecord, NoMemory> {
             recycled: 0,
         },
         verdict,
+        tallies: Seq::new(alloc),
     })
 }
 

@@ -1,11 +1,13 @@
--- What a record says of a run: its history is a run of its setting that has ended, and all else in it is that run's.
-use Rattle.std.specs.Prelude.{◌≡◌, Some}
+-- What a record says of a run: its history is a run of its setting that has ended, and all else in it is that run's. It has
+-- one tally for each worker, and one thread is worker 0 alone.
+use Rattle.std.specs.Prelude.{◌≡◌, Some, [], ◌∷◌}
 use Rattle.slicc_meaning.specs.declared.record.RunRecord.{RunRecord}
 use Rattle.slicc_meaning.specs.declared.world.Setting.{Setting}
 use Rattle.slicc_meaning.specs.declared.world.World.{World}
 use Rattle.slicc_meaning.specs.Run.{IsRun}
 use Rattle.slicc_meaning.specs.Finals.{finals}
 use Rattle.slicc_meaning.specs.Account.{account}
+use Rattle.slicc_meaning.specs.Tally.{tally}
 
 -- what the record's run began with
 abbrev pub setting : RunRecord → Setting
@@ -23,3 +25,4 @@ pub record IsRecordOf (r : RunRecord) (w : World) : Type 0 where
   pub finals : r.finals ≡ finals r.journal
   pub account : r.account ≡ account r.journal w.places
   pub verdict : w.verdict ≡ Some r.verdict
+  pub tallies : r.tallies ≡ tally 0 r.history ∷ []

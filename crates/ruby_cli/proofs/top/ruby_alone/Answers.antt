@@ -1,8 +1,9 @@
 use Rattle.std.proofs.Common.{IfSome, sym, ◌∙◌, subst}
 use Rattle.ruby_outside.specs.Faults.{Rose}
+use Rattle.slicc_meaning.specs.declared.record.RunRecord.{RunRecord}
 use Rattle.ruby_cli.specs.declared.top.Done.{Done}
-use Rattle.ruby_cli.specs.Top.{IsWholeRun, IsAsAsked}
-use Rattle.ruby_cli.proofs.Replies.{run-clause, asked-clause, written-clause, cut-clause, keeps-clause, complete-clause}
+use Rattle.ruby_cli.specs.Top.{IsWholeRun, IsInvalidExactly, IsTallied, IsAsAsked}
+use Rattle.ruby_cli.proofs.Replies.{for_kept, invalid-whole, tallied-whole, run-clause, asked-clause, written-clause, cut-clause, keeps-clause, complete-clause}
 use Rattle.ruby_cli.proofs.top.ruby_alone.Goals as goal
 
 pub returns-in-Ok-clause-record_is_a_run : goal.returns-in-Ok-clause-record_is_a_run
@@ -10,6 +11,17 @@ returns-in-Ok-clause-record_is_a_run g c =
     let rose = Rose (g.L.Library.faults c.args.library.now) (g.L.Library.faults c.prepare.new.library) in
     subst (λ (d : Done). IfSome d.kept IsWholeRun) (sym c.finish.ensures)
     (run-clause rose c.args.options (g.L.Library.files c.args.library.now) c.in-Ok.reply c.write_lines-written.result c.in-Ok.ensures.reply)
+
+run-of : (P : RunRecord → Type 0) → ((r : RunRecord) → IsWholeRun r → P r) → (d : Done) → IfSome d.kept IsWholeRun → IfSome d.kept P
+run-of P follows d whole = for_kept P follows d.kept whole
+
+pub returns-in-Ok-clause-invalid_exactly : goal.returns-in-Ok-clause-invalid_exactly
+returns-in-Ok-clause-invalid_exactly g c =
+    run-of IsInvalidExactly invalid-whole c.finish.result (returns-in-Ok-clause-record_is_a_run g c)
+
+pub returns-in-Ok-clause-tallied : goal.returns-in-Ok-clause-tallied
+returns-in-Ok-clause-tallied g c =
+    run-of IsTallied tallied-whole c.finish.result (returns-in-Ok-clause-record_is_a_run g c)
 
 pub returns-in-Ok-clause-as_asked : goal.returns-in-Ok-clause-as_asked
 returns-in-Ok-clause-as_asked g c =
