@@ -1,1 +1,5 @@
 pub mod FiredCounts
+pub mod KeptMarks
+pub mod Cleared
+pub mod Waking
+pub mod WokenOnce
