@@ -1,12 +1,11 @@
 -- At the beginning of a cycle no controller's wake-up has ended, and nobody holds one: so it is in the opening, and after
 -- a turn that leaves no verdict.
-use Rattle.std.proofs.Common.{◌≡◌, ◌<◌, ◌+◌, ◌||◌, ◌++◌, ℕ, zero, suc, Bool, true, false, Option, None, Some, List, [], ◌∷◌, map, length, refl, sym, ◌∙◌, ap, subst, cond, fold, replicate, slice_get, slice_set, is_some, is_none, nat_lt, IsTrue, arith}
+use Rattle.std.proofs.Common.{◌≡◌, ◌+◌, ◌||◌, ◌++◌, ℕ, zero, suc, Bool, true, false, Option, None, Some, List, [], ◌∷◌, map, length, refl, sym, ◌∙◌, ap, cond, fold, replicate, slice_get, slice_set, is_some, is_none, nat_lt, IsTrue}
 use Rattle.std.specs.List.{list_any}
 use Rattle.slicc_meaning.specs.declared.controller.Message.{Message}
 use Rattle.slicc_meaning.specs.declared.record.Entry.{Entry}
 use Rattle.slicc_meaning.specs.declared.record.Event.{Event}
 use Rattle.slicc_meaning.specs.declared.record.Event.TheVariants.{Take, Fire, Done, Release, Turn}
-use Rattle.slicc_meaning.specs.declared.record.Verdict.{Verdict}
 use Rattle.slicc_meaning.specs.declared.record.Verdict.TheVariants.{Cycles}
 use Rattle.slicc_meaning.specs.declared.world.Place.{Place}
 use Rattle.slicc_meaning.specs.declared.world.Request.{Request}
@@ -15,7 +14,7 @@ use Rattle.slicc_meaning.specs.declared.world.Setting.{Setting}
 use Rattle.slicc_meaning.specs.declared.world.World.{World}
 use Rattle.slicc_meaning.specs.Driver.{plain_turn, request_message, arrive, arrive_at, arrive_at_seat, issue_all}
 use Rattle.slicc_meaning.specs.Run.{Ran, ran_on, go_on}
-use Rattle.slicc_meaning.specs.Step.{Stepped, begun, is_busy, next_world, driven, turn_by, turn, step_lawfully, step}
+use Rattle.slicc_meaning.specs.Step.{Stepped, begun, is_busy, next_world, driven, turn_by, turn, step}
 use Rattle.slicc_meaning.specs.Verdict.{next_cycle, least_stopped, end_of_cycle}
 use Rattle.slicc_meaning.specs.WakesOnce.{is_turn, ends_with_turn}
 use Rattle.slicc_meaning.specs.World.{is_due, opening_place, opening_places}

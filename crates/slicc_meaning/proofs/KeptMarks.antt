@@ -1,5 +1,5 @@
 -- No scan changes at which cycles its controller must wake, and no wake-up's end changes whether it must at this cycle.
-use Rattle.std.proofs.Common.{◌≡◌, ◌<◌, ◌+◌, ◌++◌, ◌||◌, ℕ, suc, Bool, true, false, Option, None, Some, List, [], ◌∷◌, is_some, cond, fold, refl, sym, ap, ◌∙◌, subst, slice_get, eqb, ltb, nat_lt, nat_le, ◌==◌, arith}
+use Rattle.std.proofs.Common.{◌≡◌, ◌+◌, ℕ, Bool, true, false, Option, None, Some, List, [], ◌∷◌, is_some, cond, fold, refl, ap, ◌∙◌, slice_get, nat_lt, nat_le, ◌==◌, arith}
 use Rattle.std.specs.List.{filter, list_any}
 use Rattle.std.proofs.lemmas.List.Folds.{list_any-append}
 use Rattle.std.proofs.lemmas.Map.Views.{any-filter_same}
@@ -40,9 +40,9 @@ mark-next : (marks : List ℕ) (now : ℕ) → has_mark (with_mark marks (now + 
 mark-next marks now =
     let test : ℕ → Bool = λ m. m == now in
     let low : list_any test (filter (λ m. nat_lt m (now + 1)) marks) ≡ list_any test marks =
-        any-filter_same test (λ m. nat_lt m (now + 1)) true (λ k same. grind (arith, nat_tests)) marks in
+    any-filter_same test (λ m. nat_lt m (now + 1)) true (λ k same. grind (arith, nat_tests)) marks in
     let high : list_any test (filter (λ m. nat_lt (now + 1) m) marks) ≡ false =
-        any-filter_same test (λ m. nat_lt (now + 1) m) false (λ k same. grind (arith, nat_tests)) marks in
+    any-filter_same test (λ m. nat_lt (now + 1) m) false (λ k same. grind (arith, nat_tests)) marks in
     let apart : test (now + 1) ≡ false = ne_eqb (now + 1) now (λ same. omega arith) in
     let parts = list_any-append test (filter (λ m. nat_lt m (now + 1)) marks) ((now + 1) ∷ filter (λ m. nat_lt (now + 1) m) marks) in
     grind (arith, low, high, apart, parts)

@@ -1,6 +1,6 @@
 -- What each event of a cycle keeps of one controller: whether it must wake at this cycle, how often its wake-up has ended
 -- in it, and that it is held only where it must wake and its wake-up hasn't ended.
-use Rattle.std.proofs.Common.{◌≡◌, ◌≢◌, ◌+◌, ◌||◌, ◌&&◌, not, ℕ, zero, suc, Bool, true, false, Option, None, Some, List, [], ◌∷◌, refl, sym, ◌∙◌, ap, subst, cond, fold, slice_get, slice_set, is_some, is_none, ◌==◌, IsTrue, inl, inr, ◌⊎◌, arith}
+use Rattle.std.proofs.Common.{◌≡◌, ◌≢◌, ◌+◌, not, ℕ, zero, suc, Bool, true, false, Option, None, Some, List, [], ◌∷◌, refl, sym, ◌∙◌, ap, subst, cond, slice_get, slice_set, is_some, is_none, ◌==◌, IsTrue, arith}
 use Rattle.std.proofs.lemmas.Bool.{eq-eqb, ne_eqb}
 use Rattle.slicc_meaning.specs.declared.controller.Controller.{Controller}
 use Rattle.slicc_meaning.specs.declared.controller.Scanned.{Scanned}
@@ -13,9 +13,9 @@ use Rattle.slicc_meaning.specs.declared.world.Setting.{Setting}
 use Rattle.slicc_meaning.specs.declared.world.World.{World}
 use Rattle.slicc_meaning.specs.Ascending.{has_mark}
 use Rattle.slicc_meaning.specs.Run.{Ran, go_on}
-use Rattle.slicc_meaning.specs.Step.{Stepped, with_place, take, is_holder, fired_by, ended_by, given_back, scan_at, fire, done, release, step_lawfully, step}
+use Rattle.slicc_meaning.specs.Step.{with_place, take, is_holder, fired_by, ended_by, given_back, scan_at, fire, done, release, step}
 use Rattle.slicc_meaning.specs.WakesOnce.{is_turn, is_done_of}
-use Rattle.slicc_meaning.specs.World.{is_due, is_free, machine_plan}
+use Rattle.slicc_meaning.specs.World.{is_free, machine_plan}
 use Rattle.slicc_meaning.proofs.KeptMarks.{KeepsMarks, scan-keeps, EndKeeps, end-keeps}
 use Rattle.slicc_meaning.proofs.Cleared.{is_held, AfterStep, AfterEvents, after-ran, where_true}
 
@@ -58,11 +58,11 @@ changed now must c n k d w p q there at same other = record {
   place =
       set-at (AtPlace now must (n + k)) w.places d c p q there
       (λ is.
-          let here : slice_get w.places c ≡ Some p = ap (λ i. slice_get w.places i) (sym is) ∙ there in
-          same is at.now (subst (AtPlace now must n) here at.place))
+      let here : slice_get w.places c ≡ Some p = ap (λ i. slice_get w.places i) (sym is) ∙ there in
+      same is at.now (subst (AtPlace now must n) here at.place))
       (λ apart.
-          let n_is : n ≡ n + k = omega (arith, other apart) in
-          subst (λ i. AtPlace now must i (slice_get w.places c)) n_is at.place);
+      let n_is : n ≡ n + k = omega (arith, other apart) in
+      subst (λ i. AtPlace now must i (slice_get w.places c)) n_is at.place);
 }
 
 taken : (now : ℕ) (must : Bool) (n worker : ℕ) (p : Place) → is_free now p ≡ true → IsWaking now must n p → IsWaking now must (n + 0) (record p { holder = Some worker })
@@ -111,9 +111,9 @@ take-keeps now must c n worker d w None there at = tt
 take-keeps now must c n worker d w (Some p) there at =
     where_true (IsWakingAt now must c (n + 0)) (is_free w.now p) _
     (λ free.
-        changed now must c n 0 d w p (record p { holder = Some worker }) there at
-        (λ is same. taken now must n worker p (ap (λ i. is_free i p) (sym same) ∙ free))
-        (λ apart. refl))
+    changed now must c n 0 d w p (record p { holder = Some worker }) there at
+    (λ is same. taken now must n worker p (ap (λ i. is_free i p) (sym same) ∙ free))
+    (λ apart. refl))
 
 release-keeps : (now : ℕ) (must : Bool) (c n worker d : ℕ) (w : World) (o : Option Place) → slice_get w.places d ≡ o → IsWakingAt now must c n w
     → AfterStep (IsWakingAt now must c (n + 0)) (release w worker d o)
@@ -121,9 +121,9 @@ release-keeps now must c n worker d w None there at = tt
 release-keeps now must c n worker d w (Some p) there at =
     where_true (IsWakingAt now must c (n + 0)) (is_holder worker p.holder) _
     (λ holds.
-        changed now must c n 0 d w p (record p { holder = None }) there at
-        (λ is same. released now must n p)
-        (λ apart. refl))
+    changed now must c n 0 d w p (record p { holder = None }) there at
+    (λ is same. released now must n p)
+    (λ apart. refl))
 
 fired_by-keeps : (now : ℕ) (must : Bool) (c n d : ℕ) (w : World) (p : Place) (scanned : Scanned) → slice_get w.places d ≡ Some p → KeepsMarks p.controller scanned → IsWakingAt now must c n w
     → AfterStep (IsWakingAt now must c (n + 0)) (fired_by w d p scanned)
@@ -156,8 +156,8 @@ given_back-keeps now must c n d w p (Some e) there held kept at =
     let k : ℕ = once (d == c) in
     changed now must c n k d w p q there at
     (λ is same is_p.
-        let kept_now = subst (λ i. has_mark e.0.marks i ≡ has_mark p.controller.marks i) same kept in
-        subst (λ i. IsWaking now must (n + i) q) (sym (one-of d c is)) (ended now must n p e.0 held kept_now is_p))
+    let kept_now = subst (λ i. has_mark e.0.marks i ≡ has_mark p.controller.marks i) same kept in
+    subst (λ i. IsWaking now must (n + i) q) (sym (one-of d c is)) (ended now must n p e.0 held kept_now is_p))
     (none-of d c)
 
 done-keeps : (s : Setting) (now : ℕ) (must : Bool) (c n worker d : ℕ) (w : World) (o : Option Place) → slice_get w.places d ≡ o → IsWakingAt now must c n w
@@ -166,8 +166,8 @@ done-keeps s now must c n worker d w None there at = tt
 done-keeps s now must c n worker d w (Some p) there at =
     where_true (IsWakingAt now must c (n + once (d == c))) (is_holder worker p.holder) _
     (λ holds.
-        given_back-keeps now must c n d w p (ended_by w.now p.controller (scan_at s w d p)) there (holder-held worker p.holder holds)
-        (end-keeps w.now p.controller (scan_at s w d p) (scan-keeps s (machine_plan s d) p.controller w.now)) at)
+    given_back-keeps now must c n d w p (ended_by w.now p.controller (scan_at s w d p)) there (holder-held worker p.holder holds)
+    (end-keeps w.now p.controller (scan_at s w d p) (scan-keeps s (machine_plan s d) p.controller w.now)) at)
 
 step-keeps : (s : Setting) (now : ℕ) (must : Bool) (c n : ℕ) (w : World) (e : Event) → IsTrue (not (is_turn e)) → IsWakingAt now must c n w
     → AfterStep (IsWakingAt now must c (n + once (is_done_of c e))) (step s w e)

@@ -1,5 +1,5 @@
 -- In a run each controller that must wake at a cycle ends its wake-up in it once, and no other controller does.
-use Rattle.std.proofs.Common.{◌≡◌, ◌+◌, ◌||◌, ◌&&◌, ◌++◌, not, ℕ, zero, suc, Bool, true, false, Option, None, Some, List, [], ◌∷◌, refl, sym, ◌∙◌, ap, subst, cond, fold, slice_get, is_none, IsTrue, add-zero, add_assoc, arith}
+use Rattle.std.proofs.Common.{◌≡◌, ◌+◌, ◌&&◌, ◌++◌, not, ℕ, zero, suc, Bool, true, false, Option, None, Some, List, [], ◌∷◌, refl, sym, ◌∙◌, ap, subst, cond, fold, slice_get, is_none, IsTrue, add-zero, arith}
 use Rattle.std.specs.Prelude.{count_by}
 use Rattle.std.specs.List.{list_any, list_all}
 use Rattle.std.proofs.lemmas.List.{append_assoc}
@@ -11,13 +11,13 @@ use Rattle.slicc_meaning.specs.declared.record.Verdict.{Verdict}
 use Rattle.slicc_meaning.specs.declared.world.Place.{Place}
 use Rattle.slicc_meaning.specs.declared.world.Setting.{Setting}
 use Rattle.slicc_meaning.specs.declared.world.World.{World}
-use Rattle.slicc_meaning.specs.Run.{Ran, ran_on, go_on, run, IsRun}
-use Rattle.slicc_meaning.specs.Step.{Stepped, is_busy, step, step_lawfully, turn_by}
+use Rattle.slicc_meaning.specs.Run.{Ran, ran_on, go_on, IsRun}
+use Rattle.slicc_meaning.specs.Step.{Stepped, is_busy, step_lawfully, turn_by}
 use Rattle.slicc_meaning.specs.Verdict.{least_stopped}
 use Rattle.slicc_meaning.specs.WakesOnce.{is_turn, is_done_of, ends_with_turn, must_place_wake, must_wake, WakesOnce}
 use Rattle.slicc_meaning.specs.World.{is_due, opening}
 use Rattle.slicc_meaning.proofs.Cleared.{is_held, is_touched, AfterEvents, IsCleared, or_false, turns-cleared, opening-cleared}
-use Rattle.slicc_meaning.proofs.Waking.{once, IsWaking, AtPlace, IsWakingAt, go_on-keeps}
+use Rattle.slicc_meaning.proofs.Waking.{once, AtPlace, IsWakingAt, go_on-keeps}
 
 and_true : (a b : Bool) → (a && b) ≡ true → (a ≡ true) × (b ≡ true)
 and_true true b both = (refl, both)
@@ -138,12 +138,12 @@ cycle-wakes s r cycle worker after last c are clear goes =
 pub wakes_once : (s : Setting) (history : List Event) (w : World) (journal : List Entry) → IsRun s history w journal → WakesOnce s history
 wakes_once s history w journal is_run =
     λ before cycle after worker v told split turned quiet is_before c.
-        let begun : Option Ran = Some (record { world = opening s; journal = [] }) in
-        let r : Ran = record { world = v; journal = told } in
-        let last : Ran = record { world = w; journal = journal } in
-        let joined = append_assoc before cycle (Turn worker ∷ after) in
-        let whole : fold (go_on s) begun (before ++ (cycle ++ Turn worker ∷ after)) ≡ Some last =
-            sym (ap (λ (h : List Event). fold (go_on s) begun h) (split ∙ joined)) ∙ is_run in
-        let goes : fold (go_on s) (Some r) (cycle ++ Turn worker ∷ after) ≡ Some last =
-            sym (split-run s begun before (cycle ++ Turn worker ∷ after) r is_before) ∙ whole in
-        cycle-wakes s r cycle worker after last c quiet (cleared s before r turned is_before) goes
+    let begun : Option Ran = Some (record { world = opening s; journal = [] }) in
+    let r : Ran = record { world = v; journal = told } in
+    let last : Ran = record { world = w; journal = journal } in
+    let joined = append_assoc before cycle (Turn worker ∷ after) in
+    let whole : fold (go_on s) begun (before ++ (cycle ++ Turn worker ∷ after)) ≡ Some last =
+    sym (ap (λ (h : List Event). fold (go_on s) begun h) (split ∙ joined)) ∙ is_run in
+    let goes : fold (go_on s) (Some r) (cycle ++ Turn worker ∷ after) ≡ Some last =
+    sym (split-run s begun before (cycle ++ Turn worker ∷ after) r is_before) ∙ whole in
+    cycle-wakes s r cycle worker after last c quiet (cleared s before r turned is_before) goes

@@ -10,5 +10,4 @@ ghost use Rattle.slicc_meaning.specs.WakesOnce.{WakesOnce};
 /// In a run each controller that must wake at a cycle ends its wake-up in it once, and no other controller does.
 pub fn wakes_once()
     ensures { (s : SettingRecord) (history : List EventRecord) (w : WorldRecord) (journal : List EntryRecord) → IsRun s history w journal → WakesOnce s history }
-{
-}
+{}
