@@ -1,14 +1,31 @@
-//! Laws of runs, each as the contract of a function that does nothing.
-ghost use Rattle.std.specs.Prelude.{List};
+// What holds of every run. These functions do nothing: their contracts are the laws.
+ghost use Rattle.std.specs.Prelude.{◌≡◌, ◌+◌, List};
+ghost use Rattle.slicc_meaning.specs.declared.plan.Plan.{Plan as PlanRecord};
 ghost use Rattle.slicc_meaning.specs.declared.record.Entry.{Entry as EntryRecord};
 ghost use Rattle.slicc_meaning.specs.declared.record.Event.{Event as EventRecord};
 ghost use Rattle.slicc_meaning.specs.declared.world.Setting.{Setting as SettingRecord};
 ghost use Rattle.slicc_meaning.specs.declared.world.World.{World as WorldRecord};
+ghost use Rattle.slicc_meaning.specs.Account.{IsAccounted, account};
 ghost use Rattle.slicc_meaning.specs.InvalidExactly.{InvalidExactly};
 ghost use Rattle.slicc_meaning.specs.Run.{IsRun};
+ghost use Rattle.slicc_meaning.specs.Topology.{HasSeats, plain_of as plain_of_plan};
+ghost use Rattle.slicc_meaning.specs.WakesOnce.{WakesOnce};
+
+/// In a run each controller that must wake at a cycle ends its wake-up in it once, and no other controller does.
+pub fn wakes_once()
+    ensures { (s : SettingRecord) (history : List EventRecord) (w : WorldRecord) (journal : List EntryRecord) → IsRun s history w journal → WakesOnce s history }
+{}
 
 /// In a run the end of a wake-up says `invalid` exactly where its scan triggered a pair without a transition, and then
 /// with that address, state and event.
 pub fn invalid_comes_exactly()
     ensures { (s : SettingRecord) (history : List EventRecord) (w : WorldRecord) (journal : List EntryRecord) → IsRun s history w journal → InvalidExactly s history journal }
+{}
+
+/// In a run whose topology has its seats, no message number is sent twice, each one that was sent is in exactly one
+/// place, no other is in one, and the account's other parts add up to its first. A plain topology has its seats.
+pub fn accounts_for_each_message()
+    ensures accounted { (s : SettingRecord) (history : List EventRecord) (w : WorldRecord) (journal : List EntryRecord) → HasSeats s.topology → IsRun s history w journal → IsAccounted journal w }
+    ensures adds_up { (s : SettingRecord) (history : List EventRecord) (w : WorldRecord) (journal : List EntryRecord) → HasSeats s.topology → IsRun s history w journal → let a = account journal w.places in a.sent ≡ a.consumed + a.queued + a.stalled + a.recycled }
+    ensures plain_has_seats { (p : PlanRecord) → HasSeats (plain_of_plan p) }
 {}

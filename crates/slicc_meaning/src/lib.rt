@@ -17,7 +17,7 @@ mod scanning;
 mod single;
 mod statements;
 mod states;
-mod tallies;
+mod tallying;
 mod topology;
 mod trigger;
 mod world;
@@ -27,7 +27,7 @@ pub use ascending::{has_mark, marks_from, with_mark};
 pub use controller::{Acted, Controller, Message, MsgNo, Scanned, StateAt};
 pub use finals::finals_of;
 pub use front::with_message;
-pub use laws::invalid_comes_exactly;
+pub use laws::{accounts_for_each_message, invalid_comes_exactly, wakes_once};
 pub use plan::{
     ActionPlan, Dequeue, If, MachinePlan, Peek, Plan, PortPlan, Trigger, WrittenTransition,
 };
@@ -38,6 +38,6 @@ pub use record::{
 };
 pub use ruby_base::{NoMemory, Seq, Text};
 pub use scanning::{copy_of, scan};
-pub use tallies::tally_of;
+pub use tallying::tally_of;
 pub use topology::{machine_of, plain_of};
 pub use world::{DriverTurn, Place, PlainDriver, Request, Seat, Setting, Topology, World};

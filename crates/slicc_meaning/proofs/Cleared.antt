@@ -1,0 +1,136 @@
+-- At the beginning of a cycle no controller's wake-up has ended, and nobody holds one: so it is in the opening, and after
+-- a turn that leaves no verdict.
+use Rattle.std.proofs.Common.{◌≡◌, ◌+◌, ◌||◌, ◌++◌, ℕ, zero, suc, Bool, true, false, Option, None, Some, List, [], ◌∷◌, map, length, refl, sym, ◌∙◌, ap, cond, fold, replicate, slice_get, slice_set, is_some, is_none, nat_lt, IsTrue}
+use Rattle.std.specs.List.{list_any}
+use Rattle.slicc_meaning.specs.declared.controller.Message.{Message}
+use Rattle.slicc_meaning.specs.declared.record.Entry.{Entry}
+use Rattle.slicc_meaning.specs.declared.record.Event.{Event}
+use Rattle.slicc_meaning.specs.declared.record.Event.TheVariants.{Take, Fire, Done, Release, Turn}
+use Rattle.slicc_meaning.specs.declared.record.Verdict.TheVariants.{Cycles}
+use Rattle.slicc_meaning.specs.declared.world.Place.{Place}
+use Rattle.slicc_meaning.specs.declared.world.Request.{Request}
+use Rattle.slicc_meaning.specs.declared.world.Seat.{Seat}
+use Rattle.slicc_meaning.specs.declared.world.Setting.{Setting}
+use Rattle.slicc_meaning.specs.declared.world.World.{World}
+use Rattle.slicc_meaning.specs.Driver.{plain_turn, request_message, arrive, arrive_at, arrive_at_seat, issue_all}
+use Rattle.slicc_meaning.specs.Run.{Ran, ran_on, go_on}
+use Rattle.slicc_meaning.specs.Step.{Stepped, begun, is_busy, next_world, driven, turn_by, turn, step}
+use Rattle.slicc_meaning.specs.Verdict.{next_cycle, least_stopped, end_of_cycle}
+use Rattle.slicc_meaning.specs.WakesOnce.{is_turn, ends_with_turn}
+use Rattle.slicc_meaning.specs.World.{is_due, opening_place, opening_places}
+
+abbrev pub is_held : Place → Bool
+is_held p = is_some p.holder
+
+-- its wake-up has ended, or somebody holds it
+abbrev pub is_touched : Place → Bool
+is_touched p = p.finished || is_held p
+
+-- a fact of the world after a step, where there is one
+abbrev pub AfterStep : (World → Type 0) → Option Stepped → Type 0
+AfterStep P None = Unit {0}
+AfterStep P (Some st) = P st.world
+
+-- a fact of the world after some events, where there is one
+abbrev pub AfterEvents : (World → Type 0) → Option Ran → Type 0
+AfterEvents P None = Unit {0}
+AfterEvents P (Some r) = P r.world
+
+pub after-ran : (P : World → Type 0) (o : Option Stepped) (journal : List Entry) → AfterStep P o → AfterEvents P (ran_on o journal)
+after-ran P None journal holds = tt
+after-ran P (Some st) journal holds = holds
+
+pub where_true : (P : World → Type 0) (b : Bool) (o : Option Stepped) → (b ≡ true → AfterStep P o) → AfterStep P (cond b o None)
+where_true P true o holds = holds refl
+where_true P false o holds = tt
+
+pub where_false : (P : World → Type 0) (b : Bool) (o : Option Stepped) → (b ≡ false → AfterStep P o) → AfterStep P (cond b None o)
+where_false P true o holds = tt
+where_false P false o holds = holds refl
+
+pub or_false : (a b : Bool) → (a || b) ≡ false → (a ≡ false) × (b ≡ false)
+or_false true b none = absurd (cc none)
+or_false false b none = (refl, none)
+
+-- a test that the changed element answers as before
+any-set : {X : Type 0} (f : X → Bool) (xs : List X) (c : ℕ) (x y : X) → slice_get xs c ≡ Some x → f y ≡ f x → list_any f (slice_set xs c y) ≡ list_any f xs
+any-set f [] c x y there same = refl
+any-set f (z ∷ xs) zero x y there same =
+    let z_is : z ≡ x = cc there in
+    ap (λ b. b || list_any f xs) (same ∙ ap f (sym z_is))
+any-set f (z ∷ xs) (suc c) x y there same = ap (λ b. f z || b) (any-set f xs c x y there same)
+
+arrive_at-held : (places : List Place) (c : ℕ) (m : Message) (o : Option Place) → slice_get places c ≡ o → list_any is_held (arrive_at places c m o) ≡ list_any is_held places
+arrive_at-held places c m None there = refl
+arrive_at-held places c m (Some p) there = any-set is_held places c p (arrive m p) there refl
+
+seat-held : (places : List Place) (m : Message) (seat : Option Seat) → list_any is_held (arrive_at_seat places m seat) ≡ list_any is_held places
+seat-held places m None = refl
+seat-held places m (Some seat) = arrive_at-held places seat.controller m (slice_get places seat.controller) refl
+
+issue_all-held : (seats : List Seat) (sender count now : ℕ) (places : List Place) (rs : List Request) → list_any is_held (issue_all seats sender count now places rs) ≡ list_any is_held places
+issue_all-held seats sender count now places [] = refl
+issue_all-held seats sender count now places (r ∷ rs) =
+    let m : Message = request_message (record { sender = sender; count = count }) now r in
+    issue_all-held seats sender (count + 1) now (arrive_at_seat places m (slice_get seats r.seat)) rs
+    ∙ seat-held places m (slice_get seats r.seat)
+
+begun-touched : (now : ℕ) (places : List Place) → list_any is_touched (map (begun now) places) ≡ list_any is_held places
+begun-touched now [] = refl
+begun-touched now (p ∷ places) = ap (λ b. is_held p || b) (begun-touched now places)
+
+-- where nobody is busy, nobody is held
+idle-nobody : (now : ℕ) (places : List Place) → list_any (is_busy now) places ≡ false → list_any is_held places ≡ false
+idle-nobody now [] none = refl
+idle-nobody now (p ∷ places) none =
+    let parts = or_false (is_busy now p) (list_any (is_busy now) places) none in
+    let held = or_false (is_held p) (is_due now p) parts.0 in
+    ap (λ b. b || list_any is_held places) held.0 ∙ idle-nobody now places parts.1
+
+-- where no verdict stands, nobody is finished or held
+abbrev pub IsCleared : World → Type 0
+IsCleared w = w.verdict ≡ None → list_any is_touched w.places ≡ false
+
+next_world-cleared : (w : World) (now : ℕ) (beyond : Bool) → list_any is_held w.places ≡ false → IsCleared (next_world w (Some now) (cond beyond (Some (Cycles w.now)) None))
+next_world-cleared w now true nobody = λ running. absurd (cc running)
+next_world-cleared w now false nobody = λ running. begun-touched now w.places ∙ nobody
+
+cycle_end-cleared : (w : World) (cycles : ℕ) (next : Option ℕ) → list_any is_held w.places ≡ false → IsCleared (next_world w next (end_of_cycle w.now cycles next))
+cycle_end-cleared w cycles None nobody = λ running. absurd (cc running)
+cycle_end-cleared w cycles (Some now) nobody = next_world-cleared w now (nat_lt cycles now) nobody
+
+turn_by-cleared : (s : Setting) (w : World) (stopped : Option ℕ) → list_any is_held w.places ≡ false → IsCleared (turn_by s w stopped).world
+turn_by-cleared s w (Some c) nobody = λ running. absurd (cc running)
+turn_by-cleared s w None nobody =
+    let acted = plain_turn w.driver w.now in
+    let v : World = driven s w acted in
+    cycle_end-cleared v s.cycles (next_cycle v.now v.next v.places)
+    (issue_all-held s.topology.seats (length w.places) w.issued w.now w.places acted.issued ∙ nobody)
+
+turn-cleared : (s : Setting) (w : World) → AfterStep IsCleared (turn s w)
+turn-cleared s w =
+    where_false IsCleared (list_any (is_busy w.now) w.places) _
+    (λ idle. turn_by-cleared s w (least_stopped 0 w.places) (idle-nobody w.now w.places idle))
+
+step-cleared : (s : Setting) (w : World) (e : Event) → IsTrue (is_turn e) → AfterStep IsCleared (step s w e)
+step-cleared s w (Take worker c) is = absurd (cc is)
+step-cleared s w (Fire worker c) is = absurd (cc is)
+step-cleared s w (Done worker c) is = absurd (cc is)
+step-cleared s w (Release worker c) is = absurd (cc is)
+step-cleared s w (Turn worker) is = where_true IsCleared (is_none w.verdict) (turn s w) (λ running. turn-cleared s w)
+
+go_on-cleared : (s : Setting) (o : Option Ran) (e : Event) → IsTrue (is_turn e) → AfterEvents IsCleared (go_on s o e)
+go_on-cleared s None e is = tt
+go_on-cleared s (Some r) e is = after-ran IsCleared (step s r.world e) r.journal (step-cleared s r.world e is)
+
+pub turns-cleared : (s : Setting) (o : Option Ran) (e : Event) (es : List Event) → IsTrue (ends_with_turn (e ∷ es)) → AfterEvents IsCleared (fold (go_on s) o (e ∷ es))
+turns-cleared s o e [] is = go_on-cleared s o e is
+turns-cleared s o e (f ∷ es) is = turns-cleared s (go_on s o e) f es is
+
+replicate-touched : (n : ℕ) (places : List Place) → list_any is_touched places ≡ false → list_any is_touched (replicate n opening_place ++ places) ≡ false
+replicate-touched zero places none = none
+replicate-touched (suc n) places none = replicate-touched n places none
+
+pub opening-cleared : (counts : List ℕ) → list_any is_touched (opening_places counts) ≡ false
+opening-cleared [] = refl
+opening-cleared (n ∷ counts) = replicate-touched n (opening_places counts) (opening-cleared counts)
