@@ -1,1 +1,4 @@
 pub mod FiredCounts
+pub mod Tallies
+pub mod Inboxes
+pub mod Scans
