@@ -2,3 +2,4 @@ pub mod FiredCounts
 pub mod Tallies
 pub mod Inboxes
 pub mod Scans
+pub mod Kept
