@@ -3,3 +3,4 @@ pub mod Tallies
 pub mod Inboxes
 pub mod Scans
 pub mod Kept
+pub mod Turns
