@@ -61,7 +61,7 @@ kept-next n w journal next kept good =
         omega (arith, kept.moved f, good.moved f, tally-more f issued_in journal more, tally-more f consumed_in journal more);
     }
 
-one-le : (b : Bool) → one b ≤ 1
+pub one-le : (b : Bool) → one b ≤ 1
 one-le true = omega arith
 one-le false = omega arith
 

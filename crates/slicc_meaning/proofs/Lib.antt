@@ -4,3 +4,4 @@ pub mod Inboxes
 pub mod Scans
 pub mod Kept
 pub mod Turns
+pub mod Accounting

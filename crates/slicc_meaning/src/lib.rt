@@ -8,6 +8,7 @@ mod between;
 mod controller;
 mod finals;
 mod front;
+mod laws;
 mod plan;
 mod planning;
 mod record;
@@ -25,6 +26,7 @@ pub use ascending::{has_mark, marks_from, with_mark};
 pub use controller::{Acted, Controller, Message, MsgNo, Scanned, StateAt};
 pub use finals::finals_of;
 pub use front::with_message;
+pub use laws::accounts_for_each_message;
 pub use plan::{
     ActionPlan, Dequeue, If, MachinePlan, Peek, Plan, PortPlan, Trigger, WrittenTransition,
 };
