@@ -1,12 +1,10 @@
 -- A run accounts for each message.
-use Rattle.std.proofs.Common.{◌≡◌, ◌<◌, ◌≤◌, ◌+◌, ℕ, zero, suc, Bool, true, false, not, ◌&&◌, Option, None, Some, List, [], ◌∷◌, ◌++◌, map, length, cond, fold, refl, sym, ap, ◌∙◌, subst, slice_get, replicate, sum, is_some, is_none, eqb, ltb, arith, IsSome}
-use Rattle.std.specs.List.{All, flat_map}
-use Rattle.std.specs.Prelude.{count_by}
+use Rattle.std.proofs.Common.{◌≡◌, ◌<◌, ◌+◌, ℕ, zero, suc, Bool, true, false, not, ◌&&◌, Option, None, Some, List, [], ◌∷◌, map, length, cond, fold, refl, sym, ◌∙◌, subst, slice_get, replicate, sum, is_some, is_none, eqb, ltb, arith, IsSome}
+use Rattle.std.specs.List.{All}
 use Rattle.std.proofs.lemmas.List.{length-append, length-replicate}
 use Rattle.std.proofs.lemmas.List.Sums.{sum_by-cons}
 use Rattle.slicc_meaning.specs.declared.controller.Message.{Message}
 use Rattle.slicc_meaning.specs.declared.controller.MsgNo.{MsgNo}
-use Rattle.slicc_meaning.specs.declared.plan.Plan.{Plan}
 use Rattle.slicc_meaning.specs.declared.record.Entry.{Entry}
 use Rattle.slicc_meaning.specs.declared.record.Event.{Event}
 use Rattle.slicc_meaning.specs.declared.record.Event.TheVariants.{Take, Fire, Done, Release, Turn}
@@ -16,13 +14,12 @@ use Rattle.slicc_meaning.specs.declared.world.Setting.{Setting}
 use Rattle.slicc_meaning.specs.declared.world.World.{World}
 use Rattle.slicc_meaning.specs.Account.{sent_numbers, consumed_numbers, held_messages, is_queued, is_stalled, is_recycled, account, times, IsAccounted}
 use Rattle.slicc_meaning.specs.Front.{same_number}
-use Rattle.slicc_meaning.specs.Run.{Ran, ran_on, go_on, run, IsRun}
+use Rattle.slicc_meaning.specs.Run.{Ran, ran_on, go_on, IsRun}
 use Rattle.slicc_meaning.specs.Step.{Stepped, step_lawfully, step}
-use Rattle.slicc_meaning.specs.Topology.{HasSeats, plain_of}
+use Rattle.slicc_meaning.specs.Topology.{HasSeats}
 use Rattle.slicc_meaning.specs.World.{opening_place, opening_places, opening}
 use Rattle.slicc_meaning.proofs.Tallies.{one, tally, counted, tally-map, tally-true, tally-more}
-use Rattle.slicc_meaning.proofs.Inboxes.{mail}
-use Rattle.slicc_meaning.proofs.Kept.{stands, held, IsKept, IsGood, IsGoodIf, kept-next, one-le, take-good, release-good, fire-good, done-good}
+use Rattle.slicc_meaning.proofs.Kept.{held, IsKept, IsGoodIf, kept-next, one-le, take-good, release-good, fire-good, done-good}
 use Rattle.slicc_meaning.proofs.Turns.{IsSeated, stands-none, turn-good}
 
 -- the opening
@@ -60,8 +57,8 @@ module _ (s : Setting) (n : ℕ) (seated : IsSeated s.topology.seats n 0) where
   step-good : (w : World) (journal : List Entry) (e : Event) → IsKept n w journal → IsGoodIf w (step s w e)
   step-good w journal e kept =
       elim (is_none w.verdict) as (λ b. IsGoodIf w (cond b (step_lawfully s w e) None)) [
-        true ↦ lawful-good w journal e kept
-      | false ↦ tt
+        | true ↦ lawful-good w journal e kept
+        | false ↦ tt
       ]
 
 abbrev IsKeptIf : ℕ → Option Ran → Type 0
@@ -97,12 +94,12 @@ pub accounted : (n : ℕ) (w : World) (journal : List Entry) → IsKept n w jour
 accounted n w journal kept =
     record {
       sent_once = λ number.
-        omega (arith, counted (same_number number) (sent_numbers journal), kept.sent number, one-le (eqb number.sender n && ltb number.count w.issued));
+          omega (arith, counted (same_number number) (sent_numbers journal), kept.sent number, one-le (eqb number.sender n && ltb number.count w.issued));
       one_place = λ number.
-        let in_places : times number (map (λ (m : Message). m.number) (held_messages w.places)) ≡ held (same_number number) w.places =
-            counted (same_number number) (map (λ (m : Message). m.number) (held_messages w.places))
-            ∙ tally-map (same_number number) (λ (m : Message). m.number) (held_messages w.places) in
-        omega (arith, counted (same_number number) (sent_numbers journal), counted (same_number number) (consumed_numbers journal), in_places, kept.moved (same_number number));
+          let in_places : times number (map (λ (m : Message). m.number) (held_messages w.places)) ≡ held (same_number number) w.places =
+          counted (same_number number) (map (λ (m : Message). m.number) (held_messages w.places))
+          ∙ tally-map (same_number number) (λ (m : Message). m.number) (held_messages w.places) in
+          omega (arith, counted (same_number number) (sent_numbers journal), counted (same_number number) (consumed_numbers journal), in_places, kept.moved (same_number number));
     }
 
 -- each message is in one of the three places

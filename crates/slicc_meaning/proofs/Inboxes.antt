@@ -1,5 +1,5 @@
 -- An inbox with a message more, and one without its front message.
-use Rattle.std.proofs.Common.{◌≡◌, ◌≤◌, ◌+◌, ℕ, zero, suc, Bool, true, false, not, ◌&&◌, ◌⊎◌, inl, inr, Option, None, Some, List, [], ◌∷◌, ◌++◌, refl, sym, ◌∙◌, ap, cond, zero-add, eqb, arith}
+use Rattle.std.proofs.Common.{◌≡◌, ◌≤◌, ◌+◌, ℕ, Bool, true, false, not, inl, inr, Option, None, Some, List, [], ◌∷◌, refl, sym, ◌∙◌, ap, cond, zero-add, eqb, arith}
 use Rattle.std.specs.List.{filter}
 use Rattle.std.proofs.lemmas.Bool.{eqb-true, eq-eqb, and_parts, cases_Bool, and_from}
 use Rattle.std.proofs.lemmas.Bool.Decides.{nat_tests}
@@ -37,8 +37,8 @@ where_passed b n = cond b n 0
 tally-filter : {X : Type 0} (f p : X → Bool) (x : X) (xs : List X) → tally f (filter p (x ∷ xs)) ≡ where_passed (p x) (one (f x)) + tally f (filter p xs)
 tally-filter f p x xs =
     elim (p x) as (λ b. tally f (cond b (x ∷ filter p xs) (filter p xs)) ≡ where_passed b (one (f x)) + tally f (filter p xs)) [
-      true ↦ refl
-    | false ↦ sym (zero-add (tally f (filter p xs)))
+      | true ↦ refl
+      | false ↦ sym (zero-add (tally f (filter p xs)))
     ]
 
 shared : (a b : Bool) (n : ℕ) → one a + one b ≡ 1 → where_passed a n + where_passed b n ≡ n
@@ -55,7 +55,7 @@ first_fails false n none = (refl, omega (arith, none))
 -- the messages before and after a number that isn't there are all
 pub mail-apart : (f : MsgNo → Bool) (number : MsgNo) (inbox : List Message) → mail (same_number number) inbox ≡ 0
     → mail f (filter (λ (o : Message). number_before o.number number) inbox)
-      + mail f (filter (λ (o : Message). number_before number o.number) inbox)
+    + mail f (filter (λ (o : Message). number_before number o.number) inbox)
     ≡ mail f inbox
 mail-apart f number [] none = omega arith
 mail-apart f number (o ∷ inbox) none =
@@ -65,7 +65,7 @@ mail-apart f number (o ∷ inbox) none =
     let after : Message → Bool = λ x. number_before number x.number in
     let test : Message → Bool = λ x. f x.number in
     let apart : where_passed (before o) weight + where_passed (after o) weight ≡ weight =
-        shared (before o) (after o) weight (trichotomy number o.number parts.0) in
+    shared (before o) (after o) weight (trichotomy number o.number parts.0) in
     omega (arith, tally-filter test before o inbox, tally-filter test after o inbox, apart, mail-apart f number inbox parts.1)
 
 -- one message more
@@ -95,19 +95,19 @@ mail-without f number (o ∷ inbox) once =
     let rest = tally-filter (λ (x : Message). f x.number) (λ (x : Message). not (same_number x.number number)) o inbox in
     let weight : ℕ = one (f o.number) in
     elim (cases_Bool (same_number number o.number)) [
-      inl same ↦
-        let fails : not (same_number o.number number) ≡ false = ap (λ b. not b) (same-sym o.number number ∙ same) in
-        let first : where_passed (not (same_number o.number number)) weight ≡ 0 = ap (λ b. where_passed b weight) fails in
-        let one_here : one (same_number number o.number) ≡ 1 = ap (λ b. one b) same in
-        let weights : one (f number) ≡ weight = ap (λ n. one (f n)) (same-is number o.number same) in
-        let none : mail (same_number number) inbox ≡ 0 = omega (arith, once, one_here) in
-        omega (arith, rest, first, weights, kept_all f number inbox none)
-    | inr other ↦
-        let passes : not (same_number o.number number) ≡ true = ap (λ b. not b) (same-sym o.number number ∙ other) in
-        let first : where_passed (not (same_number o.number number)) weight ≡ weight = ap (λ b. where_passed b weight) passes in
-        let none_here : one (same_number number o.number) ≡ 0 = ap (λ b. one b) other in
-        let once_more : mail (same_number number) inbox ≡ 1 = omega (arith, once, none_here) in
-        omega (arith, rest, first, mail-without f number inbox once_more)
+      | inl same ↦
+          let fails : not (same_number o.number number) ≡ false = ap (λ b. not b) (same-sym o.number number ∙ same) in
+          let first : where_passed (not (same_number o.number number)) weight ≡ 0 = ap (λ b. where_passed b weight) fails in
+          let one_here : one (same_number number o.number) ≡ 1 = ap (λ b. one b) same in
+          let weights : one (f number) ≡ weight = ap (λ n. one (f n)) (same-is number o.number same) in
+          let none : mail (same_number number) inbox ≡ 0 = omega (arith, once, one_here) in
+          omega (arith, rest, first, weights, kept_all f number inbox none)
+      | inr other ↦
+          let passes : not (same_number o.number number) ≡ true = ap (λ b. not b) (same-sym o.number number ∙ other) in
+          let first : where_passed (not (same_number o.number number)) weight ≡ weight = ap (λ b. where_passed b weight) passes in
+          let none_here : one (same_number number o.number) ≡ 0 = ap (λ b. one b) other in
+          let once_more : mail (same_number number) inbox ≡ 1 = omega (arith, once, none_here) in
+          omega (arith, rest, first, mail-without f number inbox once_more)
     ]
 
 -- the message, if there is one, has its number in the inbox
@@ -122,8 +122,8 @@ earlier-in m inbox None is_in =
 earlier-in m inbox (Some o) is_in =
     let here : one (same_number m.number m.number) ≡ 1 = ap (λ b. one b) (same-refl m.number) in
     elim (message_before o m) as (λ b. IsIn (m ∷ inbox) (Some (cond b o m))) [
-      true ↦ omega (arith, is_in)
-    | false ↦ omega (arith, here)
+      | true ↦ omega (arith, is_in)
+      | false ↦ omega (arith, here)
     ]
 
 least-in : (inbox : List Message) → IsIn inbox (least_message inbox)

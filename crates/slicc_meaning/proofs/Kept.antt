@@ -1,5 +1,5 @@
 -- What each step keeps: the numbers sent are the driver's below its count, and each is consumed or in an inbox.
-use Rattle.std.proofs.Common.{◌≡◌, ◌≤◌, ◌+◌, ℕ, Bool, true, false, ◌&&◌, Option, None, Some, List, [], ◌∷◌, ◌++◌, length, cond, refl, sym, ap, ◌∙◌, subst, slice_get, slice_set, eqb, ltb, arith}
+use Rattle.std.proofs.Common.{◌≡◌, ◌≤◌, ◌+◌, ℕ, Bool, true, false, ◌&&◌, Option, None, Some, List, [], ◌++◌, length, cond, refl, ap, ◌∙◌, slice_get, slice_set, eqb, ltb, arith}
 use Rattle.std.specs.Option.{option_to_list}
 use Rattle.std.proofs.lemmas.List.{append-nil, length-set}
 use Rattle.slicc_meaning.specs.declared.controller.Controller.{Controller}
@@ -16,9 +16,9 @@ use Rattle.slicc_meaning.specs.Account.{issued_in, consumed_in, sent_numbers, co
 use Rattle.slicc_meaning.specs.Front.{same_number}
 use Rattle.slicc_meaning.specs.Step.{Stepped, with_place, take, fire, done, release, fired_by, ended_by, given_back, is_holder, scan_at}
 use Rattle.slicc_meaning.specs.World.{is_free, machine_plan}
-use Rattle.slicc_meaning.proofs.Tallies.{one, tally, tally-append, tally-more, tally-set, tally-within}
+use Rattle.slicc_meaning.proofs.Tallies.{one, tally, tally-more, tally-set, tally-within}
 use Rattle.slicc_meaning.proofs.Inboxes.{mail}
-use Rattle.slicc_meaning.proofs.Scans.{IsOnce, IsMoved, KeepsMail, scan_of-mail}
+use Rattle.slicc_meaning.proofs.Scans.{IsOnce, KeepsMail, scan_of-mail}
 
 -- how often a number was sent, where the sender has sent so many
 abbrev pub stands : ℕ → ℕ → MsgNo → ℕ
@@ -54,11 +54,11 @@ kept-next n w journal next kept good =
     record {
       places = good.places ∙ kept.places;
       sent = λ number.
-        let was : stands (length w.places) w.issued number ≡ stands n w.issued number = ap (λ k. stands k w.issued number) kept.places in
-        let is : stands (length w.places) next.world.issued number ≡ stands n next.world.issued number = ap (λ k. stands k next.world.issued number) kept.places in
-        omega (arith, was, is, kept.sent number, good.sent number, tally-more (same_number number) issued_in journal more);
+          let was : stands (length w.places) w.issued number ≡ stands n w.issued number = ap (λ k. stands k w.issued number) kept.places in
+          let is : stands (length w.places) next.world.issued number ≡ stands n next.world.issued number = ap (λ k. stands k next.world.issued number) kept.places in
+          omega (arith, was, is, kept.sent number, good.sent number, tally-more (same_number number) issued_in journal more);
       moved = λ f.
-        omega (arith, kept.moved f, good.moved f, tally-more f issued_in journal more, tally-more f consumed_in journal more);
+          omega (arith, kept.moved f, good.moved f, tally-more f issued_in journal more, tally-more f consumed_in journal more);
     }
 
 pub one-le : (b : Bool) → one b ≤ 1
@@ -70,9 +70,9 @@ pub once-at : (n : ℕ) (w : World) (journal : List Entry) (c : ℕ) (p : Place)
 once-at n w journal c p kept there =
     record {
       once = λ number.
-        let within : mail (same_number number) p.controller.inbox ≤ held (same_number number) w.places =
-            tally-within (λ (m : Message). same_number number m.number) (λ (q : Place). q.controller.inbox) w.places c p there in
-        omega (arith, within, kept.moved (same_number number), kept.sent number, one-le (eqb number.sender n && ltb number.count w.issued));
+          let within : mail (same_number number) p.controller.inbox ≤ held (same_number number) w.places =
+          tally-within (λ (m : Message). same_number number m.number) (λ (q : Place). q.controller.inbox) w.places c p there in
+          omega (arith, within, kept.moved (same_number number), kept.sent number, one-le (eqb number.sender n && ltb number.count w.issued));
     }
 
 -- one place changes, and nothing is sent
@@ -85,9 +85,9 @@ place-good w c p q entry there silent moved =
       places = length-set w.places c q;
       sent = λ number. omega (arith, silent (same_number number));
       moved = λ f.
-        let changed : held f (slice_set w.places c q) + mail f p.controller.inbox ≡ held f w.places + mail f q.controller.inbox =
-            tally-set (λ (m : Message). f m.number) (λ (r : Place). r.controller.inbox) w.places c p q there in
-        omega (arith, silent f, moved f, changed);
+          let changed : held f (slice_set w.places c q) + mail f p.controller.inbox ≡ held f w.places + mail f q.controller.inbox =
+          tally-set (λ (m : Message). f m.number) (λ (r : Place). r.controller.inbox) w.places c p q there in
+          omega (arith, silent f, moved f, changed);
     }
 
 pub take-good : (w : World) (worker c : ℕ) (o : Option Place) → slice_get w.places c ≡ o → IsGoodIf w (take w worker c o)
@@ -96,8 +96,8 @@ take-good w worker c (Some p) there =
     let q : Place = record p { holder = Some worker } in
     let next : Stepped = record { world = with_place w c q; entry = None } in
     elim (is_free w.now p) as (λ b. IsGoodIf w (cond b (Some next) None)) [
-      true ↦ place-good w c p q None there (λ f. refl) (λ f. omega arith)
-    | false ↦ tt
+      | true ↦ place-good w c p q None there (λ f. refl) (λ f. omega arith)
+      | false ↦ tt
     ]
 
 pub release-good : (w : World) (worker c : ℕ) (o : Option Place) → slice_get w.places c ≡ o → IsGoodIf w (release w worker c o)
@@ -106,8 +106,8 @@ release-good w worker c (Some p) there =
     let q : Place = record p { holder = None } in
     let next : Stepped = record { world = with_place w c q; entry = None } in
     elim (is_holder worker p.holder) as (λ b. IsGoodIf w (cond b (Some next) None)) [
-      true ↦ place-good w c p q None there (λ f. refl) (λ f. omega arith)
-    | false ↦ tt
+      | true ↦ place-good w c p q None there (λ f. refl) (λ f. omega arith)
+      | false ↦ tt
     ]
 
 fired_by-good : (w : World) (c : ℕ) (p : Place) (scanned : Scanned) → slice_get w.places c ≡ Some p → KeepsMail p.controller.inbox scanned
@@ -115,8 +115,8 @@ fired_by-good : (w : World) (c : ℕ) (p : Place) (scanned : Scanned) → slice_
 fired_by-good w c p (Fired note consumed after) there keeps =
     let q : Place = record p { controller = record after { fired = after.fired + 1 } } in
     place-good w c p q _ there (λ f. refl) (λ f.
-      let all : tally f (consumed ++ []) ≡ tally f consumed = ap (λ v. tally f v) (append-nil consumed) in
-      omega (arith, all, keeps.moved f))
+    let all : tally f (consumed ++ []) ≡ tally f consumed = ap (λ v. tally f v) (append-nil consumed) in
+    omega (arith, all, keeps.moved f))
 fired_by-good w c p Full there keeps = tt
 fired_by-good w c p (Stop at) there keeps = tt
 fired_by-good w c p (Idle after) there keeps = tt
@@ -137,8 +137,8 @@ given_back-good w c p None there keeps = tt
 given_back-good w c p (Some ended) there keeps =
     let q : Place = record { controller = ended.0; finished = true; holder = None } in
     place-good w c p q _ there (λ f. refl) (λ f.
-      let same : mail f ended.0.inbox ≡ mail f p.controller.inbox = ap (λ v. mail f v) keeps in
-      omega (arith, same))
+    let same : mail f ended.0.inbox ≡ mail f p.controller.inbox = ap (λ v. mail f v) keeps in
+    omega (arith, same))
 
 module _ (s : Setting) (n : ℕ) (w : World) (journal : List Entry) (kept : IsKept n w journal) (worker c : ℕ) where
   scan_at-keeps : (p : Place) → slice_get w.places c ≡ Some p → KeepsMail p.controller.inbox (scan_at s w c p)
@@ -148,8 +148,8 @@ module _ (s : Setting) (n : ℕ) (w : World) (journal : List Entry) (kept : IsKe
   fire-good None there = tt
   fire-good (Some p) there =
       elim (is_holder worker p.holder) as (λ b. IsGoodIf w (cond b (fired_by w c p (scan_at s w c p)) None)) [
-        true ↦ fired_by-good w c p (scan_at s w c p) there (scan_at-keeps p there)
-      | false ↦ tt
+        | true ↦ fired_by-good w c p (scan_at s w c p) there (scan_at-keeps p there)
+        | false ↦ tt
       ]
 
   pub done-good : (o : Option Place) → slice_get w.places c ≡ o → IsGoodIf w (done s w worker c o)
@@ -157,6 +157,6 @@ module _ (s : Setting) (n : ℕ) (w : World) (journal : List Entry) (kept : IsKe
   done-good (Some p) there =
       let ended : Option (Controller × End) = ended_by w.now p.controller (scan_at s w c p) in
       elim (is_holder worker p.holder) as (λ b. IsGoodIf w (cond b (given_back w c ended) None)) [
-        true ↦ given_back-good w c p ended there (ended_by-keeps w.now p.controller (scan_at s w c p) (scan_at-keeps p there))
-      | false ↦ tt
+        | true ↦ given_back-good w c p ended there (ended_by-keeps w.now p.controller (scan_at s w c p) (scan_at-keeps p there))
+        | false ↦ tt
       ]

@@ -1,5 +1,5 @@
 -- A scan that fires consumes what leaves the inbox, and an idle one leaves the inbox as it was.
-use Rattle.std.proofs.Common.{◌≡◌, ◌≤◌, ◌+◌, ℕ, Bool, true, false, Option, None, Some, List, [], ◌∷◌, ◌++◌, is_some, cond, fold, refl, sym, ap, ◌∙◌, subst, slice_get, arith}
+use Rattle.std.proofs.Common.{◌≡◌, ◌≤◌, ◌+◌, ℕ, Bool, true, false, Option, None, Some, List, [], ◌∷◌, ◌++◌, is_some, cond, fold, refl, sym, subst, slice_get, arith}
 use Rattle.slicc_meaning.specs.declared.controller.Acted.{Acted}
 use Rattle.slicc_meaning.specs.declared.controller.Controller.{Controller}
 use Rattle.slicc_meaning.specs.declared.controller.Message.{Message}
@@ -19,7 +19,7 @@ use Rattle.slicc_meaning.specs.Rows.{rows}
 use Rattle.slicc_meaning.specs.States.{line_of, state_at}
 use Rattle.slicc_meaning.specs.Statements.{dequeue, run_action, act, front_of, buffer_of}
 use Rattle.slicc_meaning.specs.Try.{settled, fire_first, peek_front, if_ready}
-use Rattle.slicc_meaning.specs.Scan.{run_port, scan}
+use Rattle.slicc_meaning.specs.Scan.{run_port}
 use Rattle.slicc_meaning.specs.World.{scan_of}
 use Rattle.slicc_meaning.proofs.Tallies.{one, tally, tally-append}
 use Rattle.slicc_meaning.proofs.Inboxes.{mail, mail-without, IsIn, front-in}
@@ -48,10 +48,10 @@ module _ (before : List Message) (once : IsOnce before) where
       let just : mail (same_number m.number) c.inbox ≡ 1 = omega (arith, most, least, is_in) in
       record {
         moved = λ f.
-          let was : tally f consumed + mail f c.inbox ≡ mail f before = moved.moved f in
-          let fewer : one (f m.number) + mail f (without_message c.inbox m.number) ≡ mail f c.inbox = mail-without f m.number c.inbox just in
-          let more : tally f (consumed ++ m.number ∷ []) ≡ tally f consumed + (one (f m.number) + 0) = tally-append f consumed (m.number ∷ []) in
-          omega (arith, was, fewer, more);
+            let was : tally f consumed + mail f c.inbox ≡ mail f before = moved.moved f in
+            let fewer : one (f m.number) + mail f (without_message c.inbox m.number) ≡ mail f c.inbox = mail-without f m.number c.inbox just in
+            let more : tally f (consumed ++ m.number ∷ []) ≡ tally f consumed + (one (f m.number) + 0) = tally-append f consumed (m.number ∷ []) in
+            omega (arith, was, fewer, more);
       }
 
   run_action-acted : (m : MachinePlan) (a : Option ActionPlan) (c : Controller) (consumed : List MsgNo) (now : ℕ)
@@ -63,8 +63,8 @@ module _ (before : List Message) (once : IsOnce before) where
   act-acted : (m : MachinePlan) (now : ℕ) (acted : Acted) (a : ℕ) → IsActed before acted → IsActed before (act m now acted a)
   act-acted m now acted a moved =
       elim (is_some acted.fault) as (λ b. IsActed before (cond b acted (run_action m (slice_get m.actions a) acted.controller acted.consumed now))) [
-        true ↦ moved
-      | false ↦ run_action-acted m (slice_get m.actions a) acted.controller acted.consumed now moved
+        | true ↦ moved
+        | false ↦ run_action-acted m (slice_get m.actions a) acted.controller acted.consumed now moved
       ]
 
   acts-acted : (m : MachinePlan) (now : ℕ) (acted : Acted) (actions : List ℕ) → IsActed before acted → IsActed before (fold (act m now) acted actions)
@@ -101,8 +101,8 @@ module _ (m : MachinePlan) (now : ℕ) (c : Controller) (once : IsOnce c.inbox) 
   if_ready-mail : (i : If) → KeepsMail c.inbox (if_ready m i c now)
   if_ready-mail i =
       elim (is_some (front_of m i.port c now)) as (λ b. KeepsMail c.inbox (cond b (peek_front m i.then.then c now (front_of m i.then.port c now)) (Idle c))) [
-        true ↦ peek_front-mail i.then.then (front_of m i.then.port c now)
-      | false ↦ refl
+        | true ↦ peek_front-mail i.then.then (front_of m i.then.port c now)
+        | false ↦ refl
       ]
 
 same_inbox : (a b : List Message) (s : Scanned) → a ≡ b → KeepsMail a s → KeepsMail b s

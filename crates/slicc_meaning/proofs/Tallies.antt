@@ -1,10 +1,8 @@
 -- How many elements of a list pass a test, counted from the right.
-use Rattle.std.proofs.Common.{◌≡◌, ◌≤◌, ◌+◌, ℕ, zero, suc, Bool, true, false, Option, None, Some, List, [], ◌∷◌, ◌++◌, map, length, refl, sym, ◌∙◌, ap, cond, fold, zero-add, slice_get, slice_set, arith}
+use Rattle.std.proofs.Common.{◌≡◌, ◌≤◌, ◌+◌, ℕ, zero, suc, Bool, true, false, Some, List, [], ◌∷◌, ◌++◌, map, length, refl, sym, ◌∙◌, ap, cond, fold, zero-add, slice_get, slice_set, arith}
 use Rattle.std.specs.List.{filter, flat_map}
-use Rattle.std.specs.Option.{option_to_list}
 use Rattle.std.specs.Prelude.{count_by}
 use Rattle.std.proofs.lemmas.List.Concat.{flat_map-append}
-use Rattle.std.proofs.lemmas.List.{append-nil}
 
 abbrev pub one : Bool → ℕ
 one b = cond b 1 0
@@ -41,8 +39,8 @@ tally-filter_le f p [] = omega arith
 tally-filter_le f p (x ∷ xs) =
     let rest = tally-filter_le f p xs in
     elim (p x) as (λ b. tally f (cond b (x ∷ filter p xs) (filter p xs)) ≤ one (f x) + tally f xs) [
-      true ↦ omega (arith, rest)
-    | false ↦ omega (arith, rest)
+      | true ↦ omega (arith, rest)
+      | false ↦ omega (arith, rest)
     ]
 
 module _ {X Y : Type 0} (f : Y → Bool) (g : X → List Y) where
@@ -70,10 +68,7 @@ module _ {X Y : Type 0} (f : Y → Bool) (g : X → List Y) where
   pub tally-more : (xs ys : List X) → tally f (flat_map g (xs ++ ys)) ≡ tally f (flat_map g xs) + tally f (flat_map g ys)
   tally-more xs ys = ap (λ v. tally f v) (flat_map-append g xs ys) ∙ tally-append f (flat_map g xs) (flat_map g ys)
 
-  -- each list is as long as before
-  pub tally-same : (h : X → X) → ((x : X) → g (h x) ≡ g x) → (xs : List X) → flat_map g (map h xs) ≡ flat_map g xs
-  tally-same h same [] = refl
-  tally-same h same (x ∷ xs) = ap (λ v. v ++ flat_map g (map h xs)) (same x) ∙ ap (λ v. g x ++ v) (tally-same h same xs)
-
-  pub tally-empty : (xs : List X) (x : X) → g x ≡ [] → tally f (flat_map g (x ∷ xs)) ≡ tally f (flat_map g xs)
-  tally-empty xs x none = ap (λ v. tally f (v ++ flat_map g xs)) none
+-- lists that stay the same where what they come from changes
+pub flat_map-same : {X Y : Type 0} (g : X → List Y) (h : X → X) → ((x : X) → g (h x) ≡ g x) → (xs : List X) → flat_map g (map h xs) ≡ flat_map g xs
+flat_map-same g h same [] = refl
+flat_map-same g h same (x ∷ xs) = ap (λ v. v ++ flat_map g (map h xs)) (same x) ∙ ap (λ v. g x ++ v) (flat_map-same g h same xs)

@@ -1,6 +1,6 @@
 -- A turn sends new numbers, and each comes into an inbox.
-use Rattle.std.proofs.Common.{◌≡◌, ◌<◌, ◌≤◌, ◌+◌, ℕ, Bool, true, false, ◌&&◌, Option, None, Some, List, [], ◌∷◌, ◌++◌, map, length, cond, refl, sym, ap, ◌∙◌, subst, slice_get, slice_set, get_or, eqb, ltb, add-zero, arith}
-use Rattle.std.specs.List.{list_any, flat_map}
+use Rattle.std.proofs.Common.{◌≡◌, ◌<◌, ◌≤◌, ◌+◌, ℕ, Bool, true, false, ◌&&◌, Option, None, Some, List, [], ◌∷◌, ◌++◌, length, cond, refl, ap, ◌∙◌, slice_get, slice_set, get_or, eqb, ltb, add-zero, arith}
+use Rattle.std.specs.List.{list_any}
 use Rattle.std.proofs.lemmas.Bool.{le-ltb}
 use Rattle.std.proofs.lemmas.Bool.Decides.{nat_tests}
 use Rattle.std.proofs.lemmas.List.{append-nil, length-set, length-map}
@@ -15,13 +15,13 @@ use Rattle.slicc_meaning.specs.declared.world.Request.{Request}
 use Rattle.slicc_meaning.specs.declared.world.Seat.{Seat}
 use Rattle.slicc_meaning.specs.declared.world.Setting.{Setting}
 use Rattle.slicc_meaning.specs.declared.world.World.{World}
-use Rattle.slicc_meaning.specs.Account.{issued_in, consumed_in, sent_numbers, consumed_numbers, held_messages}
+use Rattle.slicc_meaning.specs.Account.{held_messages}
 use Rattle.slicc_meaning.specs.Driver.{plain_turn, request_message, arrive, arrive_at, arrive_at_seat, issue_all, issued_numbers}
 use Rattle.slicc_meaning.specs.Front.{same_number, with_message}
-use Rattle.slicc_meaning.specs.Step.{Stepped, is_busy, begun, next_world, after_driver, driven, turn_by, turn}
+use Rattle.slicc_meaning.specs.Step.{is_busy, begun, next_world, after_driver, driven, turn_by, turn}
 use Rattle.slicc_meaning.specs.Verdict.{next_cycle, least_stopped, end_of_cycle}
 use Rattle.slicc_meaning.specs.World.{opening_place}
-use Rattle.slicc_meaning.proofs.Tallies.{one, tally, tally-append, tally-set, tally-within, tally-same}
+use Rattle.slicc_meaning.proofs.Tallies.{one, tally, tally-set, tally-within, flat_map-same}
 use Rattle.slicc_meaning.proofs.Inboxes.{mail, mail-with}
 use Rattle.slicc_meaning.proofs.Kept.{stands, held, IsKept, IsGood, IsGoodIf}
 
@@ -67,9 +67,9 @@ none-arrived s w =
     record {
       places = refl;
       sent = λ number.
-        let same : stands (length w.places) (w.issued + 0) number ≡ stands (length w.places) w.issued number =
-            ap (λ k. stands (length w.places) k number) (add-zero w.issued) in
-        omega (arith, same);
+          let same : stands (length w.places) (w.issued + 0) number ≡ stands (length w.places) w.issued number =
+          ap (λ k. stands (length w.places) k number) (add-zero w.issued) in
+          omega (arith, same);
       moved = λ f. omega arith;
     }
 
@@ -78,10 +78,10 @@ at_place : (places : List Place) (c : ℕ) (m : Message) (p : Place) → slice_g
     → (f : MsgNo → Bool) → one (f m.number) + held f places ≡ held f (slice_set places c (arrive m p))
 at_place places c m p there none f =
     let within : mail (same_number m.number) p.controller.inbox ≤ held (same_number m.number) places =
-        tally-within (λ (x : Message). same_number m.number x.number) (λ (q : Place). q.controller.inbox) places c p there in
+    tally-within (λ (x : Message). same_number m.number x.number) (λ (q : Place). q.controller.inbox) places c p there in
     let new : mail (same_number m.number) p.controller.inbox ≡ 0 = omega (arith, within, none) in
     let changed : held f (slice_set places c (arrive m p)) + mail f p.controller.inbox ≡ held f places + mail f (with_message p.controller.inbox m) =
-        tally-set (λ (x : Message). f x.number) (λ (q : Place). q.controller.inbox) places c p (arrive m p) there in
+    tally-set (λ (x : Message). f x.number) (λ (q : Place). q.controller.inbox) places c p (arrive m p) there in
     omega (arith, changed, mail-with f p.controller.inbox m new)
 
 -- where it comes to
@@ -103,19 +103,19 @@ one-arrived s n w journal r kept seated =
     let within : c < length w.places = omega (arith, bound, long) in
     let there : slice_get w.places c ≡ Some p = slice_get-get_or w.places c opening_place within in
     let is : arrive_at_seat w.places m (slice_get s.topology.seats r.seat) ≡ slice_set w.places c (arrive m p) =
-        arrived-is s.topology.seats w.places m r.seat seated.seat p seated.there there in
+    arrived-is s.topology.seats w.places m r.seat seated.seat p seated.there there in
     let unsent : stands n w.issued number ≡ 0 = stands-none n w.issued number (omega arith) in
     let none : held (same_number number) w.places ≡ 0 = omega (arith, unsent, kept.sent number, kept.moved (same_number number)) in
     record {
       places = ap (λ (ps : List Place). length ps) is ∙ length-set w.places c (arrive m p);
       sent = λ other.
-        let next = stands-next (length w.places) w.issued other in
-        omega (arith, next);
+          let next = stands-next (length w.places) w.issued other in
+          omega (arith, next);
       moved = λ f.
-        let come = at_place w.places c m p there none f in
-        let same : held f (arrive_at_seat w.places m (slice_get s.topology.seats r.seat)) ≡ held f (slice_set w.places c (arrive m p)) =
-            ap (λ (ps : List Place). held f ps) is in
-        omega (arith, come, same);
+          let come = at_place w.places c m p there none f in
+          let same : held f (arrive_at_seat w.places m (slice_get s.topology.seats r.seat)) ≡ held f (slice_set w.places c (arrive m p)) =
+          ap (λ (ps : List Place). held f ps) is in
+          omega (arith, come, same);
     }
 
 -- the next world has the same places, inboxes and count
@@ -130,7 +130,7 @@ next_world-is w None None = record { places = refl; held_messages = refl; issued
 next_world-is w (Some now) None =
     record {
       places = length-map w.places (begun now);
-      held_messages = tally-same {X = Place} {Y = Message} (λ m. true) (λ (p : Place). p.controller.inbox) (begun now) (λ p. refl) w.places;
+      held_messages = flat_map-same (λ (p : Place). p.controller.inbox) (begun now) (λ p. refl) w.places;
       issued = refl;
     }
 
@@ -145,14 +145,14 @@ driver-good s w t arrived =
     record {
       places = is.places ∙ arrived.places;
       sent = λ number.
-        let all : tally (same_number number) (numbers ++ []) ≡ tally (same_number number) numbers = ap (λ v. tally (same_number number) v) (append-nil numbers) in
-        let same : stands (length w.places) (next_world v next verdict).issued number ≡ stands (length w.places) v.issued number =
-            ap (λ k. stands (length w.places) k number) is.issued in
-        omega (arith, all, same, arrived.sent number);
+          let all : tally (same_number number) (numbers ++ []) ≡ tally (same_number number) numbers = ap (λ v. tally (same_number number) v) (append-nil numbers) in
+          let same : stands (length w.places) (next_world v next verdict).issued number ≡ stands (length w.places) v.issued number =
+          ap (λ k. stands (length w.places) k number) is.issued in
+          omega (arith, all, same, arrived.sent number);
       moved = λ f.
-        let all : tally f (numbers ++ []) ≡ tally f numbers = ap (λ v. tally f v) (append-nil numbers) in
-        let same : held f (next_world v next verdict).places ≡ held f v.places = ap (λ (ms : List Message). mail f ms) is.held_messages in
-        omega (arith, all, same, arrived.moved f);
+          let all : tally f (numbers ++ []) ≡ tally f numbers = ap (λ v. tally f v) (append-nil numbers) in
+          let same : held f (next_world v next verdict).places ≡ held f v.places = ap (λ (ms : List Message). mail f ms) is.held_messages in
+          omega (arith, all, same, arrived.moved f);
     }
 
 module _ (s : Setting) (n : ℕ) (w : World) (journal : List Entry) (kept : IsKept n w journal) (seated : IsSeated s.topology.seats n 0) where
@@ -167,6 +167,6 @@ module _ (s : Setting) (n : ℕ) (w : World) (journal : List Entry) (kept : IsKe
   pub turn-good : IsGoodIf w (turn s w)
   turn-good =
       elim (list_any (is_busy w.now) w.places) as (λ b. IsGoodIf w (cond b None (Some (turn_by s w (least_stopped 0 w.places))))) [
-        true ↦ tt
-      | false ↦ turn_by-good (least_stopped 0 w.places)
+        | true ↦ tt
+        | false ↦ turn_by-good (least_stopped 0 w.places)
       ]

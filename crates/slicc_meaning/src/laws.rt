@@ -9,10 +9,10 @@ ghost use Rattle.slicc_meaning.specs.Account.{IsAccounted, account};
 ghost use Rattle.slicc_meaning.specs.Run.{IsRun};
 ghost use Rattle.slicc_meaning.specs.Topology.{HasSeats, plain_of as plain_of_plan};
 
-/// In a run each message number stands once among the sent ones and is in exactly one place, and the account adds up.
+/// In a run whose topology has its seats, no message number is sent twice, each one that was sent is in exactly one
+/// place, no other is in one, and the account's other parts add up to its first. A plain topology has its seats.
 pub fn accounts_for_each_message()
     ensures accounted { (s : SettingRecord) (history : List EventRecord) (w : WorldRecord) (journal : List EntryRecord) → HasSeats s.topology → IsRun s history w journal → IsAccounted journal w }
     ensures adds_up { (s : SettingRecord) (history : List EventRecord) (w : WorldRecord) (journal : List EntryRecord) → HasSeats s.topology → IsRun s history w journal → let a = account journal w.places in a.sent ≡ a.consumed + a.queued + a.stalled + a.recycled }
     ensures plain_has_seats { (p : PlanRecord) → HasSeats (plain_of_plan p) }
-{
-}
+{}
