@@ -5,3 +5,9 @@ pub mod KeptMarks
 pub mod Cleared
 pub mod Waking
 pub mod WokenOnce
+pub mod Tallies
+pub mod Inboxes
+pub mod Scans
+pub mod Kept
+pub mod Turns
+pub mod Accounting
