@@ -1,5 +1,6 @@
 -- Each clause of the top call, from the reply that it found and whether its text was written whole.
-use Rattle.std.proofs.Common.{◌≡◌, ◌≢◌, ◌<◌, ◌≤◌, ◌⊎◌, inl, inr, ℕ, Bool, true, false, Option, None, Some, List, [], ◌∷◌, length, refl, sym, ◌∙◌, ap, subst, arith, IfSome, IsSome}
+use Rattle.std.proofs.Common.{◌≡◌, ◌≢◌, ◌<◌, ◌≤◌, ◌⊎◌, inl, inr, ℕ, Bool, true, false, Option, None, Some, List, [], ◌∷◌, length, refl, sym, ◌∙◌, ap, subst, arith, IfSome, IsSome, ◌+◌, rules}
+use Rattle.std.specs.Prelude.{sum}
 use Rattle.std.specs.Option.{ForSome}
 use Rattle.std.specs.Bool.{OnTrue, OnFalse}
 use Rattle.ruby_outside.specs.Sink.{grown, IsCutOff}
@@ -13,11 +14,16 @@ use Rattle.slicc_meaning.specs.declared.record.Verdict.{Verdict}
 use Rattle.slicc_meaning.specs.declared.record.Verdict.TheVariants.{Stop, Quiet, Cycles}
 use Rattle.slicc_meaning.specs.Answer.{Answer, Runs, Refused, Absent, TooLarge, IsAnswer, file_limit}
 use Rattle.slicc_meaning.specs.Record.{setting}
+use Rattle.slicc_meaning.specs.declared.plan.Plan.{Plan}
+use Rattle.slicc_meaning.specs.declared.record.Account.{Account}
+use Rattle.slicc_meaning.specs.Topology.{HasSeats, plain_of}
+use Rattle.slicc_meaning.proofs.Accounting.{kept, accounted, adds_up}
 use Rattle.slicc_meaning.proofs.InvalidRuns.{invalid_exactly}
+use Rattle.slicc_meaning.proofs.WokenOnce.{wakes_once}
 use Rattle.ruby_cli.specs.declared.reply.Reply.{Reply}
 use Rattle.ruby_cli.specs.declared.reply.Reply.TheVariants as reply
 use Rattle.ruby_cli.specs.Reply.{IsReply, reply_text, reply_status, reply_kept, done_with}
-use Rattle.ruby_cli.specs.Top.{IsWholeRun, IsInvalidExactly, IsTallied, IsAsAsked, IsVerdictStatus, IsStatusOf, IsOneOf, IsRightText, IsBegun, KeepsRun, IsComplete, whole_text, verdict_status}
+use Rattle.ruby_cli.specs.Top.{IsWholeRun, IsWokenOnce, IsMessageAccount, IsInvalidExactly, IsTallied, IsAsAsked, IsVerdictStatus, IsStatusOf, IsOneOf, IsRightText, IsBegun, KeepsRun, IsComplete, whole_text, verdict_status}
 
 same_bytes : (files : Files) (o : Options) (a b : List ℕ) → bytes_of files o.protocol ≡ Some a → bytes_of files o.protocol ≡ Some b → a ≡ b
 same_bytes files o a b is_a is_b = cc
@@ -61,6 +67,10 @@ verdict_not (Quiet cycle) n more is = absurd (omega (arith, more, is))
 verdict_not (Stop cycle c) n more is = absurd (omega (arith, more, is))
 verdict_not (Cycles cycle) n more is = absurd (omega (arith, more, is))
 
+-- the plain topology has its seat
+plain-seats : (p : Plan) → HasSeats (plain_of p)
+plain-seats p = search rules
+
 -- what follows for a whole run holds of a record that is one
 pub for_kept : (P : RunRecord → Type 0) → ((r : RunRecord) → IsWholeRun r → P r) → (kept : Option RunRecord) → IfSome kept IsWholeRun → IfSome kept P
 for_kept P follows None whole = tt
@@ -68,6 +78,17 @@ for_kept P follows (Some r) whole = follows r whole
 
 pub invalid-whole : (r : RunRecord) → IsWholeRun r → IsInvalidExactly r
 invalid-whole r (w, is_record, ended) = invalid_exactly (setting r) r.history w r.journal is_record.run
+
+pub woken-whole : (r : RunRecord) → IsWholeRun r → IsWokenOnce r
+woken-whole r (w, is_record, ended) = wakes_once (setting r) r.history w r.journal is_record.run
+
+-- a run over the plain topology accounts for its messages
+accounted-plain : (r : RunRecord) → HasSeats r.topology → IsWholeRun r → IsMessageAccount r
+accounted-plain r seats (w, is_record, ended) =
+    let is_kept = kept (setting r) r.history w r.journal seats is_record.run in
+    let sum_is = adds_up (sum r.topology.counts) w r.journal is_kept in
+    let adds : Account → Type 0 = λ a. a.sent ≡ a.consumed + a.queued + a.stalled + a.recycled in
+    (w, is_record, accounted (sum r.topology.counts) w r.journal is_kept, subst adds (sym is_record.account) sum_is)
 
 pub tallied-whole : (r : RunRecord) → IsWholeRun r → IsTallied r
 tallied-whole r (w, is_record, ended) = is_record.tallies
@@ -79,6 +100,15 @@ module _ (rose : Type 0) (o : Options) where
   run-clause files (reply.Absent name) written is = tt
   run-clause files (reply.TooLarge name) written is = tt
   run-clause files (reply.Faulted name) written is = tt
+
+  pub accounted-clause : (files : Option Files) (r : Reply) (written : Bool) → IsReply files rose o r → IfSome (done_with r written).kept IsMessageAccount
+  accounted-clause files (reply.Ran r) written is =
+      let seats : HasSeats r.topology = subst HasSeats (sym is.2) (plain-seats r.plan) in
+      accounted-plain r seats is.0
+  accounted-clause files (reply.Refused name) written is = tt
+  accounted-clause files (reply.Absent name) written is = tt
+  accounted-clause files (reply.TooLarge name) written is = tt
+  accounted-clause files (reply.Faulted name) written is = tt
 
   pub asked-clause : (files : Option Files) (r : Reply) (written : Bool) → IsReply files rose o r → IfSome (done_with r written).kept (IsAsAsked files o)
   asked-clause files (reply.Ran r) written is = is.1

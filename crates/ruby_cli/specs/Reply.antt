@@ -28,7 +28,7 @@ IsReplyTo bytes o (reply.Faulted name) = ⊥
 
 -- the reply over a library; a fault only where its count rose
 abbrev pub IsReply : Option Files → Type 0 → Options → Reply → Type 0
-IsReply files rose o (reply.Ran r) = IsWholeRun r × IsAsAsked files o r
+IsReply files rose o (reply.Ran r) = IsWholeRun r × IsAsAsked files o r × (r.topology ≡ plain_of r.plan)
 IsReply files rose o (reply.Refused name) = (name ≡ o.protocol) × ForSome files (λ told. IsAnswer told o Refused)
 IsReply files rose o (reply.Absent name) = (name ≡ o.protocol) × ForSome files (λ told. IsAnswer told o Absent)
 IsReply files rose o (reply.TooLarge name) = (name ≡ o.protocol) × ForSome files (λ told. IsAnswer told o TooLarge)

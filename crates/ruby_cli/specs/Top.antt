@@ -1,7 +1,7 @@
 -- What a call of the program answers: a status, a record where a run was made, and the bytes that it wrote. Each
 -- definition is one clause of the top call; `before` and `after` are counts of faults, or what a sink tells, as the
 -- call begins and ends.
-use Rattle.std.specs.Prelude.{◌≡◌, ◌≢◌, ◌⊎◌, ◌==◌, ℕ, Option, None, Some, List, [], ◌∷◌, IsSome, if◌then◌else◌}
+use Rattle.std.specs.Prelude.{◌≡◌, ◌+◌, ◌≢◌, ◌⊎◌, ◌==◌, ℕ, Option, None, Some, List, [], ◌∷◌, IsSome, if◌then◌else◌}
 use Rattle.std.specs.Option.{ForSome}
 use Rattle.ruby_outside.specs.Files.{Files}
 use Rattle.ruby_outside.specs.Sink.{IsCutOff}
@@ -10,6 +10,7 @@ use Rattle.slicc_meaning.specs.declared.record.RunRecord.{RunRecord}
 use Rattle.slicc_meaning.specs.declared.record.Verdict.{Verdict}
 use Rattle.slicc_meaning.specs.declared.record.Verdict.TheVariants.{Stop, Quiet, Cycles}
 use Rattle.slicc_meaning.specs.declared.world.World.{World}
+use Rattle.slicc_meaning.specs.Account.{IsAccounted}
 use Rattle.slicc_meaning.specs.Answer.{Answer, Runs, Refused, Absent, TooLarge, IsAnswer}
 use Rattle.slicc_meaning.specs.InvalidExactly.{InvalidExactly}
 use Rattle.slicc_meaning.specs.Record.{IsRecordOf, setting}
@@ -27,6 +28,13 @@ IsWholeRun r = (w : World) × IsRecordOf r w × HasEnded w
 -- each controller that must wake at a cycle of the record's run wakes in it once, and no other does
 abbrev pub IsWokenOnce : RunRecord → Type 0
 IsWokenOnce r = WakesOnce (setting r) r.history
+
+-- each message number of the record's run was sent once and is in exactly one place: consumed by one entry, or in one
+-- inbox, as stalled, recycled or queued; and the account's four parts add up to its first number
+abbrev pub IsMessageAccount : RunRecord → Type 0
+IsMessageAccount r =
+    (w : World) × IsRecordOf r w × IsAccounted r.journal w
+    × (r.account.sent ≡ r.account.consumed + r.account.queued + r.account.stalled + r.account.recycled)
 
 -- a wake-up ended as `invalid` exactly where its scan triggered a pair without a transition, and then with that pair
 abbrev pub IsInvalidExactly : RunRecord → Type 0

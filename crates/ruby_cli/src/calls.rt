@@ -150,3 +150,72 @@ fn answers_each_kind_of_file(rt: HostRuntime) -> Result<(), Fail> {
     }
     Ok(())
 }
+
+/// The first lines of a text, so many of them.
+fn first_lines(text: &str, count: usize) -> &[u8] {
+    let bytes = text.as_bytes();
+    let mut left = count;
+    for (i, b) in bytes.iter().enumerate() {
+        if left == 0 {
+            return &bytes[..i];
+        }
+        if *b == b'\n' {
+            left -= 1;
+        }
+    }
+    bytes
+}
+
+fn one(alloc: Global, call: u64) -> Result<Seq<u64>, NoMemory> {
+    let mut calls = Seq::new(alloc);
+    calls.push(call)?;
+    Ok(calls)
+}
+
+#[test]
+fn answers_each_kind_of_fault(rt: HostRuntime) -> Result<(), Fail> {
+    let alloc = rt.alloc();
+    let asked = words(alloc, &["run", "tick.sm", "3"])?;
+    let asked = asked.as_slice();
+    // The failing write, the most bytes that a write takes, the failing read, the status, and the lines written.
+    let rows: [(u64, u64, u64, u8, &[u8]); 9] = [
+        (1, 4096, 9, 7, b""),
+        (2, 4096, 9, 7, first_lines(THREE, 1)),
+        (3, 4096, 9, 7, first_lines(THREE, 2)),
+        (4, 4096, 9, 7, first_lines(THREE, 3)),
+        (5, 4096, 9, 7, first_lines(THREE, 4)),
+        (6, 4096, 9, 7, first_lines(THREE, 5)),
+        (9999, 1, 9, 0, THREE.as_bytes()),
+        (9999, 0, 9, 7, b""),
+        (9999, 4096, 1, 5, b"library fault tick.sm\n"),
+    ];
+    for (write, most, read, status, expected) in rows {
+        let mut library = MemLibrary::new(
+            alloc,
+            files(alloc, ticker(alloc, true)?)?,
+            one(alloc, read)?,
+        );
+        let mut sink = MemSink::new(alloc, one(alloc, write)?, most, 4096)?;
+        let done = ruby(&rt, alloc, asked, &mut library, &mut sink, &OpenGate);
+        assert_eq!(rt; sink.bytes(), expected);
+        assert_eq!(rt; done.status, status);
+    }
+    let mut library = SureLibrary::new(alloc, files(alloc, Text::copied(alloc, b"machine")?)?);
+    let mut sink = MemSink::new(alloc, one(alloc, 1)?, 4096, 4096)?;
+    assert_eq!(rt;
+        ruby(&rt, alloc, asked, &mut library, &mut sink, &OpenGate).status,
+        7
+    );
+    let mut library = SureLibrary::new(alloc, files(alloc, ticker(alloc, true)?)?);
+    let done = ruby(
+        &rt,
+        alloc,
+        asked,
+        &mut library,
+        &mut SureSink::new(),
+        &OpenGate,
+    );
+    assert_eq!(rt; done.status, 0);
+    assert!(rt; done.kept.is_some());
+    Ok(())
+}

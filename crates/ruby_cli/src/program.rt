@@ -5,7 +5,7 @@ ghost use Rattle.ruby_outside.specs.Faults.{Rose};
 ghost use Rattle.ruby_outside.specs.Sink.{grown, IsCutOff};
 ghost use Rattle.slicc_meaning.specs.Answer.{Refused, Absent, TooLarge};
 ghost use Rattle.ruby_cli.specs.Answers.{usage_line as usage_text};
-ghost use Rattle.ruby_cli.specs.Top.{IsWholeRun, IsInvalidExactly, IsTallied, IsAsAsked, IsVerdictStatus, IsStatusOf, IsOneOf, IsBegun, KeepsRun, IsComplete, asked_text};
+ghost use Rattle.ruby_cli.specs.Top.{IsWholeRun, IsWokenOnce, IsMessageAccount, IsInvalidExactly, IsTallied, IsAsAsked, IsVerdictStatus, IsStatusOf, IsOneOf, IsBegun, KeepsRun, IsComplete, asked_text};
 ghost use Rattle.ruby_cli.specs.Words.{asked as asked_of};
 
 use crate::answers::usage_line;
@@ -63,6 +63,8 @@ pub fn ruby<R: Threads + Wait + Sync, L: Library, S: Sink, G: Gate + Sync>(
 ) -> Done
     // A record is of one whole run, and of what was asked.
     ensures record_is_a_run { IfSome result.kept IsWholeRun }
+    ensures woken_once { IfSome result.kept IsWokenOnce }
+    ensures accounted { IfSome result.kept IsMessageAccount }
     ensures invalid_exactly { IfSome result.kept IsInvalidExactly }
     ensures tallied { IfSome result.kept IsTallied }
     ensures as_asked { ForSome (asked_of (map string_bytes words.now)) (λ o. IfSome result.kept (IsAsAsked (L.files library.old) o)) }

@@ -4,7 +4,7 @@ ghost use Rattle.ruby_outside.specs.Faults.{Rose};
 ghost use Rattle.ruby_outside.specs.Sink.{grown};
 ghost use Rattle.slicc_meaning.specs.Answer.{Refused, Absent, TooLarge};
 ghost use Rattle.ruby_cli.specs.Reply.{IsReply, reply_text, done_with};
-ghost use Rattle.ruby_cli.specs.Top.{IsWholeRun, IsInvalidExactly, IsTallied, IsAsAsked, IsVerdictStatus, IsStatusOf, IsOneOf, IsBegun, KeepsRun, IsComplete, whole_text, verdict_status as verdict_status_of};
+ghost use Rattle.ruby_cli.specs.Top.{IsWholeRun, IsWokenOnce, IsMessageAccount, IsInvalidExactly, IsTallied, IsAsAsked, IsVerdictStatus, IsStatusOf, IsOneOf, IsBegun, KeepsRun, IsComplete, whole_text, verdict_status as verdict_status_of};
 
 use crate::lines::write_lines;
 use crate::reply::{Reply, find_reply, text_of_reply};
@@ -105,6 +105,8 @@ pub fn ruby_alone<L: Library, S: Sink>(
 
     // A record is of one whole run, and of what was asked.
     ensures record_is_a_run { IfSome result.kept IsWholeRun }
+    ensures woken_once { IfSome result.kept IsWokenOnce }
+    ensures accounted { IfSome result.kept IsMessageAccount }
     ensures invalid_exactly { IfSome result.kept IsInvalidExactly }
     ensures tallied { IfSome result.kept IsTallied }
     ensures as_asked { IfSome result.kept (IsAsAsked (L.files library.old) options) }

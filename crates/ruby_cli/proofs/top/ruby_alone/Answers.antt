@@ -2,8 +2,8 @@ use Rattle.std.proofs.Common.{IfSome, sym, ◌∙◌, subst}
 use Rattle.ruby_outside.specs.Faults.{Rose}
 use Rattle.slicc_meaning.specs.declared.record.RunRecord.{RunRecord}
 use Rattle.ruby_cli.specs.declared.top.Done.{Done}
-use Rattle.ruby_cli.specs.Top.{IsWholeRun, IsInvalidExactly, IsTallied, IsAsAsked}
-use Rattle.ruby_cli.proofs.Replies.{for_kept, invalid-whole, tallied-whole, run-clause, asked-clause, written-clause, cut-clause, keeps-clause, complete-clause}
+use Rattle.ruby_cli.specs.Top.{IsWholeRun, IsWokenOnce, IsMessageAccount, IsInvalidExactly, IsTallied, IsAsAsked}
+use Rattle.ruby_cli.proofs.Replies.{for_kept, woken-whole, accounted-clause, invalid-whole, tallied-whole, run-clause, asked-clause, written-clause, cut-clause, keeps-clause, complete-clause}
 use Rattle.ruby_cli.proofs.top.ruby_alone.Goals as goal
 
 pub returns-in-Ok-clause-record_is_a_run : goal.returns-in-Ok-clause-record_is_a_run
@@ -18,6 +18,16 @@ run-of P follows d whole = for_kept P follows d.kept whole
 pub returns-in-Ok-clause-invalid_exactly : goal.returns-in-Ok-clause-invalid_exactly
 returns-in-Ok-clause-invalid_exactly g c =
     run-of IsInvalidExactly invalid-whole c.finish.result (returns-in-Ok-clause-record_is_a_run g c)
+
+pub returns-in-Ok-clause-woken_once : goal.returns-in-Ok-clause-woken_once
+returns-in-Ok-clause-woken_once g c =
+    run-of IsWokenOnce woken-whole c.finish.result (returns-in-Ok-clause-record_is_a_run g c)
+
+pub returns-in-Ok-clause-accounted : goal.returns-in-Ok-clause-accounted
+returns-in-Ok-clause-accounted g c =
+    let rose = Rose (g.L.Library.faults c.args.library.now) (g.L.Library.faults c.prepare.new.library) in
+    subst (λ (d : Done). IfSome d.kept IsMessageAccount) (sym c.finish.ensures)
+    (accounted-clause rose c.args.options (g.L.Library.files c.args.library.now) c.in-Ok.reply c.write_lines-written.result c.in-Ok.ensures.reply)
 
 pub returns-in-Ok-clause-tallied : goal.returns-in-Ok-clause-tallied
 returns-in-Ok-clause-tallied g c =
