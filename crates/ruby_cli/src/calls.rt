@@ -1,9 +1,11 @@
 // Whole calls over libraries and sinks in memory. The expected bytes are those that the texts' forms prescribe.
 use super::*;
 use ruby_base::{NoMemory, Seq, Text};
-use ruby_outside::{MemLibrary, MemSink, OpenGate, SureLibrary, SureSink};
+use ruby_outside::{Library, MemLibrary, MemSink, OpenGate, Sink, SureLibrary, SureSink};
 use std::alloc::Global;
+use std::sync::Wait;
 use std::test::Fail;
+use std::thread::Threads;
 
 const TICK: &str = "machine(MachineType:Node, \"ticker\")
   : MessageBuffer * mandatoryQueue;
@@ -67,6 +69,19 @@ fn files(alloc: Global, bytes: Text) -> Result<Seq<(Text, Text)>, NoMemory> {
     Ok(files)
 }
 
+/// The status of a whole call, and whether a record is kept. The tests look at nothing else of what the call's contract
+/// says, so it says nothing.
+fn call<R: Threads + Wait + Sync, L: Library, S: Sink>(
+    rt: &R,
+    alloc: Global,
+    words: &[String],
+    library: &mut L,
+    sink: &mut S,
+) -> (u8, bool) {
+    let done = ruby(rt, alloc, words, library, sink, &OpenGate);
+    (done.status, done.kept.is_some())
+}
+
 fn words(alloc: Global, words: &[&str]) -> Result<Vec<String>, NoMemory> {
     let mut all = Vec::new(alloc);
     for word in words {
@@ -97,16 +112,9 @@ fn answers_each_kind_of_call(rt: HostRuntime) -> Result<(), Fail> {
         );
         let mut sink = MemSink::new(alloc, Seq::new(alloc), 4096, 4096)?;
         let asked = words(alloc, asked)?;
-        let done = ruby(
-            &rt,
-            alloc,
-            asked.as_slice(),
-            &mut library,
-            &mut sink,
-            &OpenGate,
-        );
+        let (answered, _) = call(&rt, alloc, asked.as_slice(), &mut library, &mut sink);
         assert_eq!(rt; sink.bytes(), expected.as_bytes());
-        assert_eq!(rt; done.status, status);
+        assert_eq!(rt; answered, status);
     }
     Ok(())
 }
@@ -115,7 +123,7 @@ fn answers_each_kind_of_call(rt: HostRuntime) -> Result<(), Fail> {
 fn answers_each_kind_of_file(rt: HostRuntime) -> Result<(), Fail> {
     let alloc = rt.alloc();
     let whole = ticker(alloc, true)?;
-    let room = 1_048_576 - whole.len();
+    let room = 1_048_576_usize.saturating_sub(whole.len());
     let spaces = vec![in alloc; b' '; room]?;
     let mut longest = ticker(alloc, true)?;
     longest.append(&spaces)?;
@@ -137,16 +145,9 @@ fn answers_each_kind_of_file(rt: HostRuntime) -> Result<(), Fail> {
         let mut library = MemLibrary::new(alloc, files(alloc, bytes)?, Seq::new(alloc));
         let mut sink = MemSink::new(alloc, Seq::new(alloc), 4096, 4096)?;
         let asked = words(alloc, &["run", "tick.sm", count])?;
-        let done = ruby(
-            &rt,
-            alloc,
-            asked.as_slice(),
-            &mut library,
-            &mut sink,
-            &OpenGate,
-        );
+        let (answered, _) = call(&rt, alloc, asked.as_slice(), &mut library, &mut sink);
         assert_eq!(rt; sink.bytes(), expected.as_bytes());
-        assert_eq!(rt; done.status, status);
+        assert_eq!(rt; answered, status);
     }
     Ok(())
 }
@@ -196,26 +197,18 @@ fn answers_each_kind_of_fault(rt: HostRuntime) -> Result<(), Fail> {
             one(alloc, read)?,
         );
         let mut sink = MemSink::new(alloc, one(alloc, write)?, most, 4096)?;
-        let done = ruby(&rt, alloc, asked, &mut library, &mut sink, &OpenGate);
+        let (answered, _) = call(&rt, alloc, asked, &mut library, &mut sink);
         assert_eq!(rt; sink.bytes(), expected);
-        assert_eq!(rt; done.status, status);
+        assert_eq!(rt; answered, status);
     }
     let mut library = SureLibrary::new(alloc, files(alloc, Text::copied(alloc, b"machine")?)?);
     let mut sink = MemSink::new(alloc, one(alloc, 1)?, 4096, 4096)?;
-    assert_eq!(rt;
-        ruby(&rt, alloc, asked, &mut library, &mut sink, &OpenGate).status,
-        7
-    );
+    let (answered, _) = call(&rt, alloc, asked, &mut library, &mut sink);
+    assert_eq!(rt; sink.bytes().len(), 0);
+    assert_eq!(rt; answered, 7);
     let mut library = SureLibrary::new(alloc, files(alloc, ticker(alloc, true)?)?);
-    let done = ruby(
-        &rt,
-        alloc,
-        asked,
-        &mut library,
-        &mut SureSink::new(),
-        &OpenGate,
-    );
-    assert_eq!(rt; done.status, 0);
-    assert!(rt; done.kept.is_some());
+    let (answered, is_kept) = call(&rt, alloc, asked, &mut library, &mut SureSink::new());
+    assert_eq!(rt; answered, 0);
+    assert!(rt; is_kept);
     Ok(())
 }
