@@ -1,9 +1,9 @@
 -- The files of a library: a finite map from names to bytes, as a list of pairs in which the first pair with a name
 -- counts. `Reads` says which answers to a read are right where the library tells this map. When a read has to fail,
 -- or when memory is missing, is not said here.
-use Rattle.std.specs.Prelude.{◌≡◌, ℕ, ◌<◌, ◌≤◌, List, [], ◌∷◌, length, Option, Some, None, bytes_eq, if◌then◌else◌}
+use Rattle.std.specs.Prelude.{◌≡◌, ◌≢◌, ◌↔◌, IsTrue, ℕ, ◌<◌, ◌≤◌, List, [], ◌∷◌, length, Option, Some, None, bytes_eq, if◌then◌else◌}
 use Rattle.ruby_outside.specs.Faults.{counted}
-use Rattle.ruby_outside.specs.Plan.{PlanState}
+use Rattle.ruby_outside.specs.Plan.{PlanState, after_call, is_planned}
 use Rattle.ruby_outside.specs.declared.library.Got.{Got}
 use Rattle.ruby_outside.specs.declared.library.Got.TheVariants.{Bytes, Absent, TooLarge, Failed, NoMemory}
 
@@ -44,7 +44,26 @@ count_after TooLarge faults = faults
 count_after Failed faults = counted faults
 count_after NoMemory faults = faults
 
--- a library in memory: its files, and the plan of its faults
+-- a library in memory that fails by a plan: its files, and the plan of its faults
 pub record LibraryState : Type 0 where
   pub files : Files
   pub plan : PlanState
+
+-- one read of such a library: it is a call by the plan, it fails exactly where the plan says so, and else its answer is
+-- right for its files, which stay the same
+pub record IsPlannedRead (before : LibraryState) (name : List ℕ) (limit : ℕ) (got : Got) (after : LibraryState) : Type 0 where
+  pub files : after.files ≡ before.files
+  pub plan : after.plan ≡ after_call before.plan
+  pub failed : (got ≡ Failed) ↔ IsTrue (is_planned before.plan)
+  pub answer : Reads before.files name limit got
+
+-- one read of a library in memory that never fails: its answer is right for its files, which are all there is of it
+pub record IsSureRead (before : Files) (name : List ℕ) (limit : ℕ) (got : Got) (after : Files) : Type 0 where
+  pub same : after ≡ before
+  pub never_failed : got ≢ Failed
+  pub answer : Reads before name limit got
+
+-- one read of a library that tells none of its files and is its count of faults
+pub record IsCountedRead (before limit : ℕ) (got : Got) (after : ℕ) : Type 0 where
+  pub faults : after ≡ count_after got before
+  pub within : IsWithin limit got

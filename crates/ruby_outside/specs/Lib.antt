@@ -1,4 +1,5 @@
 pub mod Faults
 pub mod Files
 pub mod Plan
+pub mod Put
 pub mod Sink

@@ -1,7 +1,7 @@
 -- What a sink has taken. Where it tells its bytes, a call adds to their end; where it tells none, it still tells none.
 -- A piece that was cut off is there by a beginning of it that is not the whole. How many bytes a sink takes in one
 -- call is its own affair, but for the sink in memory, whose state stands here too.
-use Rattle.std.specs.Prelude.{◌≡◌, ℕ, ◌-◌, ◌<◌, ◌==◌, ◌&&◌, min, Bool, false, not, List, ◌++◌, length, take, Option, Some, None, if◌then◌else◌}
+use Rattle.std.specs.Prelude.{◌≡◌, ℕ, ◌-◌, ◌<◌, ◌≤◌, ◌==◌, ◌&&◌, min, Bool, false, not, List, ◌++◌, length, take, Option, Some, None, if◌then◌else◌}
 use Rattle.ruby_outside.specs.Faults.{counted}
 use Rattle.ruby_outside.specs.Plan.{PlanState, is_planned, after_call, after_fault}
 use Rattle.ruby_outside.specs.declared.sink.Wrote.{Wrote}
@@ -53,3 +53,13 @@ after_write sink piece wrote = record sink {
   written = sink.written ++ take (bytes_taken wrote) piece;
   plan = if is_stuck piece wrote then after_fault (after_call sink.plan) else after_call sink.plan;
 }
+
+-- one write to such a sink: its answer, and the sink after it
+pub record IsPlannedWrite (before : SinkState) (piece : List ℕ) (wrote : Wrote) (after : SinkState) : Type 0 where
+  pub answer : wrote ≡ answer_to before piece
+  pub state : after ≡ after_write before piece wrote
+
+-- one write to a sink that tells none of its bytes and is its count of faults
+pub record IsCountedWrite (before : ℕ) (piece : List ℕ) (wrote : Wrote) (after : ℕ) : Type 0 where
+  pub within : bytes_taken wrote ≤ length piece
+  pub faults : after ≡ count_after piece wrote before

@@ -2,6 +2,7 @@ ghost use Rattle.std.specs.Prelude.{◌≡◌, ◌≤◌, ℕ, List, Option};
 ghost use Rattle.std.specs.Option.{ForSome};
 ghost use Rattle.ruby_outside.specs.Faults.{Rose};
 ghost use Rattle.ruby_outside.specs.Files.{Reads};
+ghost use Rattle.ruby_outside.specs.declared.library.Got.{Got as GotRecord};
 
 use ruby_base::Text;
 
@@ -29,9 +30,14 @@ pub trait Library {
     /// How many reads have failed. It stands still at 2^64 - 1.
     ghost faults: { Self → ℕ };
 
+    /// What one read is, as far as the library says: the library before it, the name, the limit, the answer, and the
+    /// library after it. So a caller can promise that it made one read and no other, and by which answer it went.
+    ghost reads: { Self → List ℕ → ℕ → GotRecord → Self → Type 0 };
+
     /// Reads the file of a name whole, if it has no more than `limit` bytes. A fault or want of memory may come in
     /// place of any other answer. The files that it tells stay the same.
     fn read(&mut self, name: &str, limit: u64) -> Got
+        ensures step { reads self.old name.now limit result self.new }
         ensures files { files self.new ≡ files self.old }
         ensures counts { faults self.old ≤ faults self.new }
         ensures failed { result ≡ Got.Failed → Rose (faults self.old) (faults self.new) }

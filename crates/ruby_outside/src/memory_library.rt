@@ -1,7 +1,7 @@
-ghost use Rattle.std.specs.Prelude.{◌≡◌, ◌≢◌, ◌↔◌, ◌≤◌, ℕ, List, Option, Some, IsTrue};
+ghost use Rattle.std.specs.Prelude.{◌≡◌, ◌≢◌, ◌≤◌, ℕ, List, Option, Some};
 ghost use Rattle.std.specs.Option.{option_copied};
 ghost use Rattle.ruby_outside.specs.Plan.{begun, is_planned, after_call};
-ghost use Rattle.ruby_outside.specs.Files.{IsReadable, Reads, bytes_of};
+ghost use Rattle.ruby_outside.specs.Files.{IsPlannedRead, IsReadable, IsSureRead, Reads, bytes_of};
 
 use crate::plan::Plan;
 use crate::{Got, Library};
@@ -45,12 +45,11 @@ impl Library for MemLibrary {
 
     ghost faults = { λ library. library.plan.faults };
 
+    ghost reads = { IsPlannedRead };
+
     fn read(&mut self, name: &str, limit: u64) -> Got
-        ensures files { self.new.files ≡ self.old.files }
-        ensures plan { self.new.plan ≡ after_call self.old.plan }
+        ensures read { IsPlannedRead self.old name.now limit result self.new }
         ensures counts { self.old.plan.faults ≤ self.new.plan.faults }
-        ensures failed { (result ≡ Got.Failed) ↔ IsTrue (is_planned self.old.plan) }
-        ensures answer { Reads self.old.files name.now limit result }
         ensures memory { result ≡ Got.NoMemory → IsReadable self.old.files name.now limit }
     {
         if self.plan.fails_next() {
@@ -90,10 +89,10 @@ impl Library for SureLibrary {
 
     ghost faults = { λ _. 0 };
 
+    ghost reads = { IsSureRead };
+
     fn read(&mut self, name: &str, limit: u64) -> Got
-        ensures after { self.new ≡ self.old }
-        ensures never_failed { result ≢ Got.Failed }
-        ensures answer { Reads self.old name.now limit result }
+        ensures read { IsSureRead self.old name.now limit result self.new }
         ensures memory { result ≡ Got.NoMemory → IsReadable self.old name.now limit }
     {
         copy_of(self.alloc, self.files.as_slice(), name, limit)

@@ -1,6 +1,7 @@
 ghost use Rattle.std.specs.Prelude.{◌≡◌, ◌≤◌, ◌-◌, [], ℕ, List, Option, Some, None, IfOk, length, min};
 ghost use Rattle.ruby_outside.specs.Plan.{begun};
-ghost use Rattle.ruby_outside.specs.Sink.{after_write, answer_to, share_of};
+ghost use Rattle.ruby_outside.specs.Sink.{IsPlannedWrite, share_of};
+ghost use Rattle.ruby_outside.specs.declared.sink.Wrote.TheVariants.{Took};
 
 use crate::plan::Plan;
 use crate::{Sink, Wrote};
@@ -76,9 +77,10 @@ impl Sink for MemSink {
 
     ghost faults = { λ sink. sink.plan.faults };
 
+    ghost writes = { IsPlannedWrite };
+
     fn write(&mut self, piece: &[u8]) -> Wrote
-        ensures answer { result ≡ answer_to self.old piece.now }
-        ensures after { self.new ≡ after_write self.old piece.now result }
+        ensures write { IsPlannedWrite self.old piece.now result self.new }
         ensures counts { self.old.plan.faults ≤ self.new.plan.faults }
     {
         if self.plan.fails_next() {
@@ -114,6 +116,8 @@ impl Sink for SureSink {
     ghost written = { λ _. None };
 
     ghost faults = { λ _. 0 };
+
+    ghost writes = { λ _ piece wrote _. wrote ≡ Took (length piece) };
 
     fn write(&mut self, piece: &[u8]) -> Wrote
         ensures { result ≡ Wrote.Took (length piece.now) }

@@ -1,7 +1,9 @@
 ghost use Rattle.std.specs.Prelude.{◌≡◌, ◌<◌, ◌≤◌, ℕ, List, Option, IsTrue, is_some, length, take};
 ghost use Rattle.std.specs.Bool.{OnTrue, OnFalse};
 ghost use Rattle.ruby_outside.specs.Faults.{Rose};
+ghost use Rattle.ruby_outside.specs.Put.{IsPut};
 ghost use Rattle.ruby_outside.specs.Sink.{bytes_taken, grown, IsCutOff};
+ghost use Rattle.ruby_outside.specs.declared.sink.Wrote.{Wrote as WroteRecord};
 
 /// What a sink answers to a write.
 #[derive(Clone, Copy, Debug, PartialEq, Eq)]
@@ -20,8 +22,13 @@ pub trait Sink {
     /// How many writes have failed or got stuck. It stands still at 2^64 - 1.
     ghost faults: { Self → ℕ };
 
+    /// What one write is, as far as the sink says: the sink before it, the piece, the answer, and the sink after it. So a
+    /// caller can promise which writes it made, and that it made no other.
+    ghost writes: { Self → List ℕ → WroteRecord → Self → Type 0 };
+
     /// Takes bytes from the start of the piece. To take none of a piece that isn't empty counts as a fault too.
     fn write(&mut self, piece: &[u8]) -> Wrote
+        ensures step { writes self.old piece.now result self.new }
         ensures tells { is_some (written self.new) ≡ is_some (written self.old) }
         ensures counts { faults self.old ≤ faults self.new }
         ensures within { bytes_taken result ≤ length piece.now }
@@ -33,6 +40,7 @@ pub trait Sink {
 /// Writes the whole piece, by as many writes as that takes, and answers whether it did. It answers `false`, and
 /// writes nothing further, as soon as a write fails or takes nothing. It takes no memory of its own.
 pub fn put<S: Sink>(sink: &mut S, piece: &[u8]) -> bool
+    ensures by_writes { IsPut S.writes sink.old piece.now result sink.new }
     ensures tells { is_some (S.written sink.new) ≡ is_some (S.written sink.old) }
     ensures counts { S.faults sink.old ≤ S.faults sink.new }
     ensures whole { OnTrue result (S.written sink.new ≡ grown (S.written sink.old) piece.now) }

@@ -1,7 +1,7 @@
 ghost use Rattle.std.specs.Prelude.{◌≡◌, ◌<◌, ◌≤◌, ℕ, List, Option, None, length};
 ghost use Rattle.ruby_outside.specs.Faults.{Rose};
-ghost use Rattle.ruby_outside.specs.Files.{count_after as library_count_after, IsWithin};
-ghost use Rattle.ruby_outside.specs.Sink.{bytes_taken, count_after as sink_count_after};
+ghost use Rattle.ruby_outside.specs.Files.{IsCountedRead, IsWithin};
+ghost use Rattle.ruby_outside.specs.Sink.{IsCountedWrite, bytes_taken};
 
 use crate::{Got, Library, Sink, Wrote};
 use ruby_base::Seq;
@@ -46,11 +46,12 @@ impl<'a, R: Files> Library for FileLibrary<'a, R> {
 
     ghost faults = { λ count. count };
 
+    ghost reads = { λ before _ limit got after. IsCountedRead before limit got after };
+
     fn read(&mut self, name: &str, limit: u64) -> Got
         ensures counts { self.old ≤ self.new }
-        ensures after { self.new ≡ library_count_after result self.old }
+        ensures read { IsCountedRead self.old limit result self.new }
         ensures failed { result ≡ Got.Failed → Rose self.old self.new }
-        ensures within { IsWithin limit result }
     {
         let got = read_file(self.alloc, self.runtime, name, limit);
         if let Got::Failed = got {
@@ -114,10 +115,11 @@ impl<'a, R: Print> Sink for StdSink<'a, R> {
 
     ghost faults = { λ count. count };
 
+    ghost writes = { IsCountedWrite };
+
     fn write(&mut self, piece: &[u8]) -> Wrote
-        ensures within { bytes_taken result ≤ length piece.now }
+        ensures write { IsCountedWrite self.old piece.now result self.new }
         ensures counts { self.old ≤ self.new }
-        ensures after { self.new ≡ sink_count_after piece.now result self.old }
         ensures failed { result ≡ Wrote.Failed → Rose self.old self.new }
         ensures stuck { bytes_taken result ≡ 0 → 0 < length piece.now → Rose self.old self.new }
     {
