@@ -1,26 +1,21 @@
 -- At the beginning of a cycle no controller's wake-up has ended, and nobody holds one: so it is in the opening, and after
 -- a turn that leaves no verdict.
-use Rattle.std.proofs.Common.{◌≡◌, ◌+◌, ◌||◌, ◌++◌, ℕ, zero, suc, Bool, true, false, Option, None, Some, List, [], ◌∷◌, map, length, refl, sym, ◌∙◌, ap, cond, fold, replicate, slice_get, slice_set, is_some, is_none, nat_lt, IsTrue}
+use Rattle.std.proofs.Common.{◌≡◌, ◌||◌, ◌++◌, ℕ, zero, suc, Bool, true, false, Option, None, Some, List, [], ◌∷◌, map, length, refl, ◌∙◌, ap, cond, fold, replicate, is_none, nat_lt, IsTrue}
 use Rattle.std.specs.List.{list_any}
-use Rattle.slicc_meaning.specs.declared.controller.Message.{Message}
 use Rattle.slicc_meaning.specs.declared.record.Entry.{Entry}
 use Rattle.slicc_meaning.specs.declared.record.Event.{Event}
 use Rattle.slicc_meaning.specs.declared.record.Event.TheVariants.{Take, Fire, Done, Release, Turn}
 use Rattle.slicc_meaning.specs.declared.record.Verdict.TheVariants.{Cycles}
 use Rattle.slicc_meaning.specs.declared.world.Place.{Place}
-use Rattle.slicc_meaning.specs.declared.world.Request.{Request}
-use Rattle.slicc_meaning.specs.declared.world.Seat.{Seat}
 use Rattle.slicc_meaning.specs.declared.world.Setting.{Setting}
 use Rattle.slicc_meaning.specs.declared.world.World.{World}
-use Rattle.slicc_meaning.specs.Driver.{plain_turn, request_message, arrive, arrive_at, arrive_at_seat, issue_all}
+use Rattle.slicc_meaning.specs.Driver.{plain_turn}
 use Rattle.slicc_meaning.specs.Run.{Ran, ran_on, go_on}
 use Rattle.slicc_meaning.specs.Step.{Stepped, begun, is_busy, next_world, driven, turn_by, turn, step}
 use Rattle.slicc_meaning.specs.Verdict.{next_cycle, least_stopped, end_of_cycle}
 use Rattle.slicc_meaning.specs.WakesOnce.{is_turn, ends_with_turn}
-use Rattle.slicc_meaning.specs.World.{is_due, opening_place, opening_places}
-
-abbrev pub is_held : Place → Bool
-is_held p = is_some p.holder
+use Rattle.slicc_meaning.specs.World.{is_held, opening_place, opening_places}
+use Rattle.slicc_meaning.proofs.Places.{issue_all-held, idle-nobody}
 
 -- its wake-up has ended, or somebody holds it
 abbrev pub is_touched : Place → Bool
@@ -48,44 +43,9 @@ pub where_false : (P : World → Type 0) (b : Bool) (o : Option Stepped) → (b 
 where_false P true o holds = tt
 where_false P false o holds = holds refl
 
-pub or_false : (a b : Bool) → (a || b) ≡ false → (a ≡ false) × (b ≡ false)
-or_false true b none = absurd (cc none)
-or_false false b none = (refl, none)
-
--- a test that the changed element answers as before
-any-set : {X : Type 0} (f : X → Bool) (xs : List X) (c : ℕ) (x y : X) → slice_get xs c ≡ Some x → f y ≡ f x → list_any f (slice_set xs c y) ≡ list_any f xs
-any-set f [] c x y there same = refl
-any-set f (z ∷ xs) zero x y there same =
-    let z_is : z ≡ x = cc there in
-    ap (λ b. b || list_any f xs) (same ∙ ap f (sym z_is))
-any-set f (z ∷ xs) (suc c) x y there same = ap (λ b. f z || b) (any-set f xs c x y there same)
-
-arrive_at-held : (places : List Place) (c : ℕ) (m : Message) (o : Option Place) → slice_get places c ≡ o → list_any is_held (arrive_at places c m o) ≡ list_any is_held places
-arrive_at-held places c m None there = refl
-arrive_at-held places c m (Some p) there = any-set is_held places c p (arrive m p) there refl
-
-seat-held : (places : List Place) (m : Message) (seat : Option Seat) → list_any is_held (arrive_at_seat places m seat) ≡ list_any is_held places
-seat-held places m None = refl
-seat-held places m (Some seat) = arrive_at-held places seat.controller m (slice_get places seat.controller) refl
-
-issue_all-held : (seats : List Seat) (sender count now : ℕ) (places : List Place) (rs : List Request) → list_any is_held (issue_all seats sender count now places rs) ≡ list_any is_held places
-issue_all-held seats sender count now places [] = refl
-issue_all-held seats sender count now places (r ∷ rs) =
-    let m : Message = request_message (record { sender = sender; count = count }) now r in
-    issue_all-held seats sender (count + 1) now (arrive_at_seat places m (slice_get seats r.seat)) rs
-    ∙ seat-held places m (slice_get seats r.seat)
-
 begun-touched : (now : ℕ) (places : List Place) → list_any is_touched (map (begun now) places) ≡ list_any is_held places
 begun-touched now [] = refl
 begun-touched now (p ∷ places) = ap (λ b. is_held p || b) (begun-touched now places)
-
--- where nobody is busy, nobody is held
-idle-nobody : (now : ℕ) (places : List Place) → list_any (is_busy now) places ≡ false → list_any is_held places ≡ false
-idle-nobody now [] none = refl
-idle-nobody now (p ∷ places) none =
-    let parts = or_false (is_busy now p) (list_any (is_busy now) places) none in
-    let held = or_false (is_held p) (is_due now p) parts.0 in
-    ap (λ b. b || list_any is_held places) held.0 ∙ idle-nobody now places parts.1
 
 -- where no verdict stands, nobody is finished or held
 abbrev pub IsCleared : World → Type 0

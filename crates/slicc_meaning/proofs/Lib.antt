@@ -2,6 +2,7 @@ pub mod FiredCounts
 pub mod Invalid
 pub mod InvalidRuns
 pub mod KeptMarks
+pub mod Places
 pub mod Cleared
 pub mod Waking
 pub mod WokenOnce

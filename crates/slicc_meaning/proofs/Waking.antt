@@ -15,9 +15,9 @@ use Rattle.slicc_meaning.specs.Ascending.{has_mark}
 use Rattle.slicc_meaning.specs.Run.{Ran, go_on}
 use Rattle.slicc_meaning.specs.Step.{with_place, take, is_holder, fired_by, ended_by, given_back, scan_at, fire, done, release, step}
 use Rattle.slicc_meaning.specs.WakesOnce.{is_turn, is_done_of}
-use Rattle.slicc_meaning.specs.World.{is_free, machine_plan}
+use Rattle.slicc_meaning.specs.World.{is_free, is_held, machine_plan}
 use Rattle.slicc_meaning.proofs.KeptMarks.{KeepsMarks, scan-keeps, EndKeeps, end-keeps}
-use Rattle.slicc_meaning.proofs.Cleared.{is_held, AfterStep, AfterEvents, after-ran, where_true}
+use Rattle.slicc_meaning.proofs.Cleared.{AfterStep, AfterEvents, after-ran, where_true}
 
 abbrev pub once : Bool → ℕ
 once b = cond b 1 0

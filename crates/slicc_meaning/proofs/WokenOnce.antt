@@ -15,8 +15,9 @@ use Rattle.slicc_meaning.specs.Run.{Ran, ran_on, go_on, IsRun}
 use Rattle.slicc_meaning.specs.Step.{Stepped, is_busy, step_lawfully, turn_by}
 use Rattle.slicc_meaning.specs.Verdict.{least_stopped}
 use Rattle.slicc_meaning.specs.WakesOnce.{is_turn, is_done_of, ends_with_turn, must_place_wake, must_wake, WakesOnce}
-use Rattle.slicc_meaning.specs.World.{is_due, opening}
-use Rattle.slicc_meaning.proofs.Cleared.{is_held, is_touched, AfterEvents, IsCleared, or_false, turns-cleared, opening-cleared}
+use Rattle.slicc_meaning.specs.World.{is_due, is_held, opening}
+use Rattle.slicc_meaning.proofs.Cleared.{is_touched, AfterEvents, IsCleared, turns-cleared, opening-cleared}
+use Rattle.slicc_meaning.proofs.Places.{or_false}
 use Rattle.slicc_meaning.proofs.Waking.{once, AtPlace, IsWakingAt, go_on-keeps}
 
 and_true : (a b : Bool) → (a && b) ≡ true → (a ≡ true) × (b ≡ true)

@@ -4,7 +4,7 @@ use Rattle.std.specs.Prelude.{◌≡◌, Some, [], ◌∷◌}
 use Rattle.slicc_meaning.specs.declared.record.RunRecord.{RunRecord}
 use Rattle.slicc_meaning.specs.declared.world.Setting.{Setting}
 use Rattle.slicc_meaning.specs.declared.world.World.{World}
-use Rattle.slicc_meaning.specs.Run.{IsRun}
+use Rattle.slicc_meaning.specs.Run.{IsRun, HasEnded}
 use Rattle.slicc_meaning.specs.Finals.{finals}
 use Rattle.slicc_meaning.specs.Account.{account}
 use Rattle.slicc_meaning.specs.Tally.{tally}
@@ -26,3 +26,8 @@ pub record IsRecordOf (r : RunRecord) (w : World) : Type 0 where
   pub account : r.account ≡ account r.journal w.places
   pub verdict : w.verdict ≡ Some r.verdict
   pub tallies : r.tallies ≡ tally 0 r.history ∷ []
+
+-- the record is one whole run of its setting: its history leads from the opening to a world with a verdict, and its
+-- journal, finals, account and verdict are those of that history and world
+abbrev pub IsWholeRun : RunRecord → Type 0
+IsWholeRun r = (w : World) × IsRecordOf r w × HasEnded w

@@ -1,6 +1,6 @@
 -- The worlds of a run and the one it begins in: cycle 0, nobody held, empty inboxes, no marks, no states set.
 -- A controller is due where it must wake at this cycle and its wake-up hasn't ended in it.
-use Rattle.std.specs.Prelude.{ℕ, Bool, false, Option, None, Some, List, [], ◌∷◌, ◌++◌, ◌+◌, ◌-◌, ◌&&◌, not, nat_lt, slice_get, replicate, is_none, if◌then◌else◌}
+use Rattle.std.specs.Prelude.{ℕ, Bool, false, Option, None, Some, List, [], ◌∷◌, ◌++◌, ◌+◌, ◌-◌, ◌&&◌, not, nat_lt, slice_get, replicate, is_some, is_none, if◌then◌else◌}
 use Rattle.slicc_meaning.specs.declared.controller.Controller.{Controller}
 use Rattle.slicc_meaning.specs.declared.controller.Scanned.{Scanned}
 use Rattle.slicc_meaning.specs.declared.controller.Scanned.TheVariants.{Idle}
@@ -51,6 +51,9 @@ opening s =
 
 abbrev pub is_due : ℕ → Place → Bool
 is_due now p = has_mark p.controller.marks now && not p.finished
+
+abbrev pub is_held : Place → Bool
+is_held p = is_some p.holder
 
 -- due, and free to be taken
 abbrev pub is_free : ℕ → Place → Bool
