@@ -11,16 +11,16 @@ use Rattle.slicc_meaning.specs.declared.record.End.TheVariants as end
 use Rattle.slicc_meaning.specs.declared.record.Entry.{Entry}
 use Rattle.slicc_meaning.specs.declared.record.Entry.TheVariants.{Ended}
 use Rattle.slicc_meaning.specs.declared.record.Event.{Event}
-use Rattle.slicc_meaning.specs.declared.record.Event.TheVariants.{Done}
+use Rattle.slicc_meaning.specs.declared.record.Event.TheVariants.{Done, Fire}
 use Rattle.slicc_meaning.specs.declared.record.Fault.TheVariants.{Invalid}
 use Rattle.slicc_meaning.specs.declared.record.StopAt.{StopAt}
 use Rattle.slicc_meaning.specs.declared.world.Place.{Place}
 use Rattle.slicc_meaning.specs.declared.world.Setting.{Setting}
 use Rattle.slicc_meaning.specs.declared.world.World.{World}
-use Rattle.slicc_meaning.specs.InvalidExactly.{IsInvalidTry, invalid_at, IsExact, IsEndedExactly, InvalidExactly}
+use Rattle.slicc_meaning.specs.InvalidExactly.{IsInvalidTry, invalid_at, IsExact, IsEndedExactly, EndsExactly, NeverFires, InvalidExactly}
 use Rattle.slicc_meaning.specs.Run.{Ran, ran_on, go_on, run, IsRun}
 use Rattle.slicc_meaning.specs.Scan.{scan}
-use Rattle.slicc_meaning.specs.Step.{Stepped, step, is_holder, ended_by, given_back, done, scan_at}
+use Rattle.slicc_meaning.specs.Step.{Stepped, step, is_holder, fired_by, fire, ended_by, given_back, done, scan_at}
 use Rattle.slicc_meaning.specs.World.{machine_plan, scan_of, opening}
 use Rattle.slicc_meaning.proofs.Invalid.{invalid-caused, invalid-comes}
 
@@ -129,8 +129,8 @@ ended_at s after worker c w world sofar journal p m whole there plan (Some st) i
       },
     )
 
-pub invalid_exactly : (s : Setting) (history : List Event) (world : World) (journal : List Entry) → IsRun s history world journal → InvalidExactly s history journal
-invalid_exactly s history world journal is_run =
+ends_exactly : (s : Setting) (history : List Event) (world : World) (journal : List Entry) → IsRun s history world journal → EndsExactly s history journal
+ends_exactly s history world journal is_run =
     λ before after worker c w sofar p m split before_run there plan.
     let start : Option Ran = Some (record { world = opening s; journal = [] }) in
     let whole : fold (go_on s) (go_on s (Some (record { world = w; journal = sofar })) (Done worker c)) after ≡ Some (record { world = world; journal = journal }) =
@@ -139,3 +139,40 @@ invalid_exactly s history world journal is_run =
     ∙ sym (ap (λ (h : List Event). run s h) split)
     ∙ is_run in
     ended_at s after worker c w world sofar journal p m whole there plan (step s w (Done worker c)) refl
+
+-- a scan that stops doesn't fire
+fires_not : (s : Setting) (w : World) (worker c : ℕ) (p : Place) (m : MachinePlan) (st : Stepped) (address state event : ℕ)
+    → slice_get w.places c ≡ Some p → machine_plan s c ≡ Some m → IsInvalidTry m p.controller w.now s.limit address state event
+    → step s w (Fire worker c) ≡ Some st → ⊥
+fires_not s w worker c p m st address state event there plan cause lawful =
+    let act : fire s w worker c (slice_get w.places c) ≡ Some st = cond_some (is_none w.verdict) (fire s w worker c (slice_get w.places c)) st lawful in
+    let at_p : fire s w worker c (Some p) ≡ Some st = sym (ap (λ (o : Option Place). fire s w worker c o) there) ∙ act in
+    let fired : fired_by w c p (scan_at s w c p) ≡ Some st = cond_some (is_holder worker p.holder) (fired_by w c p (scan_at s w c p)) st at_p in
+    let scanned : scan_at s w c p ≡ scanned.Stop (invalid_at address state event) =
+    ap (λ (o : Option MachinePlan). scan_of s o p.controller w.now) plan ∙ invalid-comes m p.controller w.now s.limit address state event cause in
+    absurd (cc (sym (ap (λ (x : Scanned). fired_by w c p x) scanned) ∙ fired))
+
+fires_never : (s : Setting) (after : List Event) (worker c : ℕ) (w : World) (sofar : List Entry) (p : Place) (m : MachinePlan) (last : Ran) (address state event : ℕ)
+    → fold (go_on s) (go_on s (Some (record { world = w; journal = sofar })) (Fire worker c)) after ≡ Some last
+    → slice_get w.places c ≡ Some p → machine_plan s c ≡ Some m → IsInvalidTry m p.controller w.now s.limit address state event
+    → (o : Option Stepped) → step s w (Fire worker c) ≡ o → ⊥
+fires_never s after worker c w sofar p m last address state event whole there plan cause None is =
+    absurd (cc (sym (broken s after) ∙ sym (ap (λ (o : Option Stepped). fold (go_on s) (ran_on o sofar) after) is) ∙ whole))
+fires_never s after worker c w sofar p m last address state event whole there plan cause (Some st) is =
+    fires_not s w worker c p m st address state event there plan cause is
+
+never_fires : (s : Setting) (history : List Event) (world : World) (journal : List Entry) → IsRun s history world journal → NeverFires s history
+never_fires s history world journal is_run =
+    λ before after worker c w sofar p m address state event split before_run there plan cause.
+    let start : Option Ran = Some (record { world = opening s; journal = [] }) in
+    let last : Ran = record { world = world; journal = journal } in
+    let whole : fold (go_on s) (go_on s (Some (record { world = w; journal = sofar })) (Fire worker c)) after ≡ Some last =
+    sym (ap (λ (r : Option Ran). fold (go_on s) r (Fire worker c ∷ after)) before_run)
+    ∙ sym (fold-append (go_on s) start before (Fire worker c ∷ after))
+    ∙ sym (ap (λ (h : List Event). run s h) split)
+    ∙ is_run in
+    fires_never s after worker c w sofar p m last address state event whole there plan cause (step s w (Fire worker c)) refl
+
+pub invalid_exactly : (s : Setting) (history : List Event) (world : World) (journal : List Entry) → IsRun s history world journal → InvalidExactly s history journal
+invalid_exactly s history world journal is_run =
+    record { ends = ends_exactly s history world journal is_run; never_fires = never_fires s history world journal is_run }

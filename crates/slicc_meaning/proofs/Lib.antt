@@ -12,3 +12,4 @@ pub mod Scans
 pub mod Kept
 pub mod Turns
 pub mod Accounting
+pub mod Alone

@@ -1,6 +1,7 @@
 -- The fault `invalid` comes exactly where a port triggers a pair of state and event that has no written transition.
 -- A port triggers where no port before it has a ready message, and it has one: the event is the port's, the address is
--- the line of its message, and the state is that line's. What is known of such a stop is all three.
+-- the line of its message, and the state is that line's. What is known of such a stop is all three. Where that is so the
+-- controller doesn't fire either.
 use Rattle.std.specs.Prelude.{◌≡◌, ◌<◌, ◌↔◌, ◌++◌, ℕ, Option, Some, false, true, List, [], ◌∷◌, slice_get, is_some}
 use Rattle.std.specs.List.{AllByRecursion}
 use Rattle.slicc_meaning.specs.declared.controller.Controller.{Controller}
@@ -12,7 +13,7 @@ use Rattle.slicc_meaning.specs.declared.record.End.TheVariants as end
 use Rattle.slicc_meaning.specs.declared.record.Entry.{Entry}
 use Rattle.slicc_meaning.specs.declared.record.Entry.TheVariants.{Ended}
 use Rattle.slicc_meaning.specs.declared.record.Event.{Event}
-use Rattle.slicc_meaning.specs.declared.record.Event.TheVariants.{Done}
+use Rattle.slicc_meaning.specs.declared.record.Event.TheVariants.{Done, Fire}
 use Rattle.slicc_meaning.specs.declared.record.Fault.TheVariants.{Invalid}
 use Rattle.slicc_meaning.specs.declared.record.StopAt.{StopAt}
 use Rattle.slicc_meaning.specs.declared.world.Place.{Place}
@@ -66,11 +67,26 @@ pub record IsEndedExactly (s : Setting) (w : World) (c : ℕ) (p : Place) (m : M
   pub exact : IsExact m p.controller w.now s.limit e
 
 -- over a history: each Done has its entry, which says `invalid` exactly so
-abbrev pub InvalidExactly : Setting → List Event → List Entry → Type 0
-InvalidExactly s history journal =
+abbrev pub EndsExactly : Setting → List Event → List Entry → Type 0
+EndsExactly s history journal =
     (before after : List Event) (worker c : ℕ) (w : World) (sofar : List Entry) (p : Place) (m : MachinePlan)
     → history ≡ before ++ Done worker c ∷ after
     → IsRun s before w sofar
     → slice_get w.places c ≡ Some p
     → machine_plan s c ≡ Some m
     → (e : End) × IsEndedExactly s w c p m sofar journal e
+
+-- over a history: no Fire comes where the scan tries a pair without a transition
+abbrev pub NeverFires : Setting → List Event → Type 0
+NeverFires s history =
+    (before after : List Event) (worker c : ℕ) (w : World) (sofar : List Entry) (p : Place) (m : MachinePlan) (address state event : ℕ)
+    → history ≡ before ++ Fire worker c ∷ after
+    → IsRun s before w sofar
+    → slice_get w.places c ≡ Some p
+    → machine_plan s c ≡ Some m
+    → IsInvalidTry m p.controller w.now s.limit address state event
+    → ⊥
+
+pub record InvalidExactly (s : Setting) (history : List Event) (journal : List Entry) : Type 0 where
+  pub ends : EndsExactly s history journal
+  pub never_fires : NeverFires s history

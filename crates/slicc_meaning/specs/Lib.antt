@@ -16,6 +16,7 @@ pub mod Account
 pub mod Finals
 pub mod Plan
 pub mod Topology
+pub mod Alone
 pub mod Record
 pub mod Text
 pub mod Answer

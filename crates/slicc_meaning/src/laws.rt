@@ -17,7 +17,7 @@ pub fn wakes_once()
 {}
 
 /// In a run the end of a wake-up says `invalid` exactly where its scan triggered a pair without a transition, and then
-/// with that address, state and event.
+/// with that address, state and event; and no transition fires there.
 pub fn invalid_comes_exactly()
     ensures { (s : SettingRecord) (history : List EventRecord) (w : WorldRecord) (journal : List EntryRecord) → IsRun s history w journal → InvalidExactly s history journal }
 {}

@@ -1,0 +1,32 @@
+-- A run by one worker. Each event is worker 0's; a controller is taken where nobody is held, and it is the least one that
+-- is due; none is given back before its wake-up ends. So one thread wakes the due controllers in increasing number.
+-- That one thread does so is this project's own rule; which events are lawful at all isn't said here.
+use Rattle.std.specs.Prelude.{◌≡◌, ℕ, false, Some, List, ◌∷◌, ◌++◌, position}
+use Rattle.std.specs.List.{list_any}
+use Rattle.slicc_meaning.specs.declared.record.Entry.{Entry}
+use Rattle.slicc_meaning.specs.declared.record.Event.{Event}
+use Rattle.slicc_meaning.specs.declared.record.Event.TheVariants.{Take, Fire, Done, Release, Turn}
+use Rattle.slicc_meaning.specs.declared.world.Setting.{Setting}
+use Rattle.slicc_meaning.specs.declared.world.World.{World}
+use Rattle.slicc_meaning.specs.Run.{IsRun}
+use Rattle.slicc_meaning.specs.World.{is_free, is_held}
+
+-- the one worker takes the least controller that is due, and holds no other
+pub record IsNextTake (w : World) (worker c : ℕ) : Type 0 where
+  pub worker_0 : worker ≡ 0
+  pub nobody : list_any is_held w.places ≡ false
+  pub least : position (is_free w.now) w.places ≡ Some c
+
+-- one worker does this in this world
+abbrev pub IsAloneEvent : World → Event → Type 0
+IsAloneEvent w (Take worker c) = IsNextTake w worker c
+IsAloneEvent w (Fire worker c) = worker ≡ 0
+IsAloneEvent w (Done worker c) = worker ≡ 0
+IsAloneEvent w (Release worker c) = ⊥
+IsAloneEvent w (Turn worker) = worker ≡ 0
+
+-- over a history: each event is one that one worker does in the world that it comes to
+abbrev pub IsAlone : Setting → List Event → Type 0
+IsAlone s history =
+    (before after : List Event) (e : Event) (w : World) (journal : List Entry)
+    → history ≡ before ++ e ∷ after → IsRun s before w journal → IsAloneEvent w e
