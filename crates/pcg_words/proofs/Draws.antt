@@ -1,8 +1,8 @@
 -- Drawing word by word and jumping by `advance` come to the same generator.
-use Rattle.std.proofs.Common.{◌≡◌, ℕ, zero, suc, ◌+◌, refl, ap, ◌∙◌, add-one}
+use Rattle.std.proofs.Common.{◌≡◌, ℕ, zero, suc, ◌+◌, refl, sym, ap, ◌∙◌, add-one}
 use Rattle.rand_pcg.specs.Lcg.{Lcg, started, increment_of, advance, next_state, state_after}
 use Rattle.rand_pcg.specs.Pcg.{multiplier_64, pcg32}
-use Rattle.pcg_words.specs.Word.{generator_after}
+use Rattle.pcg_words.specs.Word.{generator_after, word}
 
 pub generator_after-zero : (seed stream : ℕ)
     → generator_after seed stream 0 ≡ started 64 multiplier_64 seed (increment_of 64 stream)
@@ -31,3 +31,10 @@ advance-started seed stream (suc n) =
     let first = started 64 multiplier_64 seed (increment_of 64 stream) in
     ap (λ (s : ℕ). record first { state = s }) (state_after-next_state 64 multiplier_64 first.increment n first.state)
     ∙ ap (λ (g : Lcg). (pcg32 g).1) (advance-started seed stream n)
+
+-- word n lies where a jump over n words leads
+pub word-advance : (seed stream n : ℕ)
+    → word seed stream n
+    ≡ (pcg32 (advance 64 multiplier_64 n (started 64 multiplier_64 seed (increment_of 64 stream)))).0
+unfolding word
+word-advance seed stream n = ap (λ (g : Lcg). (pcg32 g).0) (sym (advance-started seed stream n))

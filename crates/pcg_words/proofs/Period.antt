@@ -1,5 +1,5 @@
 -- A stream begins again after 2 ^ 64 words.
-use Rattle.std.proofs.Common.{◌≡◌, ℕ, zero, suc, ◌+◌, ◌*◌, ◌%◌, ◌^◌, ◌<◌, ◌≤◌, refl, sym, ap, ◌∙◌, arith, add-one, add-zero, zero-add, suc-add, pow-suc, mul_assoc, mul-one, zero-mul, mod-eq_of_lt, mod-lt, lit<, eq-or-lt_of_le, inl, inr}
+use Rattle.std.proofs.Common.{◌≡◌, ℕ, zero, suc, ◌+◌, ◌*◌, ◌%◌, ◌^◌, ◌<◌, ◌≤◌, refl, sym, ap, ◌∙◌, arith, add-one, add-zero, zero-add, pow-suc, mul_assoc, mul-one, zero-mul, mod-eq_of_lt, mod-lt, lit<, eq-or-lt_of_le, inl, inr}
 use Rattle.std.proofs.lemmas.Nat.{mul-mod_first, mul-mod_second}
 use Rattle.rand_pcg.specs.Lcg.{Lcg, started, increment_of, next_state, state_after}
 use Rattle.rand_pcg.specs.Pcg.{multiplier_64, pcg32}
@@ -38,8 +38,8 @@ state_after-power w p (suc j) m b s =
 -- the same from one step with any increment, which is doubled once
 state_after-twice_power : (w m p j s : ℕ)
     → let M = 2 ^ w in
-      let all = doubled w j (m * m % M) ((m + 1) % M) in
-      state_after w m p (2 ^ suc j) s ≡ next_state w all.0 (all.1 * p % M) s
+    let all = doubled w j (m * m % M) ((m + 1) % M) in
+    state_after w m p (2 ^ suc j) s ≡ next_state w all.0 (all.1 * p % M) s
 state_after-twice_power w m p j s =
     let M = 2 ^ w in
     ap (λ (n : ℕ). state_after w m p n s) (twice j) ∙ sym (state_after_double w m p (2 ^ j) s)

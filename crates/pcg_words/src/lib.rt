@@ -6,5 +6,5 @@ mod laws;
 mod tests;
 mod words;
 
-pub use laws::begins_again;
+pub use laws::{begins_again, jumps_as_it_draws};
 pub use words::Words;
