@@ -1,2 +1,2 @@
 mod Draws
-mod Period
+pub mod Period

@@ -5,7 +5,7 @@ use Rattle.rand_pcg.specs.Lcg.{Lcg, started, increment_of, next_state, state_aft
 use Rattle.rand_pcg.specs.Pcg.{multiplier_64, pcg32}
 use Rattle.rand_pcg.proofs.LcgLemmas.{state_after_double}
 use Rattle.pcg_words.specs.Word.{generator_after, word}
-use Rattle.pcg_words.proofs.Draws.{advance-started, generator_after-zero, generator_after-one_more}
+use Rattle.pcg_words.proofs.Draws.{advance-started, generator_after-zero, generator_after-one_more, word-advance}
 
 -- the multiplier of 2 ^ j steps with the multiplier m, and b times what multiplies their increment
 abbrev doubled : ℕ → ℕ → ℕ → ℕ → ℕ × ℕ
@@ -96,3 +96,6 @@ generator_after-next seed stream n below =
 pub word-period : (seed stream n : ℕ) → word seed stream (n + 2 ^ 64) ≡ word seed stream n
 unfolding word
 word-period seed stream n = ap (λ (g : Lcg). (pcg32 g).0) (generator_after-period seed stream n)
+
+-- what the calls and the laws stand on: where a stream begins, where a jump leads, what a draw leaves
+pub ruleset streams = (generator_after-zero, advance-started, word-advance, generator_after-next, word-period)

@@ -35,6 +35,7 @@ impl Model for Words {
 impl Words {
     /// The words of a stream from its beginning, none drawn yet. The highest bit of `stream` is dropped, so two
     /// streams with the same lower 63 bits have the same words.
+    #[tactic(auto, using(crate::proofs::Period::streams))]
     pub fn new(seed: u64, stream: u64) -> Words
         ensures { result ≡ record { seed = seed; stream = stream; drawn = 0 } }
     {
@@ -48,6 +49,7 @@ impl Words {
 
     /// The words of a stream from word `drawn` on, counted from 0. It jumps there: at most 64 steps, however many
     /// words lie before.
+    #[tactic(auto, using(crate::proofs::Period::streams))]
     pub fn at(seed: u64, stream: u64, drawn: u64) -> Words
         ensures { result ≡ record { seed = seed; stream = stream; drawn = drawn } }
     {
@@ -62,6 +64,7 @@ impl Words {
     }
 
     /// The next word. The count runs on from the greatest `u64` to 0, where the stream begins again.
+    #[tactic(auto, using(crate::proofs::Period::streams), unfolding(crate::specs::Word::word))]
     pub fn next(&mut self) -> u32
         ensures value { result ≡ word self.old.seed self.old.stream self.old.drawn }
         ensures moves_on { self.new ≡ next_position self.old }
