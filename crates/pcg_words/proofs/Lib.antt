@@ -1,0 +1,2 @@
+mod Draws
+pub mod Period
