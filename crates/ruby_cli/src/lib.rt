@@ -14,3 +14,5 @@ pub use top::{Done, ruby_alone};
 
 #[cfg(test)]
 mod calls;
+#[cfg(test)]
+mod tests;
