@@ -13,7 +13,7 @@ use Rattle.slicc_meaning.specs.declared.record.RunRecord.{RunRecord}
 use Rattle.slicc_meaning.specs.declared.record.Verdict.{Verdict}
 use Rattle.slicc_meaning.specs.declared.record.Verdict.TheVariants.{Stop, Quiet, Cycles}
 use Rattle.slicc_meaning.specs.Answer.{Answer, Runs, Refused, Absent, TooLarge, IsAnswer, file_limit}
-use Rattle.slicc_meaning.specs.Record.{setting}
+use Rattle.slicc_meaning.specs.Record.{IsWholeRun, setting}
 use Rattle.slicc_meaning.specs.declared.plan.Plan.{Plan}
 use Rattle.slicc_meaning.specs.declared.record.Account.{Account}
 use Rattle.slicc_meaning.specs.Topology.{HasSeats, plain_of}
@@ -23,7 +23,7 @@ use Rattle.slicc_meaning.proofs.WokenOnce.{wakes_once}
 use Rattle.ruby_cli.specs.declared.reply.Reply.{Reply}
 use Rattle.ruby_cli.specs.declared.reply.Reply.TheVariants as reply
 use Rattle.ruby_cli.specs.Reply.{IsReply, reply_text, reply_status, reply_kept, done_with}
-use Rattle.ruby_cli.specs.Top.{IsWholeRun, IsWokenOnce, IsMessageAccount, IsInvalidExactly, IsTallied, IsAsAsked, IsVerdictStatus, IsStatusOf, IsOneOf, IsRightText, IsBegun, KeepsRun, IsComplete, whole_text, verdict_status}
+use Rattle.ruby_cli.specs.Top.{IsWokenOnce, IsMessageAccount, IsInvalidExactly, IsTallied, IsAsAsked, IsVerdictStatus, IsStatusOf, IsOneOf, IsRightText, IsBegun, KeepsRun, IsComplete, whole_text, verdict_status}
 
 same_bytes : (files : Files) (o : Options) (a b : List ℕ) → bytes_of files o.protocol ≡ Some a → bytes_of files o.protocol ≡ Some b → a ≡ b
 same_bytes files o a b is_a is_b = cc

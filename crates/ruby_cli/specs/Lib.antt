@@ -1,13 +1,4 @@
 pub mod Answers
-pub mod Awake
-pub mod Book
-pub mod Checking
-pub mod Cycle
-pub mod Lexing
-pub mod Line
-pub mod Outcome
-pub mod Parsing
-pub mod Pieces
 pub mod Reply
 pub mod Top
 pub mod Words

@@ -8,13 +8,14 @@ use Rattle.slicc_meaning.specs.declared.record.Options.{Options}
 use Rattle.slicc_meaning.specs.declared.record.RunRecord.{RunRecord}
 use Rattle.slicc_meaning.specs.Answer.{Runs, Refused, Absent, TooLarge, IsAnswer}
 use Rattle.slicc_meaning.specs.Plan.{plan_of}
+use Rattle.slicc_meaning.specs.Record.{IsWholeRun}
 use Rattle.slicc_meaning.specs.Text.{text}
 use Rattle.slicc_meaning.specs.Topology.{plain_of}
 use Rattle.ruby_cli.specs.declared.top.Done.{Done}
 use Rattle.ruby_cli.specs.declared.reply.Reply.{Reply}
 use Rattle.ruby_cli.specs.declared.reply.Reply.TheVariants as reply
 use Rattle.ruby_cli.specs.Answers.{refused_line, absent_line, too_large_line, fault_line}
-use Rattle.ruby_cli.specs.Top.{IsWholeRun, IsAsAsked, verdict_status}
+use Rattle.ruby_cli.specs.Top.{IsAsAsked, verdict_status}
 
 -- the reply to these bytes
 abbrev pub IsReplyTo : List ℕ → Options → Reply → Type 0

@@ -16,14 +16,8 @@ use Rattle.slicc_meaning.specs.InvalidExactly.{InvalidExactly}
 use Rattle.slicc_meaning.specs.Record.{IsRecordOf, setting}
 use Rattle.slicc_meaning.specs.Tally.{tally}
 use Rattle.slicc_meaning.specs.WakesOnce.{WakesOnce}
-use Rattle.slicc_meaning.specs.Run.{HasEnded}
 use Rattle.slicc_meaning.specs.Text.{text}
 use Rattle.ruby_cli.specs.Answers.{refused_line, absent_line, too_large_line, fault_line, usage_line}
-
--- the record is one whole run of its setting: its history leads from the opening to a world with a verdict, and its
--- journal, finals, account and verdict are those of that history and world
-abbrev pub IsWholeRun : RunRecord → Type 0
-IsWholeRun r = (w : World) × IsRecordOf r w × HasEnded w
 
 -- each controller that must wake at a cycle of the record's run wakes in it once, and no other does
 abbrev pub IsWokenOnce : RunRecord → Type 0

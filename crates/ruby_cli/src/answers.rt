@@ -2,8 +2,8 @@
 ghost use Rattle.std.specs.Prelude.{◌≡◌, IfOk};
 ghost use Rattle.ruby_cli.specs.Answers.{absent_line as absent_line_for, fault_line as fault_line_for, refused_line as refused_line_for, too_large_line as too_large_line_for, usage_line as usage_line_for};
 
-use crate::text::line_of;
 use ruby_base::{NoMemory, Text};
+use run_text::line_of;
 use std::alloc::Global;
 
 /// That the protocol of this name is refused, at its first byte.

@@ -48,24 +48,62 @@ messages 2 consumed 1 queued 1 stalled 0 recycled 0
 verdict stop 2 Node-0
 ";
 
+const ABSENT: &str = "absent gone.sm\n";
+
+const REFUSED: &str = "refused tick.sm:1:1 U1\n";
+
+const TOO_LARGE: &str = "too large tick.sm\n";
+
 const USAGE: &str =
     "usage: ruby run PROTOCOL TOPOLOGY, check PROTOCOL, table PROTOCOL, code PROTOCOL, gen N
 ";
 
-/// The ticker, with its last transition or without it.
-fn ticker(alloc: Global, whole: bool) -> Result<Text, NoMemory> {
+/// What the file holds.
+#[derive(Clone, Copy)]
+enum File {
+    /// The ticker.
+    Ticker,
+    /// The ticker without its last transition.
+    WithoutBack,
+    /// The ticker and spaces behind it, as long as a file may be.
+    Longest,
+    /// The ticker and spaces behind it, one byte longer.
+    TooLong,
+    /// A text of another form.
+    Comment,
+}
+
+/// The ticker with this as its last transition.
+fn ticker(alloc: Global, last: &str) -> Result<Text, NoMemory> {
     let mut text = Text::copied(alloc, TICK.as_bytes())?;
-    if whole {
-        text.append(BACK.as_bytes())?;
-    }
+    text.append(last.as_bytes())?;
     text.append(b"}\n")?;
     Ok(text)
 }
 
+/// The ticker with spaces behind it, of so many bytes.
+fn padded(alloc: Global, length: usize) -> Result<Text, NoMemory> {
+    let mut text = ticker(alloc, BACK)?;
+    let room = length.saturating_sub(text.len());
+    let spaces = vec![in alloc; b' '; room]?;
+    text.append(&spaces)?;
+    Ok(text)
+}
+
+fn bytes_of(alloc: Global, file: File) -> Result<Text, NoMemory> {
+    match file {
+        File::Ticker => ticker(alloc, BACK),
+        File::WithoutBack => ticker(alloc, ""),
+        File::Longest => padded(alloc, 1_048_576),
+        File::TooLong => padded(alloc, 1_048_577),
+        File::Comment => Text::copied(alloc, b"// a comment"),
+    }
+}
+
 /// The one file `tick.sm`.
-fn files(alloc: Global, bytes: Text) -> Result<Seq<(Text, Text)>, NoMemory> {
+fn files(alloc: Global, file: File) -> Result<Seq<(Text, Text)>, NoMemory> {
     let mut files = Seq::new(alloc);
-    files.push((Text::copied(alloc, b"tick.sm")?, bytes))?;
+    files.push((Text::copied(alloc, b"tick.sm")?, bytes_of(alloc, file)?))?;
     Ok(files)
 }
 
@@ -93,58 +131,25 @@ fn words(alloc: Global, words: &[&str]) -> Result<Vec<String>, NoMemory> {
 #[test]
 fn answers_each_kind_of_call(rt: HostRuntime) -> Result<(), Fail> {
     let alloc = rt.alloc();
-    let rows: [(&[&str], u8, &str); 9] = [
-        (&["run", "tick.sm", "3"], 0, THREE),
-        (&["run", "tick.sm", "003"], 0, THREE),
-        (&["run", "tick.sm", "0"], 0, NONE),
-        (&["run", "gone.sm", "3"], 6, "absent gone.sm\n"),
-        (&["run", "tick.sm"], 2, USAGE),
-        (&["walk", "tick.sm", "3"], 2, USAGE),
-        (&["run", "tick.sm", "100001"], 2, USAGE),
-        (&["run", "tick.sm", "3a"], 2, USAGE),
-        (&["run", "tick.sm", "3", "4"], 2, USAGE),
+    let rows: [(&[&str], File, u8, &str); 13] = [
+        (&["run", "tick.sm", "3"], File::Ticker, 0, THREE),
+        (&["run", "tick.sm", "003"], File::Ticker, 0, THREE),
+        (&["run", "tick.sm", "0"], File::Ticker, 0, NONE),
+        (&["run", "tick.sm", "2"], File::WithoutBack, 1, STOPPED),
+        (&["run", "gone.sm", "3"], File::Ticker, 6, ABSENT),
+        (&["run", "tick.sm"], File::Ticker, 2, USAGE),
+        (&["walk", "tick.sm", "3"], File::Ticker, 2, USAGE),
+        (&["run", "tick.sm", "100001"], File::Ticker, 2, USAGE),
+        (&["run", "tick.sm", "3a"], File::Ticker, 2, USAGE),
+        (&["run", "tick.sm", "3", "4"], File::Ticker, 2, USAGE),
+        (&["run", "tick.sm", "2"], File::Comment, 3, REFUSED),
+        (&["run", "tick.sm", "3"], File::Longest, 0, THREE),
+        (&["run", "tick.sm", "3"], File::TooLong, 9, TOO_LARGE),
     ];
-    for (asked, status, expected) in rows {
-        let mut library = MemLibrary::new(
-            alloc,
-            files(alloc, ticker(alloc, true)?)?,
-            Seq::new(alloc),
-        );
+    for (asked, file, status, expected) in rows {
+        let mut library = MemLibrary::new(alloc, files(alloc, file)?, Seq::new(alloc));
         let mut sink = MemSink::new(alloc, Seq::new(alloc), 4096, 4096)?;
         let asked = words(alloc, asked)?;
-        let (answered, _) = call(&rt, alloc, asked.as_slice(), &mut library, &mut sink);
-        assert_eq!(rt; sink.bytes(), expected.as_bytes());
-        assert_eq!(rt; answered, status);
-    }
-    Ok(())
-}
-
-#[test]
-fn answers_each_kind_of_file(rt: HostRuntime) -> Result<(), Fail> {
-    let alloc = rt.alloc();
-    let whole = ticker(alloc, true)?;
-    let room = 1_048_576_usize.saturating_sub(whole.len());
-    let spaces = vec![in alloc; b' '; room]?;
-    let mut longest = ticker(alloc, true)?;
-    longest.append(&spaces)?;
-    let mut too_long = ticker(alloc, true)?;
-    too_long.append(&spaces)?;
-    too_long.push(b' ')?;
-    let rows = [
-        (ticker(alloc, false)?, "2", 1, STOPPED),
-        (
-            Text::copied(alloc, b"// a comment")?,
-            "2",
-            3,
-            "refused tick.sm:1:1 U1\n",
-        ),
-        (longest, "3", 0, THREE),
-        (too_long, "3", 9, "too large tick.sm\n"),
-    ];
-    for (bytes, count, status, expected) in rows {
-        let mut library = MemLibrary::new(alloc, files(alloc, bytes)?, Seq::new(alloc));
-        let mut sink = MemSink::new(alloc, Seq::new(alloc), 4096, 4096)?;
-        let asked = words(alloc, &["run", "tick.sm", count])?;
         let (answered, _) = call(&rt, alloc, asked.as_slice(), &mut library, &mut sink);
         assert_eq!(rt; sink.bytes(), expected.as_bytes());
         assert_eq!(rt; answered, status);
@@ -177,38 +182,50 @@ fn one(alloc: Global, call: u64) -> Result<Seq<u64>, NoMemory> {
 fn answers_each_kind_of_fault(rt: HostRuntime) -> Result<(), Fail> {
     let alloc = rt.alloc();
     let asked = words(alloc, &["run", "tick.sm", "3"])?;
-    let asked = asked.as_slice();
-    // The failing write, the most bytes that a write takes, the failing read, the status, and the lines written.
-    let rows: [(u64, u64, u64, u8, &[u8]); 9] = [
-        (1, 4096, 9, 7, b""),
-        (2, 4096, 9, 7, first_lines(THREE, 1)),
-        (3, 4096, 9, 7, first_lines(THREE, 2)),
-        (4, 4096, 9, 7, first_lines(THREE, 3)),
-        (5, 4096, 9, 7, first_lines(THREE, 4)),
-        (6, 4096, 9, 7, first_lines(THREE, 5)),
-        (9999, 1, 9, 0, THREE.as_bytes()),
-        (9999, 0, 9, 7, b""),
-        (9999, 4096, 1, 5, b"library fault tick.sm\n"),
+    // The file, the failing write, the most bytes that a write takes, the failing read, the status, and what is written.
+    let rows: [(File, u64, u64, u64, u8, &[u8]); 10] = [
+        (File::Ticker, 1, 4096, 9, 7, b""),
+        (File::Ticker, 2, 4096, 9, 7, first_lines(THREE, 1)),
+        (File::Ticker, 3, 4096, 9, 7, first_lines(THREE, 2)),
+        (File::Ticker, 4, 4096, 9, 7, first_lines(THREE, 3)),
+        (File::Ticker, 5, 4096, 9, 7, first_lines(THREE, 4)),
+        (File::Ticker, 6, 4096, 9, 7, first_lines(THREE, 5)),
+        (File::Ticker, 9999, 1, 9, 0, THREE.as_bytes()),
+        (File::Ticker, 9999, 0, 9, 7, b""),
+        (File::Ticker, 9999, 4096, 1, 5, b"library fault tick.sm\n"),
+        (File::Comment, 1, 4096, 9, 7, b""),
     ];
-    for (write, most, read, status, expected) in rows {
-        let mut library = MemLibrary::new(
-            alloc,
-            files(alloc, ticker(alloc, true)?)?,
-            one(alloc, read)?,
-        );
+    for (file, write, most, read, status, expected) in rows {
+        let mut library = MemLibrary::new(alloc, files(alloc, file)?, one(alloc, read)?);
         let mut sink = MemSink::new(alloc, one(alloc, write)?, most, 4096)?;
-        let (answered, _) = call(&rt, alloc, asked, &mut library, &mut sink);
+        let (answered, _) = call(&rt, alloc, asked.as_slice(), &mut library, &mut sink);
         assert_eq!(rt; sink.bytes(), expected);
         assert_eq!(rt; answered, status);
     }
-    let mut library = SureLibrary::new(alloc, files(alloc, Text::copied(alloc, b"machine")?)?);
-    let mut sink = MemSink::new(alloc, one(alloc, 1)?, 4096, 4096)?;
-    let (answered, _) = call(&rt, alloc, asked, &mut library, &mut sink);
-    assert_eq!(rt; sink.bytes().len(), 0);
-    assert_eq!(rt; answered, 7);
-    let mut library = SureLibrary::new(alloc, files(alloc, ticker(alloc, true)?)?);
-    let (answered, is_kept) = call(&rt, alloc, asked, &mut library, &mut SureSink::new());
-    assert_eq!(rt; answered, 0);
-    assert!(rt; is_kept);
+    Ok(())
+}
+
+/// This sink tells nothing of what it takes, so the rows have the status, and whether a record is kept.
+#[test]
+fn answers_over_objects_that_never_fail(rt: HostRuntime) -> Result<(), Fail> {
+    let alloc = rt.alloc();
+    let rows: [(&[&str], File, u8, bool); 8] = [
+        (&["run", "tick.sm", "3"], File::Ticker, 0, true),
+        (&["run", "tick.sm", "0"], File::Ticker, 0, true),
+        (&["run", "tick.sm", "2"], File::WithoutBack, 1, true),
+        (&["run", "tick.sm"], File::Ticker, 2, false),
+        (&["run", "tick.sm", "2"], File::Comment, 3, false),
+        (&["run", "gone.sm", "3"], File::Ticker, 6, false),
+        (&["run", "tick.sm", "3"], File::Longest, 0, true),
+        (&["run", "tick.sm", "3"], File::TooLong, 9, false),
+    ];
+    for (asked, file, status, is_kept) in rows {
+        let mut library = SureLibrary::new(alloc, files(alloc, file)?);
+        let mut sink = SureSink::new();
+        let asked = words(alloc, asked)?;
+        let (answered, kept) = call(&rt, alloc, asked.as_slice(), &mut library, &mut sink);
+        assert_eq!(rt; answered, status);
+        assert_eq!(rt; kept, is_kept);
+    }
     Ok(())
 }

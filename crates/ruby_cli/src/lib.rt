@@ -1,28 +1,15 @@
-//! The program's work as a library: words to options, files to plans, runs, and their texts.
+//! The program's work as a library: what its words ask for, and the calls that answer them. A call reads the protocol,
+//! makes the run and its text, and then writes them.
 #![tactic(auto)]
 
 mod answers;
-mod book;
-mod driver;
-mod lines;
-mod marks;
-mod outcomes;
 mod program;
-mod reading;
-mod recording;
 mod reply;
-mod run;
-mod steps;
-mod text;
 mod top;
-mod turn;
-mod waking;
 mod words;
 
 pub use answers::{absent_line, fault_line, refused_line, too_large_line, usage_line};
-pub use lines::write_lines;
 pub use program::ruby;
-pub use text::text_of;
 pub use top::{Done, ruby_alone};
 
 #[cfg(test)]

@@ -5,13 +5,13 @@ ghost use Rattle.slicc_ast.specs.WellFormed.{IsWellFormed};
 ghost use Rattle.ruby_cli.specs.Reply.{IsReplyTo, IsReply, reply_text as reply_text_of};
 
 use crate::answers::{absent_line, fault_line, refused_line, too_large_line};
-use crate::reading::read_machine;
-use crate::recording::run_plain;
-use crate::text::text_of;
+use plain_run::run_plain;
 use ruby_base::{NoMemory, Text};
 use ruby_outside::{Got, Library};
+use run_text::text_of;
 use slicc_ast::Machine;
 use slicc_meaning::{Options, RunRecord, plain_of, plan_of};
+use small_form::read_machine;
 use std::alloc::Global;
 
 // The most bytes of a file.

@@ -3,13 +3,14 @@ ghost use Rattle.std.specs.Prelude.{◌≡◌, ◌≢◌, ◌<◌, ◌≤◌, �
 ghost use Rattle.ruby_outside.specs.Faults.{Rose};
 ghost use Rattle.ruby_outside.specs.Sink.{grown};
 ghost use Rattle.slicc_meaning.specs.Answer.{Refused, Absent, TooLarge};
+ghost use Rattle.slicc_meaning.specs.Record.{IsWholeRun};
 ghost use Rattle.ruby_cli.specs.Reply.{IsReply, reply_text, done_with};
-ghost use Rattle.ruby_cli.specs.Top.{IsWholeRun, IsWokenOnce, IsMessageAccount, IsInvalidExactly, IsTallied, IsAsAsked, IsVerdictStatus, IsStatusOf, IsOneOf, IsBegun, KeepsRun, IsComplete, whole_text, verdict_status as verdict_status_of};
+ghost use Rattle.ruby_cli.specs.Top.{IsWokenOnce, IsMessageAccount, IsInvalidExactly, IsTallied, IsAsAsked, IsVerdictStatus, IsStatusOf, IsOneOf, IsBegun, KeepsRun, IsComplete, whole_text, verdict_status as verdict_status_of};
 
-use crate::lines::write_lines;
 use crate::reply::{Reply, find_reply, text_of_reply};
 use ruby_base::{NoMemory, Text};
 use ruby_outside::{Library, Sink};
+use run_text::write_lines;
 use slicc_meaning::{Options, RunRecord, Verdict};
 use std::alloc::Global;
 

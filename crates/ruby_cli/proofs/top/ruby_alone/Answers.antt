@@ -1,8 +1,9 @@
 use Rattle.std.proofs.Common.{IfSome, sym, ◌∙◌, subst}
 use Rattle.ruby_outside.specs.Faults.{Rose}
 use Rattle.slicc_meaning.specs.declared.record.RunRecord.{RunRecord}
+use Rattle.slicc_meaning.specs.Record.{IsWholeRun}
 use Rattle.ruby_cli.specs.declared.top.Done.{Done}
-use Rattle.ruby_cli.specs.Top.{IsWholeRun, IsWokenOnce, IsMessageAccount, IsInvalidExactly, IsTallied, IsAsAsked}
+use Rattle.ruby_cli.specs.Top.{IsWokenOnce, IsMessageAccount, IsInvalidExactly, IsTallied, IsAsAsked}
 use Rattle.ruby_cli.proofs.Replies.{for_kept, woken-whole, accounted-clause, invalid-whole, tallied-whole, run-clause, asked-clause, written-clause, cut-clause, keeps-clause, complete-clause}
 use Rattle.ruby_cli.proofs.top.ruby_alone.Goals as goal
 

@@ -1,0 +1,3 @@
+pub mod Awakes
+pub mod Places
+pub mod Runs

@@ -1,0 +1,4 @@
+pub mod Awake
+pub mod Book
+pub mod Cycle
+pub mod Outcome

@@ -1,7 +1,0 @@
-use Rattle.std.proofs.Common.{◌≡◌, drop}
-use Rattle.std.specs.List.{list_any}
-use Rattle.slicc_meaning.specs.World.{is_free}
-use Rattle.ruby_cli.proofs.run.first_free.Given as goal
-
-abbrev pub invariant-loop-c : goal.invariant-loop-c
-invariant-loop-c l = list_any (is_free l.now) (drop l.c l.places) ≡ list_any (is_free l.now) l.places

@@ -1,0 +1,15 @@
+use Rattle.std.proofs.Common.{ℕ, ◌+◌, arith, length-drop, length-take}
+use Rattle.run_text.proofs.PieceLemmas.{piece_cut_off, piece_written}
+use Rattle.run_text.proofs.lines.write_lines.Goals as goal
+
+pub returns-then-not-put-clause-cut_off : goal.returns-then-not-put-clause-cut_off
+returns-then-not-put-clause-cut_off g c =
+    piece_cut_off _ _ _ c.args.text.now c.loop-done.done (c.loop-done.done + c.piece_length.result) (omega arith) c.loop-done.invariant.grows c.if-not-put.ensures.cut_off
+
+pub loop-done-preserved : goal.loop-done-preserved
+loop-done-preserved g c =
+    record {
+      within = omega (arith, c.piece_length.ensures.within, length-take {A = ℕ}, length-drop {A = ℕ});
+      counts = omega (arith, c.put.ensures.counts);
+      grows = piece_written _ _ _ c.args.text.now c.loop-done.done (c.loop-done.done + c.piece_length.result) (omega arith) c.loop-done.invariant.grows c.if-not-put.ensures.whole;
+    }

@@ -1,0 +1,13 @@
+use Rattle.std.proofs.Common.{◌≡◌, ◌-◌, ◌≤◌, length, take}
+use Rattle.ruby_outside.specs.Sink.{grown}
+use Rattle.run_text.proofs.lines.write_lines.Given as goal
+
+abbrev pub invariant-loop-done : goal.invariant-loop-done
+invariant-loop-done g l = record {
+  within : l.done ≤ length l.text;
+  counts : g.S.Sink.faults l.initial.sink ≤ g.S.Sink.faults l.sink;
+  grows : g.S.Sink.written l.sink ≡ grown (g.S.Sink.written l.initial.sink) (take l.done l.text);
+}
+
+abbrev pub decreases-loop-done : goal.decreases-loop-done
+decreases-loop-done g l = length l.text - l.done

@@ -1,0 +1,47 @@
+// How a text goes to a sink.
+ghost use Rattle.std.specs.Prelude.{◌≡◌, ◌<◌, ◌≤◌, IsTrue, is_some, length};
+ghost use Rattle.std.specs.Bool.{OnTrue, OnFalse};
+ghost use Rattle.ruby_outside.specs.Faults.{Rose};
+ghost use Rattle.ruby_outside.specs.Sink.{grown, IsCutOff};
+ghost use Rattle.run_text.specs.Pieces.{piece_length as piece_length_of};
+
+use ruby_outside::{Sink, put};
+
+// The most bytes of a piece.
+const MOST: usize = 1024;
+
+fn piece_length(text: &[u8]) -> usize
+    ensures value { result ≡ piece_length_of text.now }
+    ensures within { result ≤ length text.now }
+    ensures some { 0 < length text.now → 0 < result }
+{
+    let most = text.len().min(MOST);
+    for i in 0..most {
+        if text[i] == b'\n' {
+            return i + 1;
+        }
+    }
+    most
+}
+
+/// Writes the whole text, line by line, and answers whether it did. A line of at most 1,024 bytes with its line feed is
+/// put as one piece, and a longer one as several. It answers `false`, and writes nothing further, as soon as a piece
+/// isn't written whole. It takes no memory.
+pub fn write_lines<S: Sink>(sink: &mut S, text: &[u8]) -> bool
+    ensures tells { is_some (S.written sink.new) ≡ is_some (S.written sink.old) }
+    ensures counts { S.faults sink.old ≤ S.faults sink.new }
+    ensures whole { OnTrue result (S.written sink.new ≡ grown (S.written sink.old) text.now) }
+    ensures cut_off { OnFalse result (IsCutOff (S.written sink.old) text.now (S.written sink.new)) }
+    ensures cause { OnFalse result (Rose (S.faults sink.old) (S.faults sink.new)) }
+    ensures sure { ¬ Rose (S.faults sink.old) (S.faults sink.new) → IsTrue result }
+{
+    let mut done = 0;
+    while done < text.len() {
+        let end = done + piece_length(&text[done..]);
+        if !put(sink, &text[done..end]) {
+            return false;
+        }
+        done = end;
+    }
+    true
+}

@@ -1,0 +1,9 @@
+pub mod Checked
+pub mod Found
+pub mod Front
+pub mod Lexed
+pub mod Listed
+pub mod Machines
+pub mod Parts
+pub mod Patterns
+pub mod Written

@@ -1,0 +1,122 @@
+-- A machine's tokens, part behind part, and the machine that is made of parts that were read.
+use Rattle.std.proofs.Common.{◌≡◌, ℕ, true, List, [], ◌∷◌, ◌++◌, length, drop, sym, ap, ◌∙◌, append_assoc, append-nil}
+use Rattle.std.specs.List.{flat_map}
+use Rattle.std.proofs.lemmas.Bool.{true≢false}
+use Rattle.slicc_ast.specs.declared.token.Token.{Token}
+use Rattle.slicc_ast.specs.declared.token.Token.TheVariants.{Sign}
+use Rattle.slicc_ast.specs.declared.token.Sign.TheVariants.{OpenBrace, CloseBrace}
+use Rattle.slicc_ast.specs.declared.machine.Machine.{Machine}
+use Rattle.slicc_ast.specs.declared.machine.States.{States}
+use Rattle.slicc_ast.specs.declared.machine.Events.{Events}
+use Rattle.slicc_ast.specs.declared.machine.InPort.{InPort}
+use Rattle.slicc_ast.specs.declared.machine.Action.{Action}
+use Rattle.slicc_ast.specs.declared.machine.Transition.{Transition}
+use Rattle.slicc_ast.specs.Spelling.{states_tokens, events_tokens, port_tokens, action_tokens, transition_tokens, header_tokens, machine_tokens}
+use Rattle.small_form.specs.declared.pattern.Piece.{Piece}
+use Rattle.small_form.specs.Parsing.{IsRead, Begins, Differs, fits, text_at, list_tokens}
+use Rattle.small_form.proofs.Patterns.{filled, fits_filled}
+
+-- the tokens from the transitions on, from the action on, and so on
+abbrev pub from_transitions : Machine → List Token
+from_transitions m = list_tokens transition_tokens m.transitions ++ []
+
+abbrev pub from_action : Machine → List Token
+from_action m = action_tokens m.action ++ from_transitions m
+
+abbrev pub from_port : Machine → List Token
+from_port m = port_tokens m.port ++ from_action m
+
+abbrev pub from_events : Machine → List Token
+from_events m = events_tokens m.events ++ from_port m
+
+abbrev pub from_states : Machine → List Token
+from_states m = states_tokens m.states ++ from_events m
+
+-- the machine's name and title up to its `{`
+abbrev pub opening : Machine → List Token → List Token
+opening m rest = header_tokens m ++ Sign OpenBrace ∷ rest
+
+regrouped : (s e p a t c : List Token) → s ++ e ++ p ++ a ++ t ++ c ≡ s ++ (e ++ (p ++ (a ++ ((t ++ c) ++ []))))
+regrouped s e p a t c =
+    simp append_assoc (ap (λ r. s ++ (e ++ (p ++ (a ++ (t ++ r))))) (sym (append-nil c)))
+
+pub machine_spelled : (m : Machine) → machine_tokens m ≡ opening m (from_states m)
+machine_spelled m =
+    ap (opening m)
+    (regrouped (states_tokens m.states) (events_tokens m.events) (port_tokens m.port) (action_tokens m.action) (flat_map transition_tokens m.transitions) (Sign CloseBrace ∷ []))
+
+abbrev pub machine_of : List ℕ → List ℕ → States → Events → InPort → Action → List Transition → Machine
+machine_of name title states events port action transitions =
+    record { name = name; title = title; states = states; events = events; port = port; action = action; transitions = transitions }
+
+-- a pattern is that of a machine's tokens up to its `{`
+pub record IsMachinePattern (pattern : List Piece) : Type 0 where
+  pub fit : (m : Machine) (rest : List Token) → fits pattern (opening m rest) ≡ true
+  pub cut : (m : Machine) (rest : List Token) → drop (length pattern) (opening m rest) ≡ rest
+  pub named : (m : Machine) (rest : List Token) → text_at (opening m rest) 4 ≡ m.name
+  pub titled : (m : Machine) (rest : List Token) → text_at (opening m rest) 6 ≡ m.title
+  pub full : (tokens rest : List Token) (states : States) (events : Events) (port : InPort) (action : Action) (transitions : List Transition) → filled pattern tokens 0 ++ rest ≡ opening (machine_of (text_at tokens 4) (text_at tokens 6) states events port action transitions) rest
+
+pub no_machine : {pattern : List Piece} {tokens : List Token} → Differs pattern tokens → ((m : Machine) (rest : List Token) → fits pattern (opening m rest) ≡ true) → (m : Machine) → tokens ≡ machine_tokens m → ⊥
+no_machine {pattern} {tokens} differs fit m are =
+    true≢false (sym (fit m (from_states m)) ∙ ap (fits pattern) (sym (are ∙ machine_spelled m)) ∙ differs.unfit)
+
+pub to_states : {pattern : List Piece} {tokens rest : List Token} → Begins pattern tokens rest → ((m : Machine) (rest : List Token) → drop (length pattern) (opening m rest) ≡ rest) → (m : Machine) → tokens ≡ machine_tokens m → rest ≡ from_states m
+to_states {pattern} begins cut m are = begins.cut ∙ ap (drop (length pattern)) (are ∙ machine_spelled m) ∙ cut m (from_states m)
+
+machine_made : (m : Machine) (name title : List ℕ) (states : States) (events : Events) (port : InPort) (action : Action) (transitions : List Transition) → name ≡ m.name → title ≡ m.title → states ≡ m.states → events ≡ m.events → port ≡ m.port → action ≡ m.action → transitions ≡ m.transitions → machine_of name title states events port action transitions ≡ m
+machine_made m name title states events port action transitions n t s e p a r =
+    ap (λ x. machine_of x title states events port action transitions) n
+    ∙ ap (λ x. machine_of m.name x states events port action transitions) t
+    ∙ ap (λ x. machine_of m.name m.title x events port action transitions) s
+    ∙ ap (λ x. machine_of m.name m.title m.states x port action transitions) e
+    ∙ ap (λ x. machine_of m.name m.title m.states m.events x action transitions) p
+    ∙ ap (λ x. machine_of m.name m.title m.states m.events m.port x transitions) a
+    ∙ ap (λ x. machine_of m.name m.title m.states m.events m.port m.action x) r
+
+-- the parts of a machine that were read one behind the other
+pub record AreParts (inside : List Token) (states : States) (events : Events) (port : InPort) (action : Action) (transitions : List Transition) (end : List Token) : Type 0 where
+  pub behind_states : List Token
+  pub behind_events : List Token
+  pub behind_port : List Token
+  pub behind_action : List Token
+  pub states_read : IsRead states_tokens inside states behind_states
+  pub events_read : IsRead events_tokens behind_states events behind_events
+  pub port_read : IsRead port_tokens behind_events port behind_port
+  pub action_read : IsRead action_tokens behind_port action behind_action
+  pub transitions_read : IsRead (list_tokens transition_tokens) behind_action transitions end
+
+module _ {pattern : List Piece} {tokens inside : List Token} (begins : Begins pattern tokens inside) (of : IsMachinePattern pattern) (states : States) (events : Events) (port : InPort) (action : Action) (transitions : List Transition) (end : List Token) (name title : List ℕ) (parts : AreParts inside states events port action transitions end) (name_is : name ≡ text_at tokens 4) (title_is : title ≡ text_at tokens 6) where
+  inside_is : end ≡ [] → inside ≡ from_states (machine_of name title states events port action transitions)
+  inside_is none =
+      parts.states_read.spelled
+      ∙ ap (λ r. states_tokens states ++ r)
+      (parts.events_read.spelled
+      ∙ ap (λ r. events_tokens events ++ r)
+      (parts.port_read.spelled
+      ∙ ap (λ r. port_tokens port ++ r)
+      (parts.action_read.spelled
+      ∙ ap (λ r. action_tokens action ++ r) (parts.transitions_read.spelled ∙ ap (λ r. list_tokens transition_tokens transitions ++ r) none))))
+
+  pub machine_sound : end ≡ [] → tokens ≡ machine_tokens (machine_of name title states events port action transitions)
+  machine_sound none =
+      fits_filled pattern tokens begins.fit
+      ∙ ap (λ r. filled pattern tokens 0 ++ r) (sym begins.cut ∙ inside_is none)
+      ∙ of.full tokens (from_states (machine_of name title states events port action transitions)) states events port action transitions
+      ∙ ap (λ n. opening (machine_of n (text_at tokens 6) states events port action transitions) (from_states (machine_of name title states events port action transitions))) (sym name_is)
+      ∙ ap (λ t. opening (machine_of name t states events port action transitions) (from_states (machine_of name title states events port action transitions))) (sym title_is)
+      ∙ sym (machine_spelled (machine_of name title states events port action transitions))
+
+  pub machine_only : (m : Machine) → tokens ≡ machine_tokens m → (machine_of name title states events port action transitions ≡ m) × (end ≡ [])
+  machine_only m are =
+      let s = parts.states_read.only m.states (from_events m) (to_states begins of.cut m are) in
+      let e = parts.events_read.only m.events (from_port m) (sym s.1) in
+      let p = parts.port_read.only m.port (from_action m) (sym e.1) in
+      let a = parts.action_read.only m.action (from_transitions m) (sym p.1) in
+      let t = parts.transitions_read.only m.transitions [] (sym a.1) in
+      let spelled : tokens ≡ opening m (from_states m) = are ∙ machine_spelled m in (
+        machine_made m name title states events port action transitions
+            (name_is ∙ ap (λ ts. text_at ts 4) spelled ∙ of.named m (from_states m)) (title_is ∙ ap (λ ts. text_at ts 6) spelled ∙ of.titled m (from_states m))
+            (sym s.0) (sym e.0) (sym p.0) (sym a.0) (sym t.0),
+        sym t.1,
+      )

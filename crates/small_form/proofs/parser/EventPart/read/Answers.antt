@@ -1,0 +1,14 @@
+use Rattle.std.proofs.Common.{refl, lit<}
+use Rattle.slicc_ast.specs.Spelling.{event_tokens}
+use Rattle.small_form.proofs.Patterns.{reads_pattern, shorter_behind}
+use Rattle.small_form.proofs.Parts.{make_event, event_made}
+use Rattle.small_form.proofs.parser.EventPart.read.Goals as goal
+
+pub returns-clause-reads : goal.returns-clause-reads
+returns-clause-reads c =
+    reads_pattern event_tokens make_event _ c.in-Some.ensures
+    (record { fit = λ _ _. refl; made = λ _ _. refl; cut = λ _ _. refl; full = λ _. refl })
+    (event_made c.args.tokens.now _ _ c.in_ok-text_at.ensures c.in_ok-text_at-2.ensures)
+
+pub returns-clause-shorter : goal.returns-clause-shorter
+returns-clause-shorter c = shorter_behind c.in-Some.ensures (lit< tt)

@@ -1,0 +1,227 @@
+ghost use Rattle.std.specs.Prelude.{◌≡◌, ◌↔◌, ◌++◌, List, ℕ, IsTrue, map, codes};
+ghost use Rattle.std.specs.List.{list_any, list_all};
+ghost use Rattle.std.specs.Str.{bytes_eq};
+ghost use Rattle.slicc_ast.specs.WellFormed.{is_among, are_distinct, are_single, is_declared, is_default, is_same_pair, permissions, state_names, event_names, IsWellFormed};
+ghost use Rattle.small_form.specs.Checking.{AreStatesWellFormed, AreEventsWellFormed, AreBodiesWellFormed, AreNamesWellFormed, AreTransitionsWellFormed};
+ghost use Rattle.slicc_ast.specs.declared.machine.State.{State as StateTree};
+
+use crate::items::split_front;
+use crate::words::is_permission;
+use slicc_ast::{Event, Machine, State, Transition};
+
+/// The most states, and the most events, of a machine. The limit is this project's own.
+const MOST_MEMBERS: usize = 256;
+
+/// What has a name in a list of declarations.
+trait Named {
+    ghost name_of: { Self → List ℕ };
+
+    fn name(&self) -> &[u8]
+        ensures { result.now ≡ name_of self.now };
+}
+
+impl Named for State {
+    ghost name_of = { λ s. s.name };
+
+    fn name(&self) -> &[u8] {
+        self.name.as_slice()
+    }
+}
+
+impl Named for Event {
+    ghost name_of = { λ e. e.name };
+
+    fn name(&self) -> &[u8] {
+        self.name.as_slice()
+    }
+}
+
+/// Whether every one of the tests holds.
+fn every(tests: &[bool]) -> bool
+    ensures { result ≡ list_all (λ test. test) tests.now }
+{
+    tests.iter().all(|test| *test)
+}
+
+/// Whether one of the declarations has this name.
+fn is_among<N: Named>(declared: &[N], name: &[u8]) -> bool
+    ensures { result ≡ is_among (map N.name_of declared.now) name.now }
+{
+    let mut rest = declared;
+    while let Some((member, later)) = split_front(rest) {
+        if name == member.name() {
+            return true;
+        }
+        rest = later;
+    }
+    false
+}
+
+/// Whether no name is declared twice.
+fn are_distinct<N: Named>(declared: &[N]) -> bool
+    ensures { result ≡ are_distinct (map N.name_of declared.now) }
+{
+    let mut rest = declared;
+    while let Some((first, later)) = split_front(rest) {
+        if is_among(later, first.name()) {
+            return false;
+        }
+        rest = later;
+    }
+    true
+}
+
+/// Whether each state's permission is one of gem5's.
+fn are_permitted(states: &[State]) -> bool
+    ensures { result ≡ list_all (λ (s : StateTree). is_among permissions s.permission) states.now }
+{
+    states
+        .iter()
+        .all(|state| is_permission(state.permission.as_slice()))
+}
+
+/// Whether the default is the machine's name, `_State_` and a state's name.
+fn is_default_declared(m: &Machine) -> bool
+    ensures { result ≡ list_any (is_default m.now) (state_names m.now) }
+{
+    let Some(behind_name) = m.states.default.as_slice().strip_prefix(m.name.as_slice()) else {
+        return false;
+    };
+    match behind_name.strip_prefix("_State_".as_bytes()) {
+        Some(state) => is_among(m.states.members.as_slice(), state),
+        None => false,
+    }
+}
+
+/// Whether the states are 1 to 256 with different names, known permissions and a declared default.
+fn are_states_well_formed(m: &Machine) -> bool
+    ensures { IsTrue result ↔ AreStatesWellFormed m.now }
+{
+    let states = m.states.members.as_slice();
+    every(&[
+        0 < states.len(),
+        states.len() <= MOST_MEMBERS,
+        are_distinct(states),
+        are_permitted(states),
+        is_default_declared(m),
+    ])
+}
+
+/// Whether the events are 1 to 256 with different names.
+fn are_events_well_formed(m: &Machine) -> bool
+    ensures { IsTrue result ↔ AreEventsWellFormed m.now }
+{
+    let events = m.events.members.as_slice();
+    every(&[
+        0 < events.len(),
+        events.len() <= MOST_MEMBERS,
+        are_distinct(events),
+    ])
+}
+
+/// Whether the statements of the port and the action name the port and a declared event.
+fn are_bodies_well_formed(m: &Machine) -> bool
+    ensures { IsTrue result ↔ AreBodiesWellFormed m.now }
+{
+    let port = m.port.name.as_slice();
+    every(&[
+        m.port.body.port.as_slice() == port,
+        m.port.body.then.port.as_slice() == port,
+        m.action.body.port.as_slice() == port,
+        is_among(
+            m.events.members.as_slice(),
+            m.port.body.then.then.event.as_slice(),
+        ),
+    ])
+}
+
+/// Whether machine, port and action have different names, and the action none that means a stall.
+fn are_names_well_formed(m: &Machine) -> bool
+    ensures { IsTrue result ↔ AreNamesWellFormed m.now }
+{
+    let name = m.name.as_slice();
+    let port = m.port.name.as_slice();
+    let action = m.action.name.as_slice();
+    every(&[
+        name != port,
+        name != action,
+        port != action,
+        action != "z_stall".as_bytes(),
+    ])
+}
+
+/// Whether the names in a transition are declared.
+fn is_declared(m: &Machine, transition: &Transition) -> bool
+    ensures { result ≡ is_declared m.now transition.now }
+{
+    let states = m.states.members.as_slice();
+    every(&[
+        is_among(states, transition.state.as_slice()),
+        is_among(m.events.members.as_slice(), transition.event.as_slice()),
+        is_among(states, transition.next.as_slice()),
+        transition.action.as_slice() == m.action.name.as_slice(),
+    ])
+}
+
+/// Whether the names in each transition are declared.
+fn are_declared(m: &Machine) -> bool
+    ensures { result ≡ list_all (is_declared m.now) m.now.transitions }
+{
+    m.transitions
+        .as_slice()
+        .iter()
+        .all(|transition| is_declared(m, transition))
+}
+
+/// Whether both transitions are of one pair of state and event.
+fn is_same_pair(left: &Transition, right: &Transition) -> bool
+    ensures { result ≡ is_same_pair left.now right.now }
+{
+    left.state.as_slice() == right.state.as_slice()
+        && left.event.as_slice() == right.event.as_slice()
+}
+
+/// Whether one of the transitions is of this one's pair.
+fn has_pair(transitions: &[Transition], transition: &Transition) -> bool
+    ensures { result ≡ list_any (is_same_pair transition.now) transitions.now }
+{
+    transitions
+        .iter()
+        .any(|other| is_same_pair(transition, other))
+}
+
+/// Whether no pair of state and event has two transitions.
+fn are_single(transitions: &[Transition]) -> bool
+    ensures { result ≡ are_single transitions.now }
+{
+    let mut rest = transitions;
+    while let Some((first, later)) = split_front(rest) {
+        if has_pair(later, first) {
+            return false;
+        }
+        rest = later;
+    }
+    true
+}
+
+/// Whether there is a transition, and no pair of state and event has two.
+fn are_transitions_well_formed(m: &Machine) -> bool
+    ensures { IsTrue result ↔ AreTransitionsWellFormed m.now }
+{
+    let transitions = m.transitions.as_slice();
+    every(&[0 < transitions.len(), are_single(transitions)])
+}
+
+/// Whether the machine keeps every condition that the grammar doesn't state.
+pub fn is_well_formed(m: &Machine) -> bool
+    ensures { IsTrue result ↔ IsWellFormed m.now }
+{
+    every(&[
+        are_states_well_formed(m),
+        are_events_well_formed(m),
+        are_bodies_well_formed(m),
+        are_names_well_formed(m),
+        are_declared(m),
+        are_transitions_well_formed(m),
+    ])
+}
