@@ -1,3 +1,4 @@
 pub mod Awakes
 pub mod Places
 pub mod Runs
+mod Positions

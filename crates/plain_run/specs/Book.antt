@@ -1,7 +1,9 @@
--- A run so far, as the program keeps it.
+-- A run so far, as the program keeps it: its history leads to its world with its journal, and it is one worker's.
 use Rattle.slicc_meaning.specs.declared.world.Setting.{Setting}
+use Rattle.slicc_meaning.specs.Alone.{IsAlone}
 use Rattle.slicc_meaning.specs.Run.{IsRun}
 use Rattle.plain_run.specs.declared.book.Book.{Book}
 
-abbrev pub IsRunSoFar : Setting → Book → Type 0
-IsRunSoFar s b = IsRun s b.history b.world b.journal
+pub record IsRunSoFar (s : Setting) (b : Book) : Type 0 where
+  pub run : IsRun s b.history b.world b.journal
+  pub alone : IsAlone s b.history

@@ -3,6 +3,7 @@ ghost use Rattle.std.specs.Prelude.{◌≡◌, ◌<◌, ◌≤◌, ◌+◌, ◌-
 ghost use Rattle.std.specs.List.{list_any};
 ghost use Rattle.std.specs.Option.{IsSomeAnd};
 ghost use Rattle.slicc_meaning.specs.declared.controller.Scanned.TheVariants.{Fired};
+ghost use Rattle.slicc_meaning.specs.Alone.{IsNextTake};
 ghost use Rattle.slicc_meaning.specs.World.{is_free};
 ghost use Rattle.slicc_meaning.specs.Step.{with_place, is_holder, scan_at, is_busy, ended_by};
 ghost use Rattle.plain_run.specs.Book.{IsRunSoFar};
@@ -19,11 +20,12 @@ pub struct Book {
     pub journal: Seq<Entry>,
 }
 
-/// The worker takes a controller that is due and that nobody holds.
+/// The one worker takes the least controller that is due, while it holds none.
 pub fn take_one(setting: &Setting, book: Book, worker: u32, c: u32) -> Result<Book, NoMemory>
     requires run { IsRunSoFar setting.now book }
     requires running { book.world.verdict ≡ None }
     requires free { IsSomeAnd (slice_get book.world.places c) (λ p. IsTrue (is_free book.world.now p)) }
+    requires next { IsNextTake book.world worker c }
     ensures run { IfOk result (IsRunSoFar setting.now) }
     ensures held { IfOk result (λ after. IsSomeAnd (slice_get book.world.places c) (λ p. after.world ≡ with_place book.world c (record p { holder = Some worker }))) }
 {
@@ -58,6 +60,7 @@ pub fn fire_one(
     requires running { book.world.verdict ≡ None }
     requires fired { IsSomeAnd (slice_get book.world.places c) (λ p. IsTrue (is_holder worker p.holder) × (scan_at setting.now book.world c p ≡ Fired note consumed after)) }
     requires fits { after.fired + 1 < 2 ^ 64 }
+    requires worker { worker ≡ 0 }
     ensures run { IfOk result (IsRunSoFar setting.now) }
     ensures fired { IfOk result (λ next. IsSomeAnd (slice_get book.world.places c) (λ p. next.world ≡ with_place book.world c (record p { controller = record after { fired = after.fired + 1 } }))) }
 {
@@ -91,6 +94,7 @@ pub fn finish_one(
     requires run { IsRunSoFar setting.now book }
     requires running { book.world.verdict ≡ None }
     requires ended { IsSomeAnd (slice_get book.world.places c) (λ p. IsTrue (is_holder worker p.holder) × (ended_by book.world.now p.controller (scan_at setting.now book.world c p) ≡ Some (after, end))) }
+    requires worker { worker ≡ 0 }
     ensures run { IfOk result (IsRunSoFar setting.now) }
     ensures back { IfOk result (λ next. next.world ≡ with_place book.world c (record { controller = after; finished = true; holder = None })) }
 {

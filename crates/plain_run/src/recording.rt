@@ -3,7 +3,8 @@ ghost use Rattle.std.specs.Prelude.{◌≡◌, ◌<◌, ◌^◌, ◌∷◌, [], 
 ghost use Rattle.slicc_meaning.specs.World.{opening_place as opening_place_of};
 ghost use Rattle.plain_run.specs.Book.{IsRunSoFar};
 ghost use Rattle.plain_run.specs.Cycle.{IsBetween};
-ghost use Rattle.slicc_meaning.specs.Record.{IsWholeRun};
+ghost use Rattle.slicc_meaning.specs.Alone.{IsAlone};
+ghost use Rattle.slicc_meaning.specs.Record.{IsWholeRun, setting as setting_of};
 
 use crate::book::Book;
 use crate::run::{WORKER, run_on};
@@ -65,6 +66,7 @@ pub fn run_plain(
     requires cycles { options.cycles < 2 ^ 63 }
     requires limit { options.limit < 2 ^ 63 }
     ensures whole { IfOk result IsWholeRun }
+    ensures alone { IfOk result (λ r. IsAlone (setting_of r) r.history) }
     ensures options { IfOk result (λ r. r.options ≡ options) }
     ensures plan { IfOk result (λ r. r.plan ≡ plan) }
     ensures topology { IfOk result (λ r. r.topology ≡ topology) }

@@ -1,5 +1,5 @@
 // A whole run on one thread: in each cycle the due controllers wake in increasing number, and then the cycle turns.
-ghost use Rattle.std.specs.Prelude.{◌≡◌, ◌≤◌, ◌<◌, ◌+◌, ◌-◌, ◌^◌, ℕ, IfOk, IfSome, OnOk, IfNone, IsTrue, None, Some, [], false, length, slice_get};
+ghost use Rattle.std.specs.Prelude.{◌≡◌, ◌≤◌, ◌<◌, ◌+◌, ◌-◌, ◌^◌, ℕ, IfOk, IfSome, OnOk, IfNone, IsTrue, None, Some, [], false, length, position, slice_get};
 ghost use Rattle.std.specs.List.{list_any};
 ghost use Rattle.std.specs.Option.{IsSomeAnd};
 ghost use Rattle.slicc_meaning.specs.World.{is_free as is_free_at, opening as opening_of};
@@ -28,6 +28,7 @@ fn is_free(p: &Place, now: u64) -> bool
 fn first_free(places: &Seq<Place>, now: u64) -> Option<u32>
     requires { length places.now < 2 ^ 32 }
     ensures found { IfSome result (λ c. IsSomeAnd (slice_get places.now c) (λ p. IsTrue (is_free_at now p))) }
+    ensures least { IfSome result (λ c. position (is_free_at now) places.now ≡ Some c) }
     ensures none { IfNone result (list_any (is_free_at now) places.now ≡ false) }
 {
     for (c, p) in places.as_slice().iter().enumerate() {

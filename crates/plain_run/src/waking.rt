@@ -1,6 +1,7 @@
 // The wake-up of one controller: scans until one is idle, full or stops.
 ghost use Rattle.std.specs.Prelude.{◌≡◌, ◌<◌, ◌+◌, ◌-◌, ◌^◌, IfOk, IsTrue, None, Some, length, slice_get};
 ghost use Rattle.std.specs.Option.{IsSomeAnd};
+ghost use Rattle.slicc_meaning.specs.Alone.{IsNextTake};
 ghost use Rattle.slicc_meaning.specs.World.{is_free};
 ghost use Rattle.plain_run.specs.Book.{IsRunSoFar};
 ghost use Rattle.plain_run.specs.Awake.{IsWoken};
@@ -11,7 +12,7 @@ use ruby_base::NoMemory;
 use slicc_meaning::Setting;
 use std::alloc::Global;
 
-/// The whole wake-up of a controller that is due and that nobody holds, by one worker.
+/// The whole wake-up of the least controller that is due, by the one worker, who holds no other.
 pub fn wake(
     alloc: Global,
     setting: &Setting,
@@ -24,6 +25,7 @@ pub fn wake(
     requires now { book.world.now < 2 ^ 63 }
     requires limit { setting.now.limit < 2 ^ 63 }
     requires free { IsSomeAnd (slice_get book.world.places c) (λ p. IsTrue (is_free book.world.now p)) }
+    requires next { IsNextTake book.world worker c }
     ensures run { IfOk result (IsRunSoFar setting.now) }
     ensures woken { IfOk result (λ after. IsWoken c book.world after.world) }
 {

@@ -3,7 +3,7 @@ ghost use Rattle.std.specs.Prelude.{◌≡◌, ◌<◌, ◌≤◌, IsTrue, is_so
 ghost use Rattle.std.specs.Bool.{OnTrue, OnFalse};
 ghost use Rattle.ruby_outside.specs.Faults.{Rose};
 ghost use Rattle.ruby_outside.specs.Sink.{grown, IsCutOff};
-ghost use Rattle.run_text.specs.Pieces.{piece_length as piece_length_of};
+ghost use Rattle.run_text.specs.Pieces.{IsPutInPieces, piece_length as piece_length_of};
 
 use ruby_outside::{Sink, put};
 
@@ -28,6 +28,7 @@ fn piece_length(text: &[u8]) -> usize
 /// put as one piece, and a longer one as several. It answers `false`, and writes nothing further, as soon as a piece
 /// isn't written whole. It takes no memory.
 pub fn write_lines<S: Sink>(sink: &mut S, text: &[u8]) -> bool
+    ensures by_pieces { IsPutInPieces S.writes sink.old text.now result sink.new }
     ensures tells { is_some (S.written sink.new) ≡ is_some (S.written sink.old) }
     ensures counts { S.faults sink.old ≤ S.faults sink.new }
     ensures whole { OnTrue result (S.written sink.new ≡ grown (S.written sink.old) text.now) }
