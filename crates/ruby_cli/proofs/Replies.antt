@@ -245,3 +245,51 @@ module _ (rose : Type 0) (o : Options) where
       → IsComplete files o rose write_rose d.kept d.status
   complete-clause files write_rose r written d is done cause =
       subst (λ (e : Done). IsComplete files o rose write_rose e.kept e.status) (sym done) (complete_with files write_rose r written is cause)
+
+  -- the status of a refusal comes exactly so
+  refused_true : (files : Option Files) (r : Reply) (told : Files) → files ≡ Some told → IsReply files rose o r
+      → ((done_with r true).status ≡ 3 → IsAnswer told o Refused) × (IsAnswer told o Refused → IsOneOf (3 ∷ 5 ∷ 7 ∷ 8 ∷ []) (done_with r true).status)
+  refused_true files (reply.Ran r) told tells is = (λ e. absurd (verdict_not r.verdict 3 (omega arith) e), λ right. absurd (refused_runs told o r right (is.1.1 told tells)))
+  refused_true files (reply.Refused name) told tells is = (λ e. is.1 told tells, λ right. inl refl)
+  refused_true files (reply.Absent name) told tells is = (λ e. absurd (omega (arith, e)), λ right. absurd (absent_refused told o (is.1 told tells) right))
+  refused_true files (reply.TooLarge name) told tells is = (λ e. absurd (omega (arith, e)), λ right. absurd (long_refused told o (is.1 told tells) right))
+  refused_true files (reply.Faulted name) told tells is = (λ e. absurd (omega (arith, e)), λ right. inr (inl refl))
+
+  refused_with : (files : Option Files) (r : Reply) (written : Bool) → IsReply files rose o r → IsStatusOf files o Refused 3 (done_with r written).status
+  refused_with files r true is = λ told tells. refused_true files r told tells is
+  refused_with files r false is = λ told tells. (λ e. absurd (omega (arith, e)), λ right. inr (inr (inl refl)))
+
+  pub refused-clause : (files : Option Files) (r : Reply) (written : Bool) (d : Done) → IsReply files rose o r → d ≡ done_with r written → IsStatusOf files o Refused 3 d.status
+  refused-clause files r written d is done = subst (λ (e : Done). IsStatusOf files o Refused 3 e.status) (sym done) (refused_with files r written is)
+
+  -- the status of an absent file comes exactly so
+  absent_true : (files : Option Files) (r : Reply) (told : Files) → files ≡ Some told → IsReply files rose o r
+      → ((done_with r true).status ≡ 6 → IsAnswer told o Absent) × (IsAnswer told o Absent → IsOneOf (6 ∷ 5 ∷ 7 ∷ 8 ∷ []) (done_with r true).status)
+  absent_true files (reply.Ran r) told tells is = (λ e. absurd (verdict_not r.verdict 6 (omega arith) e), λ right. absurd (absent_runs told o r right (is.1.1 told tells)))
+  absent_true files (reply.Refused name) told tells is = (λ e. absurd (omega (arith, e)), λ right. absurd (absent_refused told o right (is.1 told tells)))
+  absent_true files (reply.Absent name) told tells is = (λ e. is.1 told tells, λ right. inl refl)
+  absent_true files (reply.TooLarge name) told tells is = (λ e. absurd (omega (arith, e)), λ right. absurd (absent_long told o right (is.1 told tells)))
+  absent_true files (reply.Faulted name) told tells is = (λ e. absurd (omega (arith, e)), λ right. inr (inl refl))
+
+  absent_with : (files : Option Files) (r : Reply) (written : Bool) → IsReply files rose o r → IsStatusOf files o Absent 6 (done_with r written).status
+  absent_with files r true is = λ told tells. absent_true files r told tells is
+  absent_with files r false is = λ told tells. (λ e. absurd (omega (arith, e)), λ right. inr (inr (inl refl)))
+
+  pub absent-clause : (files : Option Files) (r : Reply) (written : Bool) (d : Done) → IsReply files rose o r → d ≡ done_with r written → IsStatusOf files o Absent 6 d.status
+  absent-clause files r written d is done = subst (λ (e : Done). IsStatusOf files o Absent 6 e.status) (sym done) (absent_with files r written is)
+
+  -- the status of a file that is too large comes exactly so
+  too_large_true : (files : Option Files) (r : Reply) (told : Files) → files ≡ Some told → IsReply files rose o r
+      → ((done_with r true).status ≡ 9 → IsAnswer told o TooLarge) × (IsAnswer told o TooLarge → IsOneOf (9 ∷ 5 ∷ 7 ∷ 8 ∷ []) (done_with r true).status)
+  too_large_true files (reply.Ran r) told tells is = (λ e. absurd (verdict_not r.verdict 9 (omega arith) e), λ right. absurd (long_runs told o r right (is.1.1 told tells)))
+  too_large_true files (reply.Refused name) told tells is = (λ e. absurd (omega (arith, e)), λ right. absurd (long_refused told o right (is.1 told tells)))
+  too_large_true files (reply.Absent name) told tells is = (λ e. absurd (omega (arith, e)), λ right. absurd (absent_long told o (is.1 told tells) right))
+  too_large_true files (reply.TooLarge name) told tells is = (λ e. is.1 told tells, λ right. inl refl)
+  too_large_true files (reply.Faulted name) told tells is = (λ e. absurd (omega (arith, e)), λ right. inr (inl refl))
+
+  too_large_with : (files : Option Files) (r : Reply) (written : Bool) → IsReply files rose o r → IsStatusOf files o TooLarge 9 (done_with r written).status
+  too_large_with files r true is = λ told tells. too_large_true files r told tells is
+  too_large_with files r false is = λ told tells. (λ e. absurd (omega (arith, e)), λ right. inr (inr (inl refl)))
+
+  pub too_large-clause : (files : Option Files) (r : Reply) (written : Bool) (d : Done) → IsReply files rose o r → d ≡ done_with r written → IsStatusOf files o TooLarge 9 d.status
+  too_large-clause files r written d is done = subst (λ (e : Done). IsStatusOf files o TooLarge 9 e.status) (sym done) (too_large_with files r written is)

@@ -2,12 +2,12 @@
 use Rattle.std.specs.Prelude.{◌≡◌, ℕ, Bool, Option, None, Some, List, if◌then◌else◌}
 use Rattle.std.specs.Option.{ForSome}
 use Rattle.ruby_outside.specs.Files.{Files}
+use Rattle.ruby_outside.specs.declared.library.Got.{Got}
 use Rattle.slicc_ast.specs.declared.machine.Machine.{Machine}
 use Rattle.slicc_ast.specs.SmallForm.{IsSmallForm}
 use Rattle.slicc_meaning.specs.declared.record.Options.{Options}
 use Rattle.slicc_meaning.specs.declared.record.RunRecord.{RunRecord}
-use Rattle.slicc_meaning.specs.Answer.{Runs, Refused, Absent, TooLarge, IsAnswer}
-use Rattle.slicc_meaning.specs.Plan.{plan_of}
+use Rattle.slicc_meaning.specs.Answer.{Runs, Refused, Absent, TooLarge, IsAnswer, file_limit}
 use Rattle.slicc_meaning.specs.Record.{IsWholeRun}
 use Rattle.slicc_meaning.specs.Text.{text}
 use Rattle.slicc_meaning.specs.Topology.{plain_of}
@@ -15,13 +15,12 @@ use Rattle.ruby_cli.specs.declared.top.Done.{Done}
 use Rattle.ruby_cli.specs.declared.reply.Reply.{Reply}
 use Rattle.ruby_cli.specs.declared.reply.Reply.TheVariants as reply
 use Rattle.ruby_cli.specs.Answers.{refused_line, absent_line, too_large_line, fault_line}
-use Rattle.ruby_cli.specs.Top.{IsAsAsked, verdict_status}
+use Rattle.ruby_cli.specs.Answered.{IsRight, IsRunOf}
+use Rattle.ruby_cli.specs.Top.{IsAsAsked, verdict_status, whole_text}
 
 -- the reply to these bytes
 abbrev pub IsReplyTo : List ℕ → Options → Reply → Type 0
-IsReplyTo bytes o (reply.Ran r) =
-    IsWholeRun r × (r.options ≡ o)
-    × ((m : Machine) × IsSmallForm bytes m × (r.plan ≡ plan_of m) × (r.topology ≡ plain_of r.plan))
+IsReplyTo bytes o (reply.Ran r) = IsRunOf bytes o r
 IsReplyTo bytes o (reply.Refused name) = (name ≡ o.protocol) × ((m : Machine) → IsSmallForm bytes m → ⊥)
 IsReplyTo bytes o (reply.Absent name) = ⊥
 IsReplyTo bytes o (reply.TooLarge name) = ⊥
@@ -59,3 +58,12 @@ reply_kept (reply.Faulted name) = None
 -- what the call answers once its text was written, or cut off
 abbrev pub done_with : Reply → Bool → Done
 done_with r written = record { status = if written then reply_status r else 7; kept = reply_kept r }
+
+-- the reply to what the read of the protocol's file has answered
+pub record IsReplyBy (o : Options) (got : Got) (r : Reply) : Type 0 where
+  pub right : IsRight o got (reply_status r) (reply_kept r)
+  pub text : reply_text r ≡ whole_text o (reply_kept r) (reply_status r)
+
+-- a library was read once, for the protocol's file, and this holds of the answer
+abbrev pub IsReadOnce : {L : Type 0} (reads : L → List ℕ → ℕ → Got → L → Type 0) → Options → (before after : L) → (Got → Type 0) → Type 0
+IsReadOnce reads o before after P = (got : Got) × reads before o.protocol file_limit got after × P got

@@ -11,6 +11,7 @@ use Rattle.slicc_meaning.specs.declared.record.Verdict.{Verdict}
 use Rattle.slicc_meaning.specs.declared.record.Verdict.TheVariants.{Stop, Quiet, Cycles}
 use Rattle.slicc_meaning.specs.declared.world.World.{World}
 use Rattle.slicc_meaning.specs.Account.{IsAccounted}
+use Rattle.slicc_meaning.specs.Alone.{IsAlone}
 use Rattle.slicc_meaning.specs.Answer.{Answer, Runs, Refused, Absent, TooLarge, IsAnswer}
 use Rattle.slicc_meaning.specs.InvalidExactly.{InvalidExactly}
 use Rattle.slicc_meaning.specs.Record.{IsRecordOf, setting}
@@ -33,6 +34,10 @@ IsMessageAccount r =
 -- a wake-up ended as `invalid` exactly where its scan triggered a pair without a transition, and then with that pair
 abbrev pub IsInvalidExactly : RunRecord → Type 0
 IsInvalidExactly r = InvalidExactly (setting r) r.history r.journal
+
+-- one worker made the run, and took the controllers in the order of their numbers
+abbrev pub IsByOneWorker : RunRecord → Type 0
+IsByOneWorker r = IsAlone (setting r) r.history
 
 -- one tally, of the one worker, has the counts of its events
 abbrev pub IsTallied : RunRecord → Type 0

@@ -1,12 +1,13 @@
 // The top call over the words of a command line.
-ghost use Rattle.std.specs.Prelude.{◌≡◌, ◌≢◌, ◌≤◌, ◌∷◌, [], None, IfSome, is_some, map, string_bytes};
+ghost use Rattle.std.specs.Prelude.{◌≡◌, ◌≢◌, ◌≤◌, ◌⊎◌, ◌∷◌, [], None, IfSome, is_some, map, string_bytes};
 ghost use Rattle.std.specs.Option.{ForSome};
 ghost use Rattle.ruby_outside.specs.Faults.{Rose};
 ghost use Rattle.ruby_outside.specs.Sink.{grown, IsCutOff};
 ghost use Rattle.slicc_meaning.specs.Answer.{Refused, Absent, TooLarge};
 ghost use Rattle.slicc_meaning.specs.Record.{IsWholeRun};
+ghost use Rattle.ruby_cli.specs.Answered.{IsAnsweredTo, IsUntold, IsUsageTold};
 ghost use Rattle.ruby_cli.specs.Answers.{usage_line as usage_text};
-ghost use Rattle.ruby_cli.specs.Top.{IsWokenOnce, IsMessageAccount, IsInvalidExactly, IsTallied, IsAsAsked, IsVerdictStatus, IsStatusOf, IsOneOf, IsBegun, KeepsRun, IsComplete, asked_text};
+ghost use Rattle.ruby_cli.specs.Top.{IsWokenOnce, IsMessageAccount, IsInvalidExactly, IsTallied, IsByOneWorker, IsAsAsked, IsVerdictStatus, IsStatusOf, IsOneOf, IsBegun, KeepsRun, IsComplete, asked_text};
 ghost use Rattle.ruby_cli.specs.Words.{asked as asked_of};
 
 use crate::answers::usage_line;
@@ -22,6 +23,7 @@ use std::thread::Threads;
 // Writes how the program is called.
 fn tell_usage<S: Sink>(alloc: Global, sink: &mut S) -> Done
     ensures kept { result.kept ≡ None }
+    ensures answered { IsUntold sink.old sink.new result.kept result.status ⊎ IsUsageTold S.writes sink.old sink.new result.kept result.status }
     ensures statuses { IsOneOf (2 ∷ 7 ∷ 8 ∷ []) result.status }
     ensures written { result.status ≢ 7 → S.written sink.new ≡ grown (S.written sink.old) (asked_text None None result.status) }
     ensures cut_off { result.status ≡ 7 → IsCutOff (S.written sink.old) usage_text (S.written sink.new) }
@@ -68,7 +70,11 @@ pub fn ruby<R: Threads + Wait + Sync, L: Library, S: Sink, G: Gate + Sync>(
     ensures accounted { IfSome result.kept IsMessageAccount }
     ensures invalid_exactly { IfSome result.kept IsInvalidExactly }
     ensures tallied { IfSome result.kept IsTallied }
+    ensures by_one_worker { IfSome result.kept IsByOneWorker }
     ensures as_asked { ForSome (asked_of (map string_bytes words.now)) (λ o. IfSome result.kept (IsAsAsked (L.files library.old) o)) }
+
+    // All that the call does: it reads at most once, and writes the text that belongs to the answer, up to a fault.
+    ensures answered { IsAnsweredTo L.reads S.writes (asked_of (map string_bytes words.now)) library.old library.new sink.old sink.new result.kept result.status }
 
     // What is written is the whole text, or with 7 a beginning of it.
     ensures as_written { result.status ≢ 7 → S.written sink.new ≡ grown (S.written sink.old) (asked_text (asked_of (map string_bytes words.now)) result.kept result.status) }

@@ -2,7 +2,7 @@
 ghost use Rattle.std.specs.Prelude.{◌≡◌, ◌<◌, ◌≤◌, ◌^◌, IfOk, Option, IsUtf8};
 ghost use Rattle.ruby_outside.specs.Faults.{Rose};
 ghost use Rattle.slicc_ast.specs.WellFormed.{IsWellFormed};
-ghost use Rattle.ruby_cli.specs.Reply.{IsReplyTo, IsReply, reply_text as reply_text_of};
+ghost use Rattle.ruby_cli.specs.Reply.{IsReplyBy, IsReplyTo, IsReadOnce, IsReply, reply_text as reply_text_of};
 
 use crate::answers::{absent_line, fault_line, refused_line, too_large_line};
 use plain_run::run_plain;
@@ -58,6 +58,7 @@ pub fn find_reply<L: Library>(
     requires name { IsUtf8 options.protocol }
     requires cycles { options.cycles < 2 ^ 63 }
     requires limit { options.limit < 2 ^ 63 }
+    ensures read { IsReadOnce L.reads options library.old library.new (λ got. IfOk result (IsReplyBy options got)) }
     ensures reply { IfOk result (IsReply (L.files library.old) (Rose (L.faults library.old) (L.faults library.new)) options) }
     ensures files { L.files library.new ≡ L.files library.old }
     ensures counts { L.faults library.old ≤ L.faults library.new }

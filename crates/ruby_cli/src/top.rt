@@ -4,8 +4,9 @@ ghost use Rattle.ruby_outside.specs.Faults.{Rose};
 ghost use Rattle.ruby_outside.specs.Sink.{grown};
 ghost use Rattle.slicc_meaning.specs.Answer.{Refused, Absent, TooLarge};
 ghost use Rattle.slicc_meaning.specs.Record.{IsWholeRun};
-ghost use Rattle.ruby_cli.specs.Reply.{IsReply, reply_text, done_with};
-ghost use Rattle.ruby_cli.specs.Top.{IsWokenOnce, IsMessageAccount, IsInvalidExactly, IsTallied, IsAsAsked, IsVerdictStatus, IsStatusOf, IsOneOf, IsBegun, KeepsRun, IsComplete, whole_text, verdict_status as verdict_status_of};
+ghost use Rattle.ruby_cli.specs.Answered.{IsAnswered};
+ghost use Rattle.ruby_cli.specs.Reply.{IsReadOnce, IsReply, IsReplyBy, reply_text, done_with};
+ghost use Rattle.ruby_cli.specs.Top.{IsWokenOnce, IsMessageAccount, IsInvalidExactly, IsTallied, IsByOneWorker, IsAsAsked, IsVerdictStatus, IsStatusOf, IsOneOf, IsBegun, KeepsRun, IsComplete, whole_text, verdict_status as verdict_status_of};
 
 use crate::reply::{Reply, find_reply, text_of_reply};
 use ruby_base::{NoMemory, Text};
@@ -78,6 +79,7 @@ fn prepare<L: Library>(
     requires name { IsUtf8 options.protocol }
     requires cycles { options.cycles < 2 ^ 63 }
     requires limit { options.limit < 2 ^ 63 }
+    ensures read { IsReadOnce L.reads options library.old library.new (λ got. IfOk result (λ r. IsReplyBy options got r.0)) }
     ensures reply { IfOk result (λ r. IsReply (L.files library.old) (Rose (L.faults library.old) (L.faults library.new)) options r.0) }
     ensures text { IfOk result (λ r. r.1 ≡ reply_text r.0) }
     ensures files { L.files library.new ≡ L.files library.old }
@@ -110,7 +112,11 @@ pub fn ruby_alone<L: Library, S: Sink>(
     ensures accounted { IfSome result.kept IsMessageAccount }
     ensures invalid_exactly { IfSome result.kept IsInvalidExactly }
     ensures tallied { IfSome result.kept IsTallied }
+    ensures by_one_worker { IfSome result.kept IsByOneWorker }
     ensures as_asked { IfSome result.kept (IsAsAsked (L.files library.old) options) }
+
+    // All that the call does: it reads once, and writes the text that belongs to the answer, up to a fault.
+    ensures answered { IsAnswered L.reads S.writes options library.old library.new sink.old sink.new result.kept result.status }
 
     // What is written is the whole text, or with 7 a beginning of it.
     ensures as_written { result.status ≢ 7 → S.written sink.new ≡ grown (S.written sink.old) (whole_text options result.kept result.status) }

@@ -4,7 +4,8 @@ use Rattle.slicc_meaning.specs.declared.record.RunRecord.{RunRecord}
 use Rattle.slicc_meaning.specs.Record.{IsWholeRun}
 use Rattle.ruby_cli.specs.declared.top.Done.{Done}
 use Rattle.ruby_cli.specs.Top.{IsWokenOnce, IsMessageAccount, IsInvalidExactly, IsTallied, IsAsAsked}
-use Rattle.ruby_cli.proofs.Replies.{for_kept, woken-whole, accounted-clause, invalid-whole, tallied-whole, run-clause, asked-clause, written-clause, cut-clause, keeps-clause, complete-clause}
+use Rattle.ruby_cli.proofs.Answering.{told, untold}
+use Rattle.ruby_cli.proofs.Replies.{for_kept, woken-whole, accounted-clause, invalid-whole, tallied-whole, run-clause, asked-clause, written-clause, cut-clause, keeps-clause, complete-clause, refused-clause, absent-clause, too_large-clause}
 use Rattle.ruby_cli.proofs.top.ruby_alone.Goals as goal
 
 pub returns-in-Ok-clause-record_is_a_run : goal.returns-in-Ok-clause-record_is_a_run
@@ -65,3 +66,30 @@ returns-in-Ok-clause-complete g c =
     let rose = Rose (g.L.Library.faults c.args.library.now) (g.L.Library.faults c.prepare.new.library) in
     let write_rose = Rose (g.S.Sink.faults c.args.sink.now) (g.S.Sink.faults c.write_lines-written.new.sink) in
     complete-clause rose c.args.options (g.L.Library.files c.args.library.now) write_rose c.in-Ok.reply c.write_lines-written.result c.finish.result c.in-Ok.ensures.reply c.finish.ensures c.write_lines-written.ensures.cause
+
+pub returns-in-Ok-clause-refused : goal.returns-in-Ok-clause-refused
+returns-in-Ok-clause-refused g c =
+    let rose = Rose (g.L.Library.faults c.args.library.now) (g.L.Library.faults c.prepare.new.library) in
+    refused-clause rose c.args.options (g.L.Library.files c.args.library.now) c.in-Ok.reply c.write_lines-written.result c.finish.result c.in-Ok.ensures.reply c.finish.ensures
+
+pub returns-in-Ok-clause-absent : goal.returns-in-Ok-clause-absent
+returns-in-Ok-clause-absent g c =
+    let rose = Rose (g.L.Library.faults c.args.library.now) (g.L.Library.faults c.prepare.new.library) in
+    absent-clause rose c.args.options (g.L.Library.files c.args.library.now) c.in-Ok.reply c.write_lines-written.result c.finish.result c.in-Ok.ensures.reply c.finish.ensures
+
+pub returns-in-Ok-clause-too_large : goal.returns-in-Ok-clause-too_large
+returns-in-Ok-clause-too_large g c =
+    let rose = Rose (g.L.Library.faults c.args.library.now) (g.L.Library.faults c.prepare.new.library) in
+    too_large-clause rose c.args.options (g.L.Library.files c.args.library.now) c.in-Ok.reply c.write_lines-written.result c.finish.result c.in-Ok.ensures.reply c.finish.ensures
+
+pub returns-in-Ok-clause-answered : goal.returns-in-Ok-clause-answered
+returns-in-Ok-clause-answered g c =
+    let read = c.in-Ok.ensures.read in
+    told g.L.Library.reads g.S.Sink.writes c.args.options c.args.library.now c.prepare.new.library c.args.sink.now c.write_lines-written.new.sink
+    read.0 c.in-Ok.reply c.write_lines-written.result c.as_slice.result.now c.finish.result read.1 read.2
+    (c.as_slice.ensures ∙ c.in-Ok.ensures.text) c.write_lines-written.ensures.by_pieces c.finish.ensures
+
+pub returns-in-Err-clause-answered : goal.returns-in-Err-clause-answered
+returns-in-Err-clause-answered g c =
+    let read = c.in-Err.ensures.read in
+    untold g.L.Library.reads g.S.Sink.writes c.args.options c.args.library.now c.prepare.new.library c.args.sink.now read.0 read.1
