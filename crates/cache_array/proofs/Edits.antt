@@ -4,15 +4,15 @@ use mathlib.Core.Bool.{false≢true}
 use Rattle.std.proofs.Math.ListN.{length-set}
 use Rattle.std.proofs.lemmas.List.{get_or_default, length-replicate}
 use Rattle.ruby_value.specs.declared.value.Value.{Value}
-use Rattle.cache_array.specs.AreLinesOf.{AreLinesOf}
-use Rattle.cache_array.specs.Cache.{Cache, Line}
-use Rattle.cache_array.specs.FieldsOf.{fields_of}
-use Rattle.cache_array.specs.IsCache.{IsCache}
-use Rattle.cache_array.specs.MadeRecent.{made_recent}
-use Rattle.cache_array.specs.SetOf.{set_of}
-use Rattle.cache_array.specs.WithFields.{with_fields}
-use Rattle.cache_array.specs.WithSet.{with_set}
-use Rattle.cache_array.specs.WithoutLine.{without_line}
+use Rattle.ruby_value.specs.AreLinesOf.{AreLinesOf}
+use Rattle.ruby_value.specs.Cache.{Cache, Line}
+use Rattle.ruby_value.specs.FieldsOf.{fields_of}
+use Rattle.ruby_value.specs.IsCache.{IsCache}
+use Rattle.ruby_value.specs.MadeRecent.{made_recent}
+use Rattle.ruby_value.specs.SetOf.{set_of}
+use Rattle.ruby_value.specs.WithFields.{with_fields}
+use Rattle.ruby_value.specs.WithSet.{with_set}
+use Rattle.ruby_value.specs.WithoutLine.{without_line}
 use Rattle.cache_array.proofs.Sets.{lines_push, lines_without, lines_with_fields, lines_recent, length_removed, length_written, length_recent, set_is, set_lines, lawful_with_set, lawful_empty}
 
 none_from : {X : Type 0} (o : Option X) → is_some o ≡ false → o ≡ None

@@ -8,14 +8,14 @@ use Rattle.std.proofs.lemmas.Bool.{eqb-true, eqb-false, ne_eqb, cases_eq}
 use Rattle.std.proofs.lemmas.List.{append-nil}
 use Rattle.std.proofs.lemmas.Option.{none-some, unwrap_or-slice_get}
 use Rattle.ruby_value.specs.declared.value.Value.{Value}
-use Rattle.cache_array.specs.AreLinesOf.{AreLinesOf}
-use Rattle.cache_array.specs.Cache.{Cache, Line}
-use Rattle.cache_array.specs.FieldsOf.{fields_of}
-use Rattle.cache_array.specs.HasLawfulSets.{HasLawfulSets}
-use Rattle.cache_array.specs.MadeRecent.{made_recent}
-use Rattle.cache_array.specs.SetOf.{set_of}
-use Rattle.cache_array.specs.WithFields.{with_fields}
-use Rattle.cache_array.specs.WithoutLine.{without_line}
+use Rattle.ruby_value.specs.AreLinesOf.{AreLinesOf}
+use Rattle.ruby_value.specs.Cache.{Cache, Line}
+use Rattle.ruby_value.specs.FieldsOf.{fields_of}
+use Rattle.ruby_value.specs.HasLawfulSets.{HasLawfulSets}
+use Rattle.ruby_value.specs.MadeRecent.{made_recent}
+use Rattle.ruby_value.specs.SetOf.{set_of}
+use Rattle.ruby_value.specs.WithFields.{with_fields}
+use Rattle.ruby_value.specs.WithoutLine.{without_line}
 
 module _ {X : Type 0} where
   -- no entry passes: neither the first nor a later one

@@ -1,8 +1,8 @@
 -- What holds of every cache that a program can have: there are a set and a way, and its sets are lawful. So a
 -- line is in the cache at most once.
 use Rattle.std.specs.Prelude.{◌<◌, length}
-use Rattle.cache_array.specs.Cache.{Cache}
-use Rattle.cache_array.specs.HasLawfulSets.{HasLawfulSets}
+use Rattle.ruby_value.specs.Cache.{Cache}
+use Rattle.ruby_value.specs.HasLawfulSets.{HasLawfulSets}
 
 pub record IsCache (cache : Cache) : Type 0 where
   pub some_ways : 0 < cache.ways

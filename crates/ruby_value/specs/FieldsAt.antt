@@ -3,7 +3,7 @@
 use Rattle.std.specs.Prelude.{ℕ, List, unwrap_or}
 use Rattle.std.specs.FinMap as map
 use Rattle.ruby_value.specs.declared.value.Value.{Value}
-use Rattle.cache_array.specs.Directory.{Directory}
+use Rattle.ruby_value.specs.Directory.{Directory}
 
 abbrev pub fields_at : Directory → ℕ → List Value
 fields_at directory line = unwrap_or (map.get directory.written line) directory.initial

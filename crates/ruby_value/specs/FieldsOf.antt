@@ -3,7 +3,7 @@
 use Rattle.std.specs.Prelude.{ℕ, List, Option, ◌==◌}
 use Rattle.std.specs.Map.{lookup}
 use Rattle.ruby_value.specs.declared.value.Value.{Value}
-use Rattle.cache_array.specs.Cache.{Line}
+use Rattle.ruby_value.specs.Cache.{Line}
 
 abbrev pub fields_of : List Line → ℕ → Option (List Value)
 fields_of lines line = lookup (λ l. l == line) lines

@@ -3,7 +3,7 @@
 use Rattle.std.specs.Prelude.{ℕ, List, ◌==◌}
 use Rattle.std.specs.Map.{set_value}
 use Rattle.ruby_value.specs.declared.value.Value.{Value}
-use Rattle.cache_array.specs.Cache.{Line}
+use Rattle.ruby_value.specs.Cache.{Line}
 
 abbrev pub with_fields : List Line → ℕ → List Value → List Line
 with_fields lines line fields = set_value (λ l. l == line) lines fields
