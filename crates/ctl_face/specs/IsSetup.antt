@@ -1,0 +1,32 @@
+-- What holds of what stays as it is of a controller: the default fields of each table have their kinds; the receivers of
+-- a message to a network are a set of controllers; the buffer of a network at the controller itself is one from that
+-- network; buffers on one network have one type; the networks are 16; paths and jitter have their limits.
+-- The limits are this project's own.
+use Rattle.std.specs.Prelude.{◌≡◌, ◌<◌, ◌≤◌, ℕ, Option, None, Some, length, slice_get, IsTrue, IfSome}
+use Rattle.ruby_value.specs.declared.kind.Kind.TheVariants.{Dest}
+use Rattle.ctl_face.specs.HasKinds.{has_kinds}
+use Rattle.ctl_face.specs.Routing.{receiving_buffer, path_to}
+use Rattle.ctl_face.specs.Served.{message_kinds}
+use Rattle.ctl_face.specs.Setup.{Setup, TableSetup, Place, ToPlace, FromPlace, place_of}
+
+-- the virtual network that a buffer is on
+abbrev pub network_of : Option Place → Option ℕ
+network_of (Some (ToPlace network destination)) = Some network
+network_of (Some (FromPlace network)) = Some network
+network_of _ = None
+
+abbrev pub network_count : ℕ
+network_count = 16
+
+pub record IsSetup (setup : Setup) : Type 0 where
+  pub initial : (table : ℕ) → IfSome (slice_get setup.tables table) (λ (s : TableSetup). IsTrue (has_kinds s.kinds s.initial))
+  pub receivers : (buffer network destination : ℕ) → place_of setup buffer ≡ Some (ToPlace network destination)
+      → slice_get (message_kinds setup buffer) destination ≡ Some Dest
+  pub networks : (buffer : ℕ) → IfSome (network_of (place_of setup buffer)) (λ network. network < network_count)
+  pub own_buffers : (network buffer : ℕ) → receiving_buffer setup.routes setup.me network ≡ Some buffer
+      → place_of setup buffer ≡ Some (FromPlace network)
+  pub one_type : (a b network : ℕ) → network_of (place_of setup a) ≡ Some network → network_of (place_of setup b) ≡ Some network
+      → message_kinds setup a ≡ message_kinds setup b
+  pub all_networks : length setup.routes.ordered ≡ network_count
+  pub paths : (sender receiver : ℕ) → path_to setup.routes sender receiver ≤ 126000
+  pub jitter : setup.routes.jitter ≤ 1000

@@ -1,0 +1,12 @@
+//! The controller that every layer above stands on, as plain data, and the calls by which its acts are done: what a
+//! draft changes, what the meaning of a protocol reads and writes, what code that runs on a stack calls.
+#![tactic(auto)]
+
+mod local;
+mod routes;
+mod trouble;
+
+pub use local::Local;
+pub use routes::{Routes, Sizes};
+pub use ruby_value::{Fault, Fields, Message, NoMemory, Seq, Text};
+pub use trouble::Trouble;
