@@ -1,6 +1,7 @@
--- An allocation. A new line has its default fields and, in a cache, is the most recently used one of its set. It is
--- refused where the line is there, and else where its set, or the TBE table, is full. A directory has each line from the
--- start, and answers it and changes nothing. The order of the two faults is this project's own.
+-- An allocation. A new line has its default fields and, in a cache, is the most recently used one of its set. One fault is
+-- that the line is there; the other, that it isn't there and its set, or the TBE table, is full. A directory has each line
+-- from the start, and its allocation changes nothing. That a new line is the most recent one, that a directory has each
+-- line, and the faults are this project's own.
 use Rattle.std.specs.Prelude.{ℕ, List, [], ◌∷◌, ◌++◌, Result, Ok, Err, is_some, nat_le, not, if◌then◌else◌}
 use Rattle.std.specs.FinMap as map
 use Rattle.ruby_value.specs.declared.fault.Fault.{Fault}
@@ -11,7 +12,7 @@ use Rattle.ruby_value.specs.FieldsOf.{fields_of}
 use Rattle.ruby_value.specs.SetOf.{set_of}
 use Rattle.ruby_value.specs.WithSet.{with_set}
 use Rattle.ctl_face.specs.LocalView.{LocalView}
-use Rattle.ctl_face.specs.Setup.{initial_fields}
+use Rattle.ctl_face.specs.OfMachine.{initial_fields}
 use Rattle.ctl_face.specs.Table.{Table, CacheTable, DirectoryTable, TbeTable, ParameterTable}
 use Rattle.ctl_face.specs.Tables.{changed_table}
 

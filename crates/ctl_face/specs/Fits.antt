@@ -17,23 +17,27 @@ use Rattle.ctl_face.specs.Inbox.{number_before}
 use Rattle.ctl_face.specs.IsSetup.{IsSetup, network_count}
 use Rattle.ctl_face.specs.LocalView.{LocalView}
 use Rattle.ctl_face.specs.Send.{copy_limit}
-use Rattle.ctl_face.specs.Setup.{Setup, TableSetup, BufferSetup, Sort, CacheSort, DirectorySort, TbeSort, ParameterSort}
+use Rattle.ctl_face.specs.declared.setup.BufferSetup.{BufferSetup}
+use Rattle.ctl_face.specs.declared.setup.Setup.{Setup}
+use Rattle.ctl_face.specs.declared.setup.TableSetup.{TableSetup}
+use Rattle.ctl_face.specs.declared.setup.TableSize.TheVariants as size
+use Rattle.ctl_face.specs.declared.setup.TableSize.{TableSize}
 use Rattle.ctl_face.specs.Table.{Table, CacheTable, DirectoryTable, TbeTable, ParameterTable}
 
 -- line numbers are byte addresses divided by 64
 abbrev pub IsLine : ℕ → Type 0
 IsLine line = line < 2 ^ 58
 
--- the table is of the sort, with as many places, and the lines of a directory begin with these fields
-abbrev pub IsOfSort : Sort → List Value → Table → Type 0
-IsOfSort (CacheSort sets ways) initial (CacheTable cache) = IsCache cache × (cache.ways ≡ ways) × (length cache.sets ≡ sets)
-IsOfSort DirectorySort initial (DirectoryTable directory) = directory.initial ≡ initial
-IsOfSort (TbeSort entries) initial (TbeTable tbes) = (tbes.entries ≡ entries) × (map.len tbes.held ≤ tbes.entries)
-IsOfSort ParameterSort initial (ParameterTable values) = Unit {0}
-IsOfSort _ initial _ = ⊥
+-- the table is what the machine has there, with as many places, and the lines of a directory begin with these fields
+abbrev pub IsOfSize : TableSize → List Value → Table → Type 0
+IsOfSize (size.Cache sets ways) initial (CacheTable cache) = IsCache cache × (cache.ways ≡ ways) × (length cache.sets ≡ sets)
+IsOfSize size.Directory initial (DirectoryTable directory) = directory.initial ≡ initial
+IsOfSize (size.Tbe entries) initial (TbeTable tbes) = (tbes.entries ≡ entries) × (map.len tbes.held ≤ tbes.entries)
+IsOfSize size.Parameters initial (ParameterTable values) = Unit {0}
+IsOfSize _ initial _ = ⊥
 
 pub record FitsTable (s : TableSetup) (t : Table) : Type 0 where
-  pub sort : IsOfSort s.sort s.initial t
+  pub size : IsOfSize s.size s.initial t
   pub fields : (line : ℕ) → IfSome (fields_in t line) (λ fields. IsTrue (has_kinds s.kinds fields))
   pub lines : (line : ℕ) → IsTrue (keeps_line t line) → IsLine line
 

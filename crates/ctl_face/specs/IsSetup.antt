@@ -6,13 +6,16 @@ use Rattle.std.specs.Prelude.{◌≡◌, ◌<◌, ◌≤◌, ℕ, Option, None, 
 use Rattle.ruby_value.specs.declared.kind.Kind.TheVariants.{Dest}
 use Rattle.ctl_face.specs.HasKinds.{has_kinds}
 use Rattle.ctl_face.specs.Routing.{receiving_buffer, path_to}
-use Rattle.ctl_face.specs.Served.{message_kinds}
-use Rattle.ctl_face.specs.Setup.{Setup, TableSetup, Place, ToPlace, FromPlace, place_of}
+use Rattle.ctl_face.specs.OfMachine.{buffer_place, message_kinds}
+use Rattle.ctl_face.specs.declared.setup.BufferPlace.TheVariants as place
+use Rattle.ctl_face.specs.declared.setup.BufferPlace.{BufferPlace}
+use Rattle.ctl_face.specs.declared.setup.Setup.{Setup}
+use Rattle.ctl_face.specs.declared.setup.TableSetup.{TableSetup}
 
 -- the virtual network that a buffer is on
-abbrev pub network_of : Option Place → Option ℕ
-network_of (Some (ToPlace network destination)) = Some network
-network_of (Some (FromPlace network)) = Some network
+abbrev pub network_of : Option BufferPlace → Option ℕ
+network_of (Some (place.To network destination)) = Some network
+network_of (Some (place.From network)) = Some network
 network_of _ = None
 
 abbrev pub network_count : ℕ
@@ -20,12 +23,12 @@ network_count = 16
 
 pub record IsSetup (setup : Setup) : Type 0 where
   pub initial : (table : ℕ) → IfSome (slice_get setup.tables table) (λ (s : TableSetup). IsTrue (has_kinds s.kinds s.initial))
-  pub receivers : (buffer network destination : ℕ) → place_of setup buffer ≡ Some (ToPlace network destination)
+  pub receivers : (buffer network destination : ℕ) → buffer_place setup buffer ≡ Some (place.To network destination)
       → slice_get (message_kinds setup buffer) destination ≡ Some Dest
-  pub networks : (buffer : ℕ) → IfSome (network_of (place_of setup buffer)) (λ network. network < network_count)
+  pub networks : (buffer : ℕ) → IfSome (network_of (buffer_place setup buffer)) (λ network. network < network_count)
   pub own_buffers : (network buffer : ℕ) → receiving_buffer setup.routes setup.me network ≡ Some buffer
-      → place_of setup buffer ≡ Some (FromPlace network)
-  pub one_type : (a b network : ℕ) → network_of (place_of setup a) ≡ Some network → network_of (place_of setup b) ≡ Some network
+      → buffer_place setup buffer ≡ Some (place.From network)
+  pub one_type : (a b network : ℕ) → network_of (buffer_place setup a) ≡ Some network → network_of (buffer_place setup b) ≡ Some network
       → message_kinds setup a ≡ message_kinds setup b
   pub all_networks : length setup.routes.ordered ≡ network_count
   pub paths : (sender receiver : ℕ) → path_to setup.routes sender receiver ≤ 126000

@@ -20,6 +20,7 @@ pub mod Lasts
 pub mod Latency
 pub mod LocalView
 pub mod Lookup
+pub mod OfMachine
 pub mod Pop
 pub mod Ready
 pub mod Recycle
@@ -27,7 +28,6 @@ pub mod Routing
 pub mod Send
 pub mod Served
 pub mod Set
-pub mod Setup
 pub mod Stall
 pub mod State
 pub mod Table

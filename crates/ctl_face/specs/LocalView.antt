@@ -3,7 +3,7 @@
 use Rattle.std.specs.Prelude.{◌≡◌, ℕ}
 use Rattle.ctl_face.specs.Acts.{Acts}
 use Rattle.ctl_face.specs.Ctl.{Ctl}
-use Rattle.ctl_face.specs.Setup.{Setup}
+use Rattle.ctl_face.specs.declared.setup.Setup.{Setup}
 
 pub record LocalView : Type 0 where
   pub setup : Setup

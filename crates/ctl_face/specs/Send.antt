@@ -18,7 +18,10 @@ use Rattle.ctl_face.specs.Inbox.{with_message}
 use Rattle.ctl_face.specs.Lasts.{last_at, lasts_on, with_last}
 use Rattle.ctl_face.specs.Latency.{is_latency}
 use Rattle.ctl_face.specs.Routing.{receiving_buffer, path_to, is_ordered}
-use Rattle.ctl_face.specs.Setup.{Setup, Place, LocalPlace, ToPlace, place_of}
+use Rattle.ctl_face.specs.OfMachine.{buffer_place}
+use Rattle.ctl_face.specs.declared.setup.BufferPlace.TheVariants as place
+use Rattle.ctl_face.specs.declared.setup.BufferPlace.{BufferPlace}
+use Rattle.ctl_face.specs.declared.setup.Setup.{Setup}
 use Rattle.ctl_face.specs.Word.{word}
 
 -- the sender after some copies, and these copies in the order of their numbers
@@ -115,10 +118,10 @@ network_copies setup network members ctl latency fields now =
     else (if nat_lt copy_limit (ctl.copies + length members) then Err Copies
     else Ok (fold (with_network_copy setup network latency fields now) (record { sender = ctl; copies = [] }) members))
 
-abbrev pub sent_from : Option Place → Setup → Ctl → ℕ → ℕ → List Value → ℕ → Result Sending Fault
-sent_from (Some (LocalPlace ordered)) setup ctl buffer latency fields now =
+abbrev pub sent_from : Option BufferPlace → Setup → Ctl → ℕ → ℕ → List Value → ℕ → Result Sending Fault
+sent_from (Some (place.Local ordered)) setup ctl buffer latency fields now =
     if nat_lt copy_limit (ctl.copies + 1) then Err Copies else Ok (local_copy setup ordered ctl buffer latency fields now)
-sent_from (Some (ToPlace network destination)) setup ctl buffer latency fields now =
+sent_from (Some (place.To network destination)) setup ctl buffer latency fields now =
     network_copies setup network (members_of (slice_get fields destination)) ctl latency fields now
 sent_from _ setup ctl buffer latency fields now = Ok (record { sender = ctl; copies = [] })
 
@@ -126,5 +129,5 @@ sent_from _ setup ctl buffer latency fields now = Ok (record { sender = ctl; cop
 -- no program does so.
 abbrev pub send : Setup → Ctl → ℕ → ℤ → List Value → ℕ → Result Sending Fault
 send setup ctl buffer latency fields now =
-    if is_latency latency then sent_from (place_of setup buffer) setup ctl buffer (nat_abs latency) fields now
+    if is_latency latency then sent_from (buffer_place setup buffer) setup ctl buffer (nat_abs latency) fields now
     else Err Latency

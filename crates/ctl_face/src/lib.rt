@@ -4,9 +4,12 @@
 
 mod local;
 mod routes;
+mod setup;
 mod trouble;
+mod uses;
 
 pub use local::Local;
 pub use routes::{Routes, Sizes};
 pub use ruby_value::{Fault, Fields, Message, NoMemory, Seq, Text};
+pub use setup::{BufferPlace, BufferSetup, Setup, TableSetup, TableSize};
 pub use trouble::Trouble;
