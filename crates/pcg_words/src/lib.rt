@@ -1,0 +1,10 @@
+//! The random words of an actor: the generator `Lcg64Xsh32` of `rand_pcg`, one stream of it for each actor.
+#![tactic(auto)]
+
+mod laws;
+#[cfg(test)]
+mod tests;
+mod words;
+
+pub use laws::{begins_again, jumps_as_it_draws};
+pub use words::Words;
