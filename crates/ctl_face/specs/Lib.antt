@@ -34,4 +34,3 @@ pub mod Table
 pub mod Tables
 pub mod Touch
 pub mod Wake
-pub mod Word

@@ -3,7 +3,7 @@
 -- a number of its own and a jitter drawn for it alone, where the network has jitter. A copy arrives after the latency,
 -- the path and the jitter; where order is kept, no copy arrives before the one sent last from here to there.
 -- Latencies, networks and order are gem5's; numbers, draws, and order kept by raising an arrival are this project's own.
-use Rattle.std.specs.Prelude.{ℕ, ℤ, Bool, true, false, Option, None, Some, List, [], ◌∷◌, ◌++◌, ◌+◌, ◌%◌, ◌==◌, Result, Ok, Err, not, max, nat_abs, nat_lt, length, slice_get, is_some, unwrap_or, if◌then◌else◌}
+use Rattle.std.specs.Prelude.{ℕ, ℤ, Bool, true, false, Option, None, Some, List, [], ◌∷◌, ◌++◌, ◌+◌, ◌==◌, Result, Ok, Err, not, max, nat_abs, nat_lt, length, slice_get, is_some, unwrap_or, if◌then◌else◌}
 use Rattle.std.specs.FinMap as map
 use Rattle.std.specs.List.{fold, list_all}
 use Rattle.ruby_value.specs.declared.fault.Fault.{Fault}
@@ -22,7 +22,7 @@ use Rattle.ctl_face.specs.OfMachine.{buffer_place}
 use Rattle.ctl_face.specs.declared.setup.BufferPlace.TheVariants as place
 use Rattle.ctl_face.specs.declared.setup.BufferPlace.{BufferPlace}
 use Rattle.ctl_face.specs.declared.setup.Setup.{Setup}
-use Rattle.ctl_face.specs.Word.{word}
+use Rattle.pcg_words.specs.Below.{below}
 
 -- the sender after some copies, and these copies in the order of their numbers
 pub record Sending : Type 0 where
@@ -67,7 +67,7 @@ abbrev pub has_jitter : Setup → Bool
 has_jitter setup = nat_lt 0 setup.routes.jitter
 
 abbrev pub next_jitter : Setup → Ctl → ℕ
-next_jitter setup ctl = if has_jitter setup then word setup.seed setup.me ctl.drawn % (setup.routes.jitter + 1) else 0
+next_jitter setup ctl = if has_jitter setup then below setup.seed setup.me ctl.drawn (setup.routes.jitter + 1) else 0
 
 -- when the next copy to a receiver on a network arrives
 abbrev pub network_arrival : Setup → Ctl → ℕ → ℕ → ℕ → ℕ → ℕ

@@ -2,12 +2,14 @@
 //! draft changes, what the meaning of a protocol reads and writes, what code that runs on a stack calls.
 #![tactic(auto)]
 
+mod laws;
 mod local;
 mod routes;
 mod setup;
 mod trouble;
 mod uses;
 
+pub use laws::copies_arrive_later;
 pub use local::Local;
 pub use routes::{Routes, Sizes};
 pub use ruby_value::{Fault, Fields, Message, NoMemory, Seq, Text};
