@@ -52,6 +52,10 @@ pub record FitsMessage (setup : Setup) (sent : ℕ) (m : InboxMessage) : Type 0 
   pub own_number : m.message.number.sender ≡ setup.me → m.message.number.count < sent
   pub line : IfSome m.waiting IsLine
 
+-- each number stands once
+abbrev pub NumbersAscend : List InboxMessage → Type 0
+NumbersAscend inbox = AllPairs (λ (a b : InboxMessage). IsTrue (number_before a.message.number b.message.number)) inbox
+
 -- bytes of one line are asked for, at least one
 pub record IsRequest (a : Asked) : Type 0 where
   pub line : IsLine a.line
@@ -71,7 +75,7 @@ FitsSequencer _ _ = ⊥
 pub record Fits (setup : Setup) (ctl : Ctl) (now : ℕ) : Type 0 where
   pub tables : (table : ℕ) → FitsTableAt (slice_get setup.tables table) (slice_get ctl.tables table)
   pub states : (line : ℕ) → IfSome (map.get ctl.states line) (λ _. IsLine line)
-  pub inbox_ascends : AllPairs (λ (a b : InboxMessage). IsTrue (number_before a.message.number b.message.number)) ctl.inbox
+  pub inbox_ascends : NumbersAscend ctl.inbox
   pub messages : All (FitsMessage setup ctl.sent) ctl.inbox
   pub marks_ascend : IsStrictlyIncreasing ctl.marks
   pub sequencer : FitsSequencer setup.has_sequencer ctl.sequencer
