@@ -27,8 +27,8 @@ all-without P inbox number all = All-filter (λ (o : InboxMessage). not (same_nu
 pub ascend-with : (inbox : List InboxMessage) (m : InboxMessage) → NumbersAscend inbox → NumbersAscend (with_message inbox m)
 ascend-with inbox m ascends =
     AllPairs-insert Before (λ (o : InboxMessage). number_before o.message.number m.message.number) (λ (o : InboxMessage). number_before m.message.number o.message.number) m
-        (λ a is. is) (λ b is. is)
-        (λ a b first second. number_before_trans a.message.number m.message.number b.message.number first second) inbox ascends
+    (λ a is. is) (λ b is. is)
+    (λ a b first second. number_before_trans a.message.number m.message.number b.message.number first second) inbox ascends
 
 pub all-with : (P : InboxMessage → Type 0) (inbox : List InboxMessage) (m : InboxMessage) → All P inbox → P m → All P (with_message inbox m)
 all-with P inbox m all here =

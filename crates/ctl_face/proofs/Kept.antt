@@ -58,22 +58,22 @@ mark_fits setup ctl now cycle fits = record {
 
 -- a change that leaves the number and what fits
 pub changed_fits : (setup : Setup) (ctl : Ctl) (now : ℕ) (change : InboxMessage → InboxMessage)
-  → ((o : InboxMessage) → (change o).message.number ≡ o.message.number)
-  → ((o : InboxMessage) → FitsMessage setup ctl.sent o → FitsMessage setup ctl.sent (change o))
-  → Fits setup ctl now → Fits setup (with_inbox ctl (map change ctl.inbox)) now
+    → ((o : InboxMessage) → (change o).message.number ≡ o.message.number)
+    → ((o : InboxMessage) → FitsMessage setup ctl.sent o → FitsMessage setup ctl.sent (change o))
+    → Fits setup ctl now → Fits setup (with_inbox ctl (map change ctl.inbox)) now
 changed_fits setup ctl now change number keeps fits =
     inbox_fits setup ctl now (map change ctl.inbox) (ascend-map change number ctl.inbox fits.inbox_ascends)
-        (all-map (FitsMessage setup ctl.sent) change keeps ctl.inbox fits.messages) fits
+    (all-map (FitsMessage setup ctl.sent) change keeps ctl.inbox fits.messages) fits
 
 -- the same for a change where a test holds
 pub tested_fits : (setup : Setup) (ctl : Ctl) (now : ℕ) (test : InboxMessage → Bool) (change : InboxMessage → InboxMessage)
-  → ((o : InboxMessage) → (change o).message.number ≡ o.message.number)
-  → ((o : InboxMessage) → FitsMessage setup ctl.sent o → FitsMessage setup ctl.sent (change o))
-  → Fits setup ctl now → Fits setup (with_inbox ctl (map (λ (o : InboxMessage). cond (test o) (change o) o) ctl.inbox)) now
+    → ((o : InboxMessage) → (change o).message.number ≡ o.message.number)
+    → ((o : InboxMessage) → FitsMessage setup ctl.sent o → FitsMessage setup ctl.sent (change o))
+    → Fits setup ctl now → Fits setup (with_inbox ctl (map (λ (o : InboxMessage). cond (test o) (change o) o) ctl.inbox)) now
 tested_fits setup ctl now test change number keeps fits =
     changed_fits setup ctl now (λ (o : InboxMessage). cond (test o) (change o) o)
-        (λ o. cond_keeps_number (test o) (change o) o (number o))
-        (λ o here. cond_keeps (FitsMessage setup ctl.sent) (test o) (change o) o (keeps o here) here) fits
+    (λ o. cond_keeps_number (test o) (change o) o (number o))
+    (λ o here. cond_keeps (FitsMessage setup ctl.sent) (test o) (change o) o (keeps o here) here) fits
 
 waits_at : Option ℕ → InboxMessage → InboxMessage
 waits_at line o = record o { waiting = line }
@@ -134,7 +134,7 @@ recycled_keeps v arrival (Some m) lawful =
 pub recycle_keeps : (v : LocalView) (buffer : ℕ) (latency : ℤ) → IsLawful v → Good IsLawful (recycle v buffer latency)
 recycle_keeps v buffer latency lawful =
     good_cond IsLawful (is_latency latency) (recycled_until v (v.now + nat_abs latency) (front_now v buffer)) (Err Latency)
-        (λ _. recycled_keeps v (v.now + nat_abs latency) (front_now v buffer) lawful) (λ _. good_err IsLawful Latency)
+    (λ _. recycled_keeps v (v.now + nat_abs latency) (front_now v buffer) lawful) (λ _. good_err IsLawful Latency)
 
 pub again_keeps : (v : LocalView) → IsLawful v → IsLawful (again v)
 again_keeps v lawful = record { setup = lawful.setup; now = lawful.now; fits = mark_fits v.setup v.ctl v.now (v.now + 1) lawful.fits }

@@ -12,4 +12,4 @@ below m x is = grind (arith)
 pub IsStrictlyIncreasing-with_mark : (marks : List ℕ) (cycle : ℕ) → IsStrictlyIncreasing marks → IsStrictlyIncreasing (with_mark marks cycle)
 IsStrictlyIncreasing-with_mark marks cycle rises =
     increasing_from_AllPairs (with_mark marks cycle)
-        (AllPairs-insert (λ x y. x < y) (λ m. nat_lt m cycle) (λ m. nat_lt cycle m) cycle (λ a is. below cycle a is) (λ b is. below b cycle is) (λ a b first second. omega arith) marks (AllPairs-from_increasing marks rises))
+    (AllPairs-insert (λ x y. x < y) (λ m. nat_lt m cycle) (λ m. nat_lt cycle m) cycle (λ a is. below cycle a is) (λ b is. below b cycle is) (λ a b first second. omega arith) marks (AllPairs-from_increasing marks rises))
