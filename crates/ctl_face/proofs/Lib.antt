@@ -1,4 +1,5 @@
 pub mod Arrivals
+pub mod Callbacks
 pub mod Cases
 pub mod Inboxes
 pub mod Kept
