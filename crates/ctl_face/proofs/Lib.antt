@@ -3,7 +3,10 @@ pub mod Callbacks
 pub mod Cases
 pub mod Inboxes
 pub mod Kept
+pub mod Lines
 pub mod Maps
 pub mod Marks
 pub mod Ordered
 pub mod Sends
+pub mod TableCalls
+pub mod Tables

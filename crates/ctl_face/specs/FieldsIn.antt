@@ -23,10 +23,3 @@ with_fields_in (DirectoryTable directory) line fields =
     DirectoryTable (record directory { written = map.insert directory.written line fields })
 with_fields_in (TbeTable tbes) line fields = TbeTable (record tbes { held = map.insert tbes.held line fields })
 with_fields_in (ParameterTable values) line fields = ParameterTable fields
-
--- whether the table keeps fields for the line: it is in the cache or the TBE table, or was written in the directory
-abbrev pub keeps_line : Table → ℕ → Bool
-keeps_line (CacheTable cache) line = is_some (fields_of (set_of cache line) line)
-keeps_line (DirectoryTable directory) line = map.contains_key directory.written line
-keeps_line (TbeTable tbes) line = map.contains_key tbes.held line
-keeps_line (ParameterTable values) line = false

@@ -9,9 +9,10 @@ use Rattle.std.specs.List.Sorted.{IsStrictlyIncreasing}
 use Rattle.ruby_value.specs.declared.asked.Answer.{Answer}
 use Rattle.ruby_value.specs.declared.asked.Asked.{Asked}
 use Rattle.ruby_value.specs.declared.value.Value.{Value}
+use Rattle.ruby_value.specs.declared.kind.Kind.{Kind}
+use Rattle.ruby_value.specs.Cache.{Line}
 use Rattle.ruby_value.specs.IsCache.{IsCache}
 use Rattle.ctl_face.specs.Ctl.{Ctl, InboxMessage, Requests}
-use Rattle.ctl_face.specs.FieldsIn.{fields_in, keeps_line}
 use Rattle.ctl_face.specs.HasKinds.{has_kinds}
 use Rattle.ctl_face.specs.Inbox.{number_before}
 use Rattle.ctl_face.specs.IsSetup.{IsSetup, network_count}
@@ -36,10 +37,21 @@ IsOfSize (size.Tbe entries) initial (TbeTable tbes) = (tbes.entries ≡ entries)
 IsOfSize size.Parameters initial (ParameterTable values) = Unit {0}
 IsOfSize _ initial _ = ⊥
 
+-- a line and its fields
+abbrev pub FitsLine : List Kind → Line → Type 0
+FitsLine kinds l = IsLine l.0 × IsTrue (has_kinds kinds l.1)
+
+-- each line that the table keeps fits, and so do the fields that a directory's lines begin with, and the parameters
+abbrev pub FitsLines : List Kind → Table → Type 0
+FitsLines kinds (CacheTable cache) = All (All (FitsLine kinds)) cache.sets
+FitsLines kinds (DirectoryTable directory) =
+    IsTrue (has_kinds kinds directory.initial) × ((line : ℕ) → IfSome (map.get directory.written line) (λ fields. FitsLine kinds (line, fields)))
+FitsLines kinds (TbeTable tbes) = (line : ℕ) → IfSome (map.get tbes.held line) (λ fields. FitsLine kinds (line, fields))
+FitsLines kinds (ParameterTable values) = IsTrue (has_kinds kinds values)
+
 pub record FitsTable (s : TableSetup) (t : Table) : Type 0 where
   pub size : IsOfSize s.size s.initial t
-  pub fields : (line : ℕ) → IfSome (fields_in t line) (λ fields. IsTrue (has_kinds s.kinds fields))
-  pub lines : (line : ℕ) → IsTrue (keeps_line t line) → IsLine line
+  pub lines : FitsLines s.kinds t
 
 -- at each number there is a table exactly where the machine has one
 abbrev pub FitsTableAt : Option TableSetup → Option Table → Type 0

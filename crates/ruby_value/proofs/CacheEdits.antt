@@ -13,7 +13,7 @@ use Rattle.ruby_value.specs.SetOf.{set_of}
 use Rattle.ruby_value.specs.WithFields.{with_fields}
 use Rattle.ruby_value.specs.WithSet.{with_set}
 use Rattle.ruby_value.specs.WithoutLine.{without_line}
-use Rattle.cache_array.proofs.Sets.{lines_push, lines_without, lines_with_fields, lines_recent, length_removed, length_written, length_recent, set_is, set_lines, lawful_with_set, lawful_empty}
+use Rattle.ruby_value.proofs.CacheSets.{lines_push, lines_without, lines_with_fields, lines_recent, length_removed, length_written, length_recent, set_is, set_lines, lawful_with_set, lawful_empty}
 
 none_from : {X : Type 0} (o : Option X) → is_some o ≡ false → o ≡ None
 none_from None is = refl
