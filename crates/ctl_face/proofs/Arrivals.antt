@@ -1,5 +1,5 @@
 -- Each copy that a send makes arrives after the cycle of the send.
-use Rattle.std.proofs.Common.{◌≡◌, ℕ, ℤ, pos, negsuc, ◌+◌, ◌<◌, ◌≤◌, Bool, true, false, cond, not, max, List, [], ◌∷◌, ◌++◌, Option, Some, None, Result, Ok, Err, nat_abs, All, refl, arith, unwrap_or, length, is_some, slice_get}
+use Rattle.std.proofs.Common.{◌≡◌, ℕ, ℤ, pos, negsuc, ◌+◌, ◌<◌, Bool, true, false, cond, not, max, List, [], ◌∷◌, Option, Some, None, Ok, Err, nat_abs, All, arith, unwrap_or, length, is_some, slice_get}
 use Rattle.std.proofs.lemmas.List.Elements.{All-nil, All-cons, All-push}
 use Rattle.std.specs.Bool.{nat_lt}
 use Rattle.std.specs.List.{fold, list_all}
@@ -14,7 +14,7 @@ use Rattle.ctl_face.specs.Lasts.{last_at, lasts_on}
 use Rattle.ctl_face.specs.Latency.{is_latency}
 use Rattle.ctl_face.specs.OfMachine.{buffer_place}
 use Rattle.ctl_face.specs.Routing.{receiving_buffer, path_to, is_ordered}
-use Rattle.ctl_face.specs.Send.{Sending, next_copy, next_jitter, copy_limit, members_of, send, sent_from, network_copies, with_network_copy, network_arrival, local_arrival, local_copy}
+use Rattle.ctl_face.specs.Send.{Sending, next_copy, next_jitter, copy_limit, members_of, send, sent_from, with_network_copy, network_arrival, local_arrival, local_copy}
 use Rattle.ctl_face.proofs.Cases.{Good, good_ok, good_err, good_cond, good_unless}
 
 raised : (ordered : Bool) (arrival last now : ℕ) → now < arrival → now < cond ordered (max arrival last) arrival

@@ -1,17 +1,17 @@
 -- What holds of a lawful local holds after a callback and after a state is set.
-use Rattle.std.proofs.Common.{◌≡◌, ℕ, ◌<◌, ◌≤◌, Bool, true, false, cond, List, [], ◌∷◌, ◌++◌, All, IfSome, refl, sym, subst, arith, Option, None, Some, Result, Ok, Err}
+use Rattle.std.proofs.Common.{◌≡◌, ℕ, ◌≤◌, Bool, true, false, ◌∷◌, IfSome, refl, subst, arith, Option, None, Some, Ok, Err}
 use Rattle.std.proofs.lemmas.List.Elements.{All-cons, All-append, All-filter}
 use Rattle.std.specs.Bool.{nat_lt, nat_le}
 use Rattle.std.specs.FinMap as map
-use Rattle.std.specs.List.{filter, AllPairs}
+use Rattle.std.specs.List.{filter}
 use Rattle.std.specs.Option.{option_and_then}
 use Rattle.ruby_value.specs.declared.asked.Answer.{Answer}
 use Rattle.ruby_value.specs.declared.asked.Asked.{Asked}
 use Rattle.ruby_value.specs.declared.fault.Fault.TheVariants.{Callback}
 use Rattle.ruby_value.specs.declared.value.Block.{Block}
-use Rattle.ctl_face.specs.Callback.{is_store, request_for, with_answer, finished, with_finished, after_answer, finish_read, read_back, stored_block, finish_write, write_back}
-use Rattle.ctl_face.specs.Ctl.{Ctl, Requests}
-use Rattle.ctl_face.specs.Fits.{Fits, FitsRequests, FitsSequencer, IsLawful, IsLine, IsRequest}
+use Rattle.ctl_face.specs.Callback.{is_store, request_for, finished, with_finished, after_answer, finish_read, read_back, stored_block, finish_write, write_back}
+use Rattle.ctl_face.specs.Ctl.{Requests}
+use Rattle.ctl_face.specs.Fits.{FitsRequests, FitsSequencer, IsLawful, IsLine, IsRequest}
 use Rattle.ctl_face.specs.LocalView.{LocalView}
 use Rattle.ctl_face.specs.State.{set_state}
 use Rattle.ctl_face.proofs.Cases.{Good, good_ok, good_err, good_cond}
@@ -71,7 +71,7 @@ with_requests_fits v requests here lawful = record {
 }
 
 answered : (v : LocalView) (line : ℕ) (asked : Asked) (block : Block) (requests : Option Requests) → option_and_then (λ (r : Requests). map.get r.outstanding line) requests ≡ Some asked
-  → FitsSequencer v.setup.has_sequencer requests → IsLawful v → IsLawful (with_finished v line (record { asked = asked; block = block }) requests)
+    → FitsSequencer v.setup.has_sequencer requests → IsLawful v → IsLawful (with_finished v line (record { asked = asked; block = block }) requests)
 answered v line asked block None is fits lawful = lawful
 answered v line asked block (Some r) is fits lawful =
     let a : Answer = record { asked = asked; block = block } in
@@ -85,7 +85,7 @@ read_keeps : (v : LocalView) (line : ℕ) (block : Block) (asked : Option Asked)
 read_keeps v line block None is lawful = good_err IsLawful Callback
 read_keeps v line block (Some asked) is lawful =
     good_cond IsLawful (is_store asked.kind) (Err Callback) (Ok (after_answer v line asked block)) (λ _. good_err IsLawful Callback)
-        (λ _. good_ok IsLawful (after_answer v line asked block) (answer_keeps v line asked block is lawful))
+    (λ _. good_ok IsLawful (after_answer v line asked block) (answer_keeps v line asked block is lawful))
 
 pub read_back_keeps : (v : LocalView) (line : ℕ) (block : Block) → IsLawful v → Good IsLawful (read_back v line block)
 read_back_keeps v line block = read_keeps v line block (request_for v line) refl
@@ -95,7 +95,7 @@ write_keeps v line block None is lawful = good_err IsLawful Callback
 write_keeps v line block (Some asked) is lawful =
     let stored = stored_block asked block in
     good_cond IsLawful (is_store asked.kind) (Ok (after_answer v line asked stored)) (Err Callback)
-        (λ _. good_ok IsLawful (after_answer v line asked stored) (answer_keeps v line asked stored is lawful)) (λ _. good_err IsLawful Callback)
+    (λ _. good_ok IsLawful (after_answer v line asked stored) (answer_keeps v line asked stored is lawful)) (λ _. good_err IsLawful Callback)
 
 pub write_back_keeps : (v : LocalView) (line : ℕ) (block : Block) → IsLawful v → Good IsLawful (write_back v line block)
 write_back_keeps v line block = write_keeps v line block (request_for v line) refl

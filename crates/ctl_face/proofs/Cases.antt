@@ -1,5 +1,5 @@
 -- What holds of the good answer of a call that goes by cases.
-use Rattle.std.proofs.Common.{◌≡◌, Bool, true, false, cond, Result, Ok, Err, refl, subst, sym}
+use Rattle.std.proofs.Common.{◌≡◌, Bool, true, false, cond, Result, Ok, Err, refl, subst}
 
 pub record Good {X E : Type 0} (P : X → Type 0) (r : Result X E) : Type 0 where
   pub good : (x : X) → r ≡ Ok x → P x

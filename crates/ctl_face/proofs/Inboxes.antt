@@ -1,15 +1,13 @@
 -- What stays of an inbox when a message goes out of it, comes into it, or changes but for its number.
-use Rattle.std.proofs.Common.{◌≡◌, ℕ, ◌+◌, ◌<◌, ◌≤◌, Bool, true, false, cond, not, eqb, List, [], ◌∷◌, ◌++◌, map, All, IsTrue, refl, arith, Option, None, Some}
+use Rattle.std.proofs.Common.{◌≡◌, Bool, true, false, cond, not, List, ◌∷◌, map, All, IsTrue, refl, arith}
 use Rattle.std.proofs.lemmas.Grind.{common_steps}
 use Rattle.std.proofs.lemmas.List.Elements.{All-cons, All-append, All-filter, All-map, All-weaker}
 use Rattle.std.proofs.lemmas.List.Kept.{AllPairs-filter}
-use Rattle.std.specs.Bool.{nat_lt}
-use Rattle.std.specs.List.{filter, AllPairs}
+use Rattle.std.specs.List.{filter}
 use Rattle.ruby_value.specs.declared.message.MsgNo.{MsgNo}
-use Rattle.ctl_face.specs.declared.setup.Setup.{Setup}
 use Rattle.ctl_face.specs.Ctl.{InboxMessage}
-use Rattle.ctl_face.specs.Fits.{FitsMessage, NumbersAscend}
-use Rattle.ctl_face.specs.Inbox.{number_before, same_number, with_message, without_message, changed_message}
+use Rattle.ctl_face.specs.Fits.{NumbersAscend}
+use Rattle.ctl_face.specs.Inbox.{number_before, same_number, with_message, without_message}
 use Rattle.ctl_face.proofs.Ordered.{AllPairs-insert, AllPairs-map}
 
 pub number_before_trans : (a b c : MsgNo) → IsTrue (number_before a b) → IsTrue (number_before b c) → IsTrue (number_before a c)

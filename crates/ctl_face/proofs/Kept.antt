@@ -1,9 +1,7 @@
 -- What holds of a lawful local holds after each act on its messages.
-use Rattle.std.proofs.Common.{◌≡◌, ℕ, ℤ, ◌+◌, ◌<◌, ◌≤◌, Bool, true, false, cond, List, [], ◌∷◌, ◌++◌, map, All, IsTrue, IfSome, IsSomeAnd, refl, arith, Option, None, Some, Result, Ok, Err, nat_abs, is_some, slice_get}
-use Rattle.ruby_value.specs.declared.fault.Fault.{Fault}
+use Rattle.std.proofs.Common.{◌≡◌, ℕ, ℤ, ◌+◌, Bool, true, cond, List, map, All, IfSome, refl, Option, None, Some, Err, nat_abs, is_some}
 use Rattle.ruby_value.specs.declared.fault.Fault.TheVariants.{Front, Latency}
 use Rattle.ruby_value.specs.declared.message.Message.{Message}
-use Rattle.ruby_value.specs.declared.message.MsgNo.{MsgNo}
 use Rattle.ctl_face.specs.declared.setup.Setup.{Setup}
 use Rattle.ctl_face.specs.Again.{again}
 use Rattle.ctl_face.specs.Ascending.{with_mark}

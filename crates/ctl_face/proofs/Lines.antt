@@ -1,5 +1,5 @@
 -- What holds of each line of a list, and of a map, after an edit; and the kinds of fields of which one is written.
-use Rattle.std.proofs.Common.{◌≡◌, ℕ, zero, suc, Bool, true, false, cond, ◌&&◌, eqb, List, [], ◌∷◌, ◌++◌, All, IsTrue, IfSome, IsSomeAnd, refl, sym, subst, Option, None, Some, slice_get, set, unwrap_or}
+use Rattle.std.proofs.Common.{◌≡◌, ℕ, zero, suc, Bool, true, false, cond, ◌&&◌, eqb, List, [], ◌∷◌, All, IsTrue, IfSome, IsSomeAnd, refl, subst, Option, Some, slice_get, set, unwrap_or}
 use Rattle.std.proofs.lemmas.Bool.{eqb-true}
 use Rattle.std.proofs.lemmas.List.Elements.{All-nil, All-cons, All-head, All-tail}
 use Rattle.std.specs.Map.{lookup, remove_entry, set_value}

@@ -1,7 +1,6 @@
 -- What holds of a lawful controller holds after a send.
-use Rattle.std.proofs.Common.{◌≡◌, ℕ, ℤ, ◌+◌, ◌*◌, ◌<◌, ◌≤◌, Bool, true, false, cond, not, ◌&&◌, eqb, List, [], ◌∷◌, ◌++◌, map, length, All, IsTrue, IfSome, IsSomeAnd, refl, sym, ap, subst, ◌∙◌, arith, Option, None, Some, Result, Ok, Err, nat_abs, is_some, slice_get, unwrap_or}
+use Rattle.std.proofs.Common.{◌≡◌, ℕ, ℤ, ◌+◌, ◌*◌, ◌≤◌, Bool, true, false, cond, not, ◌&&◌, eqb, List, [], ◌∷◌, length, IsTrue, IsSomeAnd, refl, sym, ap, subst, ◌∙◌, arith, Option, None, Some, Result, Ok, Err, nat_abs, is_some, slice_get, unwrap_or}
 use Rattle.std.proofs.lemmas.Bool.{eqb-true}
-use Rattle.std.proofs.lemmas.Grind.{common_steps}
 use Rattle.std.proofs.lemmas.List.{length-set}
 use Rattle.std.proofs.lemmas.List.Elements.{All-weaker}
 use Rattle.std.specs.Bool.{nat_lt}
@@ -17,20 +16,18 @@ use Rattle.ctl_face.specs.declared.setup.BufferPlace.{BufferPlace}
 use Rattle.ctl_face.specs.declared.setup.BufferPlace.TheVariants as place
 use Rattle.ctl_face.specs.declared.setup.BufferSetup.{BufferSetup}
 use Rattle.ctl_face.specs.declared.setup.Setup.{Setup}
-use Rattle.ctl_face.specs.Acts.{Copy}
-use Rattle.ctl_face.specs.Ascending.{with_mark}
 use Rattle.ctl_face.specs.Ctl.{Ctl, InboxMessage}
 use Rattle.ctl_face.specs.Enqueue.{enqueue, after_sending}
-use Rattle.ctl_face.specs.Fits.{Fits, FitsMessage, IsLawful, IsLine}
+use Rattle.ctl_face.specs.Fits.{Fits, FitsMessage, IsLawful}
 use Rattle.ctl_face.specs.HasKinds.{has_kinds}
 use Rattle.ctl_face.specs.IsSetup.{IsSetup, network_count, network_of}
-use Rattle.ctl_face.specs.Lasts.{Lasts, last_at, lasts_on, with_last}
+use Rattle.ctl_face.specs.Lasts.{Lasts, with_last}
 use Rattle.ctl_face.specs.Latency.{is_latency}
 use Rattle.ctl_face.specs.LocalView.{LocalView}
 use Rattle.ctl_face.specs.OfMachine.{buffer_place, message_kinds}
-use Rattle.ctl_face.specs.Routing.{receiving_buffer, path_to, is_ordered}
-use Rattle.ctl_face.specs.Send.{Sending, send, sent_from, copy_limit, members_of, delivered, counted, next_copy, has_jitter, next_jitter, after_network_copy, network_arrival, with_network_copy, local_arrival, local_copy}
-use Rattle.ctl_face.proofs.Cases.{Good, good_ok, good_err, good_cond, good_unless}
+use Rattle.ctl_face.specs.Routing.{receiving_buffer, is_ordered}
+use Rattle.ctl_face.specs.Send.{Sending, send, sent_from, copy_limit, members_of, delivered, counted, next_copy, has_jitter, after_network_copy, network_arrival, with_network_copy, local_arrival, local_copy}
+use Rattle.ctl_face.proofs.Cases.{Good, good_ok, good_err, good_cond}
 use Rattle.ctl_face.proofs.Inboxes.{ascend-with, all-with}
 use Rattle.ctl_face.proofs.Marks.{IsStrictlyIncreasing-with_mark}
 

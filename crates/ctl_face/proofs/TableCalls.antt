@@ -1,15 +1,12 @@
 -- What holds of a lawful local holds after each call on its tables.
-use Rattle.std.proofs.Common.{◌≡◌, ℕ, ◌+◌, ◌-◌, ◌<◌, ◌≤◌, ◌%◌, Bool, true, false, cond, not, ◌||◌, eqb, List, [], ◌∷◌, ◌++◌, length, get_or, set, All, IsTrue, IfSome, IsSomeAnd, refl, sym, ap, subst, ◌∙◌, arith, Option, None, Some, Result, Ok, Err, is_some, slice_get, unwrap_or}
-use Rattle.std.proofs.lemmas.Grind.{common_steps}
+use Rattle.std.proofs.Common.{◌≡◌, ℕ, ◌+◌, ◌-◌, ◌<◌, ◌≤◌, ◌%◌, Bool, true, false, cond, not, ◌||◌, eqb, List, [], ◌∷◌, ◌++◌, length, set, All, IsTrue, IfSome, IsSomeAnd, refl, sym, ap, subst, ◌∙◌, arith, Option, None, Some, Ok, Err, is_some, slice_get, unwrap_or}
 use Rattle.std.proofs.lemmas.List.{get_or_default, length-set}
 use Rattle.std.proofs.lemmas.List.Elements.{All-nil, All-cons, All-append, All-set, All-push}
 use Rattle.std.specs.Bool.{nat_le, nat_lt}
 use Rattle.std.specs.Cmp.{nat_cmp_total}
 use Rattle.std.specs.FinMap as map
-use Rattle.std.specs.Map.{lookup}
 use Rattle.std.specs.Ordering.{nat_cmp}
 use Rattle.std.specs.Option.{option_map, option_to_list}
-use Rattle.ruby_value.specs.declared.fault.Fault.{Fault}
 use Rattle.ruby_value.specs.declared.fault.Fault.TheVariants.{Absent, Full, Present, Reference}
 use Rattle.ruby_value.specs.declared.kind.Kind.{Kind}
 use Rattle.ruby_value.specs.declared.value.Ref.{Ref}
@@ -28,7 +25,6 @@ use Rattle.ruby_value.specs.WithSet.{with_set}
 use Rattle.ruby_value.specs.WithoutLine.{without_line}
 use Rattle.ruby_value.proofs.CacheEdits.{IsRead, cache_without, cache_recent, cache_with_fields, cache_push}
 use Rattle.ruby_value.proofs.CacheSets.{set_is}
-use Rattle.ctl_face.specs.declared.setup.Setup.{Setup}
 use Rattle.ctl_face.specs.declared.setup.TableSetup.{TableSetup}
 use Rattle.ctl_face.specs.declared.setup.TableSize.{TableSize}
 use Rattle.ctl_face.specs.declared.setup.TableSize.TheVariants as size
@@ -104,8 +100,8 @@ module _ (s : TableSetup) (cache : Cache) (line : ℕ) (fits : FitsTable s (Cach
   without_fits : FitsTable s (CacheTable (with_set cache line (without_line (set_of cache line) line)))
   without_fits =
       cache_fits s cache line (without_line (set_of cache line) line)
-          (λ ok. cache_without cache line (line % length cache.sets) (set_of cache line) (is_read cache line ok) ok (without_line (set_of cache line) line) refl)
-          (All-removed (FitsLine s.kinds) (λ l. eqb l line) (set_of cache line) (set_fits s cache line fits)) fits
+      (λ ok. cache_without cache line (line % length cache.sets) (set_of cache line) (is_read cache line ok) ok (without_line (set_of cache line) line) refl)
+      (All-removed (FitsLine s.kinds) (λ l. eqb l line) (set_of cache line) (set_fits s cache line fits)) fits
 
   recent_fits : FitsTable s (CacheTable (with_set cache line (made_recent (set_of cache line) line)))
   recent_fits =
@@ -114,20 +110,20 @@ module _ (s : TableSetup) (cache : Cache) (line : ℕ) (fits : FitsTable s (Cach
       let found = lookup_holds P line (set_of cache line) all in
       let rest = All-removed P (λ l. eqb l line) (set_of cache line) all in
       cache_fits s cache line (made_recent (set_of cache line) line)
-          (λ ok. cache_recent cache line (line % length cache.sets) (set_of cache line) (is_read cache line ok) ok (made_recent (set_of cache line) line) refl)
-          (All-append P (without_line (set_of cache line) line) (option_to_list (option_map (λ fields. (line, fields)) (fields_of (set_of cache line) line))) rest (listed P line (fields_of (set_of cache line) line) found)) fits
+      (λ ok. cache_recent cache line (line % length cache.sets) (set_of cache line) (is_read cache line ok) ok (made_recent (set_of cache line) line) refl)
+      (All-append P (without_line (set_of cache line) line) (option_to_list (option_map (λ fields. (line, fields)) (fields_of (set_of cache line) line))) rest (listed P line (fields_of (set_of cache line) line) found)) fits
 
   written_fits : (fields : List Value) → IsTrue (has_kinds s.kinds fields) → FitsTable s (CacheTable (with_set cache line (with_fields (set_of cache line) line fields)))
   written_fits fields here =
       cache_fits s cache line (with_fields (set_of cache line) line fields)
-          (λ ok. cache_with_fields cache line (line % length cache.sets) (set_of cache line) (is_read cache line ok) ok (with_fields (set_of cache line) line fields) fields refl)
-          (All-written (FitsLine s.kinds) (λ l. eqb l line) fields (λ l is. (is.0, here)) (set_of cache line) (set_fits s cache line fits)) fits
+      (λ ok. cache_with_fields cache line (line % length cache.sets) (set_of cache line) (is_read cache line ok) ok (with_fields (set_of cache line) line fields) fields refl)
+      (All-written (FitsLine s.kinds) (λ l. eqb l line) fields (λ l is. (is.0, here)) (set_of cache line) (set_fits s cache line fits)) fits
 
   pushed_fits : (fields : List Value) → IsLine line → IsTrue (has_kinds s.kinds fields) → is_some (fields_of (set_of cache line) line) ≡ false → available cache line ≡ true → FitsTable s (CacheTable (with_set cache line (set_of cache line ++ (line, fields) ∷ [])))
   pushed_fits fields is here absent room =
       cache_fits s cache line (set_of cache line ++ (line, fields) ∷ [])
-          (λ ok. cache_push cache line (line % length cache.sets) (set_of cache line) (is_read cache line ok) ok (set_of cache line ++ (line, fields) ∷ []) fields absent (has_room (is_some (fields_of (set_of cache line) line)) (length (set_of cache line)) cache.ways absent room) refl)
-          (All-push (FitsLine s.kinds) (set_of cache line) (line, fields) (set_fits s cache line fits) (is, here)) fits
+      (λ ok. cache_push cache line (line % length cache.sets) (set_of cache line) (is_read cache line ok) ok (set_of cache line ++ (line, fields) ∷ []) fields absent (has_room (is_some (fields_of (set_of cache line) line)) (length (set_of cache line)) cache.ways absent room) refl)
+      (All-push (FitsLine s.kinds) (set_of cache line) (line, fields) (set_fits s cache line fits) (is, here)) fits
 
 abbrev KindsAre : List Kind → List Value → Type 0
 KindsAre kinds fields = IsTrue (has_kinds kinds fields)
@@ -201,38 +197,38 @@ set_in_table s t line field value takes is fits (Some old) there =
 pub set_keeps : (v : LocalView) (r : Ref) (field : ℕ) (value : Value) → IsSomeAnd (slice_get (field_kinds v.setup r.table) field) (λ k. IsTrue (has_kind k value)) → IsLine r.line → IsLawful v → Good IsLawful (set_field v r field value)
 set_keeps v r field value takes is lawful =
     changed_keeps v lawful r.table (λ t. written t r.line field value (fields_in t r.line))
-        (λ s t there fits.
-            let Q : Option TableSetup → Type 0 = λ o. IsSomeAnd (slice_get (unwrap_or (option_map (λ (u : TableSetup). u.kinds) o) []) field) (λ k. IsTrue (has_kind k value)) in
-            set_in_table s t r.line field value (subst Q there takes) is fits (fields_in t r.line) refl)
+    (λ s t there fits.
+    let Q : Option TableSetup → Type 0 = λ o. IsSomeAnd (slice_get (unwrap_or (option_map (λ (u : TableSetup). u.kinds) o) []) field) (λ k. IsTrue (has_kind k value)) in
+    set_in_table s t r.line field value (subst Q there takes) is fits (fields_in t r.line) refl)
 
 allocated : (s : TableSetup) (t : Table) (line : ℕ) (fields : List Value) → IsLine line → KindsAre s.kinds fields → FitsTable s t → Good (FitsTable s) (with_line fields line t)
 allocated s (CacheTable cache) line fields is here fits =
     let there = is_some (fields_of (set_of cache line) line) in
     let new = CacheTable (with_set cache line (set_of cache line ++ (line, fields) ∷ [])) in
     good_cond (FitsTable s) there (Err Present) (cond (not (available cache line)) (Err Full) (Ok new)) (λ _. good_err (FitsTable s) Present)
-        (λ absent. good_cond (FitsTable s) (not (available cache line)) (Err Full) (Ok new) (λ _. good_err (FitsTable s) Full)
-            (λ room. good_ok (FitsTable s) new (pushed_fits s cache line fits fields is here absent (not_false (available cache line) room))))
+    (λ absent. good_cond (FitsTable s) (not (available cache line)) (Err Full) (Ok new) (λ _. good_err (FitsTable s) Full)
+    (λ room. good_ok (FitsTable s) new (pushed_fits s cache line fits fields is here absent (not_false (available cache line) room))))
 allocated s (DirectoryTable directory) line fields is here fits = good_ok (FitsTable s) (DirectoryTable directory) fits
 allocated s (TbeTable tbes) line fields is here fits =
     let there = map.contains_key tbes.held line in
     let full = nat_le tbes.entries (map.len tbes.held) in
     let new = TbeTable (record tbes { held = map.insert tbes.held line fields }) in
     good_cond (FitsTable s) there (Err Present) (cond full (Err Full) (Ok new)) (λ _. good_err (FitsTable s) Present)
-        (λ absent. good_cond (FitsTable s) full (Err Full) (Ok new) (λ _. good_err (FitsTable s) Full)
-            (λ room. good_ok (FitsTable s) new
-                (let more = inserted_len tbes.held line fields false absent in
-                let below = not_up_to tbes.entries (map.len tbes.held) room in
-                tbes_fit s tbes line fields is here (λ small. omega arith) fits)))
+    (λ absent. good_cond (FitsTable s) full (Err Full) (Ok new) (λ _. good_err (FitsTable s) Full)
+    (λ room. good_ok (FitsTable s) new
+    (let more = inserted_len tbes.held line fields false absent in
+    let below = not_up_to tbes.entries (map.len tbes.held) room in
+    tbes_fit s tbes line fields is here (λ small. omega arith) fits)))
 allocated s (ParameterTable values) line fields is here fits = good_ok (FitsTable s) (ParameterTable values) fits
 
 pub allocate_keeps : (v : LocalView) (table line : ℕ) → IsLine line → IsLawful v → Good IsLawful (allocate v table line)
 allocate_keeps v table line is lawful =
     changed_keeps v lawful table (with_line (initial_fields v.setup table) line)
-        (λ s t there fits.
-            let P : Option TableSetup → Type 0 = λ o. IfSome o (λ (u : TableSetup). KindsAre u.kinds u.initial) in
-            let Q : List Value → Type 0 = λ fields. Good (FitsTable s) (with_line fields line t) in
-            let same : initial_fields v.setup table ≡ s.initial = ap (λ o. unwrap_or (option_map (λ (u : TableSetup). u.initial) o) []) there in
-            subst Q (sym same) (allocated s t line s.initial is (subst P there (lawful.setup.initial table)) fits))
+    (λ s t there fits.
+    let P : Option TableSetup → Type 0 = λ o. IfSome o (λ (u : TableSetup). KindsAre u.kinds u.initial) in
+    let Q : List Value → Type 0 = λ fields. Good (FitsTable s) (with_line fields line t) in
+    let same : initial_fields v.setup table ≡ s.initial = ap (λ o. unwrap_or (option_map (λ (u : TableSetup). u.initial) o) []) there in
+    subst Q (sym same) (allocated s t line s.initial is (subst P there (lawful.setup.initial table)) fits))
 
 deallocated : (s : TableSetup) (t : Table) (line : ℕ) → FitsTable s t → Good (FitsTable s) (without_line_in line t)
 deallocated s (CacheTable cache) line fits =
@@ -244,10 +240,10 @@ deallocated s (TbeTable tbes) line fits =
     let new = TbeTable (record tbes { held = held }) in
     let fewer = removed_len tbes.held line in
     good_cond (FitsTable s) (map.contains_key tbes.held line) (Ok new) (Err Absent)
-        (λ _. good_ok (FitsTable s) new (record {
-          size = tbes_of_size s.size s.initial tbes (record tbes { held = held }) refl (λ small. omega arith) fits.size;
-          lines = remove_keeps (λ l f. FitsLine s.kinds (l, f)) tbes.held line fits.lines;
-        })) (λ _. good_err (FitsTable s) Absent)
+    (λ _. good_ok (FitsTable s) new (record {
+      size = tbes_of_size s.size s.initial tbes (record tbes { held = held }) refl (λ small. omega arith) fits.size;
+      lines = remove_keeps (λ l f. FitsLine s.kinds (l, f)) tbes.held line fits.lines;
+    })) (λ _. good_err (FitsTable s) Absent)
 deallocated s (ParameterTable values) line fits = good_ok (FitsTable s) (ParameterTable values) fits
 
 pub deallocate_keeps : (v : LocalView) (table line : ℕ) → IsLawful v → Good IsLawful (deallocate v table line)

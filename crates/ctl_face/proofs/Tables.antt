@@ -1,13 +1,12 @@
 -- What holds of a lawful local holds after a table is changed.
-use Rattle.std.proofs.Common.{◌≡◌, ℕ, ◌+◌, ◌-◌, ◌<◌, ◌≤◌, ◌%◌, Bool, true, false, cond, not, List, [], ◌∷◌, ◌++◌, length, get_or, set, All, IsTrue, IfSome, IsSomeAnd, refl, sym, ap, subst, ◌∙◌, arith, Option, None, Some, Result, Ok, Err, is_some, slice_get, unwrap_or}
+use Rattle.std.proofs.Common.{◌≡◌, ℕ, refl, sym, subst, Option, None, Some, Result, Ok, Err, slice_get}
 use Rattle.ruby_value.specs.declared.fault.Fault.{Fault}
-use Rattle.ctl_face.specs.declared.setup.Setup.{Setup}
 use Rattle.ctl_face.specs.declared.setup.TableSetup.{TableSetup}
-use Rattle.ctl_face.specs.Fits.{Fits, FitsTable, FitsTableAt, IsLawful}
+use Rattle.ctl_face.specs.Fits.{FitsTable, FitsTableAt, IsLawful}
 use Rattle.ctl_face.specs.LocalView.{LocalView}
 use Rattle.ctl_face.specs.Table.{Table}
 use Rattle.ctl_face.specs.Tables.{table_at, with_table, after_change, change_if_there, changed_table}
-use Rattle.ctl_face.proofs.Cases.{Good, good_ok, good_err, good_cond}
+use Rattle.ctl_face.proofs.Cases.{Good, good_ok, good_err}
 use Rattle.ctl_face.proofs.Lines.{holds_after_set}
 
 module _ (v : LocalView) (lawful : IsLawful v) (table : ℕ) where

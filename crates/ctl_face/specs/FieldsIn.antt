@@ -1,6 +1,6 @@
 -- The fields of a line of a table, if the line is there, and the table with other fields for a line that is there.
 -- Each line of a directory is there from the start, and of the parameters line 0 alone, which is this project's own.
-use Rattle.std.specs.Prelude.{ℕ, Bool, false, Option, None, Some, List, ◌==◌, is_some, if◌then◌else◌}
+use Rattle.std.specs.Prelude.{ℕ, Option, None, Some, List, ◌==◌, if◌then◌else◌}
 use Rattle.std.specs.FinMap as map
 use Rattle.ruby_value.specs.declared.value.Value.{Value}
 use Rattle.ruby_value.specs.FieldsAt.{fields_at}

@@ -1,3 +1,4 @@
+// Two generic uses of a local, which nothing calls: a call after another one is proved from the contracts alone.
 ghost use Rattle.std.specs.Prelude.{◌≡◌, ◌≢◌, IsTrue, IfOk, IfErr, OnOk, Ok, true, false};
 ghost use Rattle.ctl_face.specs.Fits.{IsLawful, IsLine};
 ghost use Rattle.ctl_face.specs.Pop.{pop};
@@ -6,7 +7,6 @@ ghost use Rattle.ctl_face.specs.Served.{receives};
 ghost use Rattle.ctl_face.specs.OfMachine.{buffer_place};
 
 use crate::{Local, Trouble};
-use ruby_value::Fault;
 
 fn pop_if_ready<L: Local>(local: &mut L, buffer: u16) -> Result<bool, Trouble>
     requires served { IsTrue (receives (buffer_place (L.view local.old).setup buffer)) }
