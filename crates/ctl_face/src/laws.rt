@@ -4,7 +4,6 @@ ghost use Rattle.std.specs.List.{All};
 ghost use Rattle.ruby_value.specs.declared.value.Block.{Block as BlockRecord};
 ghost use Rattle.ruby_value.specs.declared.value.Ref.{Ref as RefRecord};
 ghost use Rattle.ruby_value.specs.declared.value.Value.{Value};
-ghost use Rattle.ruby_value.specs.HasKind.{has_kind};
 ghost use Rattle.ctl_face.specs.declared.setup.Setup.{Setup as SetupRecord};
 ghost use Rattle.ctl_face.specs.Acts.{Copy};
 ghost use Rattle.ctl_face.specs.Again.{again};
@@ -14,9 +13,8 @@ ghost use Rattle.ctl_face.specs.Ctl.{Ctl};
 ghost use Rattle.ctl_face.specs.Deallocate.{deallocate};
 ghost use Rattle.ctl_face.specs.Enqueue.{enqueue};
 ghost use Rattle.ctl_face.specs.Fits.{IsLawful, IsLine};
-ghost use Rattle.ctl_face.specs.HasKinds.{has_kinds};
 ghost use Rattle.ctl_face.specs.LocalView.{LocalView};
-ghost use Rattle.ctl_face.specs.OfMachine.{field_kinds, message_kinds};
+ghost use Rattle.ctl_face.specs.Served.{TakesField, TakesMessage};
 ghost use Rattle.ctl_face.specs.Pop.{pop};
 ghost use Rattle.ctl_face.specs.Recycle.{recycle};
 ghost use Rattle.ctl_face.specs.Send.{Sending, send};
@@ -33,7 +31,7 @@ pub fn copies_arrive_later()
 
 /// What holds of each controller of a machine holds after each act on its tables.
 pub fn table_calls_keep_what_holds()
-    ensures set { (v : LocalView) (r : RefRecord) (field : ℕ) (value : Value) (after : LocalView) → IsSomeAnd (slice_get (field_kinds v.setup r.table) field) (λ k. IsTrue (has_kind k value)) → IsLine r.line → IsLawful v → set v r field value ≡ Ok after → IsLawful after }
+    ensures set { (v : LocalView) (r : RefRecord) (field : ℕ) (value : Value) (after : LocalView) → TakesField v r.table field value → IsLine r.line → IsLawful v → set v r field value ≡ Ok after → IsLawful after }
     ensures allocate { (v : LocalView) (table line : ℕ) (after : LocalView) → IsLine line → IsLawful v → allocate v table line ≡ Ok after → IsLawful after }
     ensures deallocate { (v : LocalView) (table line : ℕ) (after : LocalView) → IsLawful v → deallocate v table line ≡ Ok after → IsLawful after }
     ensures touch { (v : LocalView) (table line : ℕ) (after : LocalView) → IsLawful v → touch v table line ≡ Ok after → IsLawful after }
@@ -47,7 +45,7 @@ pub fn message_calls_keep_what_holds()
     ensures wake { (v : LocalView) (line : ℕ) → IsLawful v → IsLawful (wake v line) }
     ensures wake_all { (v : LocalView) → IsLawful v → IsLawful (wake_all v) }
     ensures recycle { (v : LocalView) (buffer : ℕ) (latency : ℤ) (after : LocalView) → IsLawful v → recycle v buffer latency ≡ Ok after → IsLawful after }
-    ensures enqueue { (v : LocalView) (buffer : ℕ) (latency : ℤ) (fields : List Value) (after : LocalView) → IsTrue (has_kinds (message_kinds v.setup buffer) fields) → IsLawful v → enqueue v buffer latency fields ≡ Ok after → IsLawful after }
+    ensures enqueue { (v : LocalView) (buffer : ℕ) (latency : ℤ) (fields : List Value) (after : LocalView) → TakesMessage v buffer fields → IsLawful v → enqueue v buffer latency fields ≡ Ok after → IsLawful after }
     ensures read_back { (v : LocalView) (line : ℕ) (block : BlockRecord) (after : LocalView) → IsLawful v → read_back v line block ≡ Ok after → IsLawful after }
     ensures write_back { (v : LocalView) (line : ℕ) (block : BlockRecord) (after : LocalView) → IsLawful v → write_back v line block ≡ Ok after → IsLawful after }
     ensures again { (v : LocalView) → IsLawful v → IsLawful (again v) }

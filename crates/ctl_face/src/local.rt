@@ -1,5 +1,4 @@
 ghost use Rattle.std.specs.Prelude.{◌≡◌, ◌<◌, ◌^◌, Ok, IsTrue, IsSome, IsSomeAnd, IfOk, IfErr, OnOk, OnErr, slice_get};
-ghost use Rattle.ruby_value.specs.HasKind.{has_kind};
 ghost use Rattle.ctl_face.specs.Again.{again};
 ghost use Rattle.ctl_face.specs.Allocate.{allocate};
 ghost use Rattle.ctl_face.specs.Avail.{avail, probe};
@@ -10,15 +9,13 @@ ghost use Rattle.ctl_face.specs.FaultsAs.{FaultsAs};
 ghost use Rattle.ctl_face.specs.Fits.{IsLawful, IsLine};
 ghost use Rattle.ctl_face.specs.Free.{free};
 ghost use Rattle.ctl_face.specs.Get.{get};
-ghost use Rattle.ctl_face.specs.HasKinds.{has_kinds};
 ghost use Rattle.ctl_face.specs.LocalView.{LocalView, SameSetting};
 ghost use Rattle.ctl_face.specs.Lookup.{lookup, reference_to};
 ghost use Rattle.ctl_face.specs.Pop.{pop};
 ghost use Rattle.ctl_face.specs.Ready.{ready, peek};
 ghost use Rattle.ctl_face.specs.Recycle.{recycle};
-ghost use Rattle.ctl_face.specs.Served.{is_cache, is_tbe_table, looks_up, deallocates, receives, sends};
+ghost use Rattle.ctl_face.specs.Served.{is_cache, is_tbe_table, looks_up, deallocates, HasField, HasStates, Receives, Sends, Serves, TakesField, TakesMessage};
 ghost use Rattle.ctl_face.specs.Set.{set};
-ghost use Rattle.ctl_face.specs.OfMachine.{buffer_place, field_kinds, message_kinds, table_size};
 ghost use Rattle.ctl_face.specs.Stall.{stall};
 ghost use Rattle.ctl_face.specs.State.{state, set_state};
 ghost use Rattle.ctl_face.specs.Touch.{touch};
@@ -49,7 +46,7 @@ pub trait Local {
     /// The value of a field of the line that a reference names. The fault `Reference` comes exactly where the line isn't
     /// there. A machine's parameters are the fields of line 0 of a table of their own.
     fn get(&self, r: &Ref, field: u16) -> Result<Value, Trouble>
-        requires served { IsSome (slice_get (field_kinds (view self.now).setup r.now.table) field) }
+        requires served { HasField (view self.now) r.now.table field }
         requires line { IsLine r.now.line }
         ensures ok { IfOk result (λ v. get (view self.now) r.now field ≡ Ok v) }
         ensures fault { IfErr result (FaultsAs (get (view self.now) r.now field)) };
@@ -57,7 +54,7 @@ pub trait Local {
     /// Writes a field of the line that a reference names. The fault `Reference` comes exactly where the line isn't there. It
     /// doesn't count as a use of the line.
     fn set(&mut self, r: &Ref, field: u16, v: Value) -> Result<(), Trouble>
-        requires served { IsSomeAnd (slice_get (field_kinds (view self.old).setup r.now.table) field) (λ k. IsTrue (has_kind k v)) }
+        requires served { TakesField (view self.old) r.now.table field v }
         requires line { IsLine r.now.line }
         requires lawful { IsLawful (view self.old) }
         ensures ok { OnOk result (set (view self.old) r.now field v ≡ Ok (view self.new)) }
@@ -68,20 +65,20 @@ pub trait Local {
 
     /// The reference to a line of a cache, a directory or a TBE table, or `None` exactly where the line isn't there.
     fn lookup(&self, table: u16, line: u64) -> Option<Ref>
-        requires served { IsTrue (looks_up (table_size (view self.now).setup table)) }
+        requires served { Serves looks_up (view self.now) table }
         requires line { IsLine line }
         ensures { result ≡ lookup (view self.now) table line };
 
     /// Whether the line is in the cache or its set has a free way, as `cacheAvail`.
     fn avail(&self, table: u16, line: u64) -> bool
-        requires served { IsTrue (is_cache (table_size (view self.now).setup table)) }
+        requires served { Serves is_cache (view self.now) table }
         requires line { IsLine line }
         ensures { result ≡ avail (view self.now) table line };
 
     /// The least recently used line of the set of a line, as `cacheProbe`. The fault `Probe` comes exactly where `avail` is
     /// true.
     fn probe(&self, table: u16, line: u64) -> Result<u64, Trouble>
-        requires served { IsTrue (is_cache (table_size (view self.now).setup table)) }
+        requires served { Serves is_cache (view self.now) table }
         requires line { IsLine line }
         ensures ok { IfOk result (λ l. probe (view self.now) table line ≡ Ok l) }
         ensures fault { IfErr result (FaultsAs (probe (view self.now) table line)) };
@@ -90,7 +87,7 @@ pub trait Local {
     /// answers the reference to it. The fault `Present` comes where the line is there, and else `Full` where there is no place
     /// for it. A directory has each line, and doesn't change.
     fn allocate(&mut self, table: u16, line: u64) -> Result<Ref, Trouble>
-        requires served { IsTrue (looks_up (table_size (view self.old).setup table)) }
+        requires served { Serves looks_up (view self.old) table }
         requires line { IsLine line }
         requires lawful { IsLawful (view self.old) }
         ensures ok { OnOk result (allocate (view self.old) table line ≡ Ok (view self.new)) }
@@ -102,7 +99,7 @@ pub trait Local {
 
     /// Takes a line out of a cache or a TBE table. The fault `Absent` comes exactly where it isn't there.
     fn deallocate(&mut self, table: u16, line: u64) -> Result<(), Trouble>
-        requires served { IsTrue (deallocates (table_size (view self.old).setup table)) }
+        requires served { Serves deallocates (view self.old) table }
         requires line { IsLine line }
         requires lawful { IsLawful (view self.old) }
         ensures ok { OnOk result (deallocate (view self.old) table line ≡ Ok (view self.new)) }
@@ -113,7 +110,7 @@ pub trait Local {
 
     /// Makes a line the most recently used one of its set, as `setMRU`. The fault `Absent` comes exactly where it isn't there.
     fn touch(&mut self, table: u16, line: u64) -> Result<(), Trouble>
-        requires served { IsTrue (is_cache (table_size (view self.old).setup table)) }
+        requires served { Serves is_cache (view self.old) table }
         requires line { IsLine line }
         requires lawful { IsLawful (view self.old) }
         ensures ok { OnOk result (touch (view self.old) table line ≡ Ok (view self.new)) }
@@ -124,24 +121,24 @@ pub trait Local {
 
     /// How many more lines a TBE table may hold.
     fn free(&self, table: u16) -> u64
-        requires served { IsTrue (is_tbe_table (table_size (view self.now).setup table)) }
+        requires served { Serves is_tbe_table (view self.now) table }
         ensures { result ≡ free (view self.now) table };
 
     /// Whether a buffer has a message that has arrived and wasn't taken aside.
     fn ready(&self, buffer: u16) -> bool
-        requires served { IsTrue (receives (buffer_place (view self.now).setup buffer)) }
+        requires served { Receives (view self.now) buffer }
         ensures { result ≡ ready (view self.now) buffer };
 
     /// The front of a buffer: of its messages that have arrived and weren't taken aside, the least by arrival, then number.
     /// The fault `Front` comes exactly where there is none.
     fn front(&self, buffer: u16) -> Result<Message, Trouble>
-        requires served { IsTrue (receives (buffer_place (view self.now).setup buffer)) }
+        requires served { Receives (view self.now) buffer }
         ensures ok { IfOk result (λ m. peek (view self.now) buffer ≡ Ok m) }
         ensures fault { IfErr result (FaultsAs (peek (view self.now) buffer)) };
 
     /// Consumes the front of a buffer. The fault `Front` comes exactly where there is none.
     fn pop(&mut self, buffer: u16) -> Result<(), Trouble>
-        requires served { IsTrue (receives (buffer_place (view self.old).setup buffer)) }
+        requires served { Receives (view self.old) buffer }
         requires lawful { IsLawful (view self.old) }
         ensures ok { OnOk result (pop (view self.old) buffer ≡ Ok (view self.new)) }
         ensures fault { IfErr result (FaultsAs (pop (view self.old) buffer)) }
@@ -151,7 +148,7 @@ pub trait Local {
 
     /// Takes the front of a buffer aside under a line. The fault `Front` comes exactly where there is none.
     fn stall(&mut self, buffer: u16, line: u64) -> Result<(), Trouble>
-        requires served { IsTrue (receives (buffer_place (view self.old).setup buffer)) }
+        requires served { Receives (view self.old) buffer }
         requires line { IsLine line }
         requires lawful { IsLawful (view self.old) }
         ensures ok { OnOk result (stall (view self.old) buffer line ≡ Ok (view self.new)) }
@@ -182,7 +179,7 @@ pub trait Local {
     /// Gives the front of a buffer a later arrival, which is this cycle and a latency. The fault `Latency` comes where that
     /// is outside 1 to 1,000,000, and else `Front` where there is no front.
     fn recycle(&mut self, buffer: u16, latency: i64) -> Result<(), Trouble>
-        requires served { IsTrue (receives (buffer_place (view self.old).setup buffer)) }
+        requires served { Receives (view self.old) buffer }
         requires lawful { IsLawful (view self.old) }
         ensures ok { OnOk result (recycle (view self.old) buffer latency ≡ Ok (view self.new)) }
         ensures fault { IfErr result (FaultsAs (recycle (view self.old) buffer latency)) }
@@ -194,8 +191,8 @@ pub trait Local {
     /// that the message names. The fault `Latency` comes where that is outside 1 to 1,000,000; else `Route` where a receiver
     /// has no buffer for it; else `Copies` where the controller would send more than 4,096 copies in this cycle.
     fn send(&mut self, buffer: u16, latency: i64, fields: Fields) -> Result<(), Trouble>
-        requires served { IsTrue (sends (buffer_place (view self.old).setup buffer)) }
-        requires fields { IsTrue (has_kinds (message_kinds (view self.old).setup buffer) fields) }
+        requires served { Sends (view self.old) buffer }
+        requires fields { TakesMessage (view self.old) buffer fields }
         requires lawful { IsLawful (view self.old) }
         ensures ok { OnOk result (enqueue (view self.old) buffer latency fields ≡ Ok (view self.new)) }
         ensures fault { IfErr result (FaultsAs (enqueue (view self.old) buffer latency fields)) }
@@ -228,13 +225,13 @@ pub trait Local {
 
     /// The state of a line in the built-in map, of a machine that has it.
     fn state(&self, line: u64) -> u16
-        requires served { IsSome (view self.now).setup.default_state }
+        requires served { HasStates (view self.now) }
         requires line { IsLine line }
         ensures { result ≡ state (view self.now) line };
 
     /// Sets the state of a line in the built-in map, of a machine that has it. No fault comes.
     fn set_state(&mut self, line: u64, state: u16) -> Result<(), Trouble>
-        requires served { IsSome (view self.old).setup.default_state }
+        requires served { HasStates (view self.old) }
         requires line { IsLine line }
         requires lawful { IsLawful (view self.old) }
         ensures ok { OnOk result (view self.new ≡ set_state (view self.old) line state) }

@@ -3,13 +3,12 @@ ghost use Rattle.std.specs.Prelude.{◌≡◌, ◌≢◌, IsTrue, IfOk, IfErr, O
 ghost use Rattle.ctl_face.specs.Fits.{IsLawful, IsLine};
 ghost use Rattle.ctl_face.specs.Pop.{pop};
 ghost use Rattle.ctl_face.specs.Ready.{ready};
-ghost use Rattle.ctl_face.specs.Served.{receives};
-ghost use Rattle.ctl_face.specs.OfMachine.{buffer_place};
+ghost use Rattle.ctl_face.specs.Served.{Receives};
 
 use crate::{Local, Trouble};
 
 fn pop_if_ready<L: Local>(local: &mut L, buffer: u16) -> Result<bool, Trouble>
-    requires served { IsTrue (receives (buffer_place (L.view local.old).setup buffer)) }
+    requires served { Receives (L.view local.old) buffer }
     requires lawful { IsLawful (L.view local.old) }
     ensures answer { IfOk result (λ popped. popped ≡ ready (L.view local.old) buffer) }
     ensures no_fault { IfErr result (λ trouble. trouble ≡ Trouble.NoMemory) }
@@ -23,8 +22,8 @@ fn pop_if_ready<L: Local>(local: &mut L, buffer: u16) -> Result<bool, Trouble>
 }
 
 fn pop_two<L: Local>(local: &mut L, a: u16, b: u16) -> Result<(), Trouble>
-    requires first { IsTrue (receives (buffer_place (L.view local.old).setup a)) }
-    requires second { IsTrue (receives (buffer_place (L.view local.old).setup b)) }
+    requires first { Receives (L.view local.old) a }
+    requires second { Receives (L.view local.old) b }
     requires lawful { IsLawful (L.view local.old) }
     ensures lawful { IsLawful (L.view local.new) }
     ensures setup { (L.view local.new).setup ≡ (L.view local.old).setup }
