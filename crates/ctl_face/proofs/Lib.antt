@@ -6,7 +6,9 @@ pub mod Kept
 pub mod Lines
 pub mod Maps
 pub mod Marks
+pub mod Opened
 pub mod Ordered
+pub mod Reading
 pub mod Sends
 pub mod TableCalls
 pub mod Tables

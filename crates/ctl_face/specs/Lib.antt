@@ -21,6 +21,7 @@ pub mod Latency
 pub mod LocalView
 pub mod Lookup
 pub mod OfMachine
+pub mod Opening
 pub mod Pop
 pub mod Ready
 pub mod Recycle

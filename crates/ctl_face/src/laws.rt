@@ -2,6 +2,7 @@
 ghost use Rattle.std.specs.Prelude.{◌≡◌, ◌<◌, ℕ, ℤ, List, Ok, IsTrue, IsSomeAnd, slice_get};
 ghost use Rattle.std.specs.List.{All};
 ghost use Rattle.ruby_value.specs.declared.value.Block.{Block as BlockRecord};
+ghost use Rattle.ruby_value.specs.declared.message.Message.{Message as MessageRecord};
 ghost use Rattle.ruby_value.specs.declared.value.Ref.{Ref as RefRecord};
 ghost use Rattle.ruby_value.specs.declared.value.Value.{Value};
 ghost use Rattle.ctl_face.specs.declared.setup.Setup.{Setup as SetupRecord};
@@ -12,10 +13,14 @@ ghost use Rattle.ctl_face.specs.Callback.{read_back, write_back};
 ghost use Rattle.ctl_face.specs.Ctl.{Ctl};
 ghost use Rattle.ctl_face.specs.Deallocate.{deallocate};
 ghost use Rattle.ctl_face.specs.Enqueue.{enqueue};
-ghost use Rattle.ctl_face.specs.Fits.{IsLawful, IsLine};
+ghost use Rattle.ctl_face.specs.Fits.{Fits, IsLawful, IsLine};
+ghost use Rattle.ctl_face.specs.Get.{get};
+ghost use Rattle.ctl_face.specs.IsSetup.{IsSetup};
 ghost use Rattle.ctl_face.specs.LocalView.{LocalView};
 ghost use Rattle.ctl_face.specs.Served.{TakesField, TakesMessage};
+ghost use Rattle.ctl_face.specs.Opening.{opening_ctl};
 ghost use Rattle.ctl_face.specs.Pop.{pop};
+ghost use Rattle.ctl_face.specs.Ready.{peek};
 ghost use Rattle.ctl_face.specs.Recycle.{recycle};
 ghost use Rattle.ctl_face.specs.Send.{Sending, send};
 ghost use Rattle.ctl_face.specs.Set.{set};
@@ -27,6 +32,11 @@ ghost use Rattle.ctl_face.specs.Wake.{wake, wake_all};
 /// Each copy that a send makes arrives after the cycle of the send.
 pub fn copies_arrive_later()
     ensures { (setup : SetupRecord) (ctl : Ctl) (buffer : ℕ) (latency : ℤ) (fields : List Value) (now : ℕ) (s : Sending) → send setup ctl buffer latency fields now ≡ Ok s → All (λ (c : Copy). now < c.message.arrival) s.copies }
+{}
+
+/// A controller as a run begins fits its machine.
+pub fn opening_controllers_fit()
+    ensures { (setup : SetupRecord) → IsSetup setup → Fits setup (opening_ctl setup) 0 }
 {}
 
 /// What holds of each controller of a machine holds after each act on its tables.
@@ -49,4 +59,12 @@ pub fn message_calls_keep_what_holds()
     ensures read_back { (v : LocalView) (line : ℕ) (block : BlockRecord) (after : LocalView) → IsLawful v → read_back v line block ≡ Ok after → IsLawful after }
     ensures write_back { (v : LocalView) (line : ℕ) (block : BlockRecord) (after : LocalView) → IsLawful v → write_back v line block ≡ Ok after → IsLawful after }
     ensures again { (v : LocalView) → IsLawful v → IsLawful (again v) }
+{}
+
+/// What is read of a controller that fits its machine has its kinds: the value of a field is one of the field's kind, and
+/// the fields of a front are those of a message of its buffer, which is the one that was asked for.
+pub fn reads_have_their_kinds()
+    ensures get { (v : LocalView) (r : RefRecord) (field : ℕ) (value : Value) → IsLawful v → get v r field ≡ Ok value → TakesField v r.table field value }
+    ensures peek { (v : LocalView) (buffer : ℕ) (m : MessageRecord) → IsLawful v → peek v buffer ≡ Ok m → TakesMessage v m.buffer m.fields }
+    ensures peek_buffer { (v : LocalView) (buffer : ℕ) (m : MessageRecord) → peek v buffer ≡ Ok m → m.buffer ≡ buffer }
 {}

@@ -9,7 +9,10 @@ mod setup;
 mod trouble;
 mod uses;
 
-pub use laws::{copies_arrive_later, message_calls_keep_what_holds, table_calls_keep_what_holds};
+pub use laws::{
+    copies_arrive_later, message_calls_keep_what_holds, opening_controllers_fit,
+    table_calls_keep_what_holds,
+};
 pub use local::Local;
 pub use routes::{Routes, Sizes};
 pub use ruby_value::{Fault, Fields, Message, NoMemory, Seq, Text};
