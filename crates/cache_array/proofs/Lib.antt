@@ -1,3 +1,1 @@
-mod Edits
 mod Lines
-mod Sets

@@ -1,13 +1,13 @@
 ghost use Rattle.std.specs.Prelude.{◌≡◌, ◌≢◌, ◌≤◌, ◌<◌, ◌*◌, ◌%◌, ◌↔◌, [], ◌∷◌, ◌++◌, length, replicate, slice_get, is_some, IsTrue, IsNone, IsOk, IsErrOf, IfOk, IfErr, OnOk, OnErr, OnSome, None, Some, false};
 ghost use Rattle.std.specs.Option.{option_copied, option_map};
-ghost use Rattle.cache_array.specs.Available.{available};
-ghost use Rattle.cache_array.specs.FieldsOf.{fields_of};
-ghost use Rattle.cache_array.specs.IsCache.{IsCache};
-ghost use Rattle.cache_array.specs.MadeRecent.{made_recent};
-ghost use Rattle.cache_array.specs.SetOf.{set_of};
-ghost use Rattle.cache_array.specs.WithFields.{with_fields};
-ghost use Rattle.cache_array.specs.WithSet.{with_set};
-ghost use Rattle.cache_array.specs.WithoutLine.{without_line};
+ghost use Rattle.ruby_value.specs.Available.{available};
+ghost use Rattle.ruby_value.specs.FieldsOf.{fields_of};
+ghost use Rattle.ruby_value.specs.IsCache.{IsCache};
+ghost use Rattle.ruby_value.specs.MadeRecent.{made_recent};
+ghost use Rattle.ruby_value.specs.SetOf.{set_of};
+ghost use Rattle.ruby_value.specs.WithFields.{with_fields};
+ghost use Rattle.ruby_value.specs.WithSet.{with_set};
+ghost use Rattle.ruby_value.specs.WithoutLine.{without_line};
 
 use crate::use_order::UseOrder;
 use crate::{Fields, NoMemory};
@@ -42,8 +42,8 @@ pub struct CacheArray {
 }
 
 impl Model for CacheArray {
-    ghost use Rattle.cache_array.specs.Cache.{Cache, cache_code};
-    ghost use Rattle.cache_array.specs.IsCache.{IsCache};
+    ghost use Rattle.ruby_value.specs.Cache.{Cache, cache_code};
+    ghost use Rattle.ruby_value.specs.IsCache.{IsCache};
 
     ghost Value = { Cache };
 

@@ -1,7 +1,7 @@
 ghost use Rattle.std.specs.Prelude.{◌≡◌, IfErr, OnOk, OnErr};
 ghost use Rattle.std.specs.FinMap as map;
-ghost use Rattle.cache_array.specs.Directory.{Directory};
-ghost use Rattle.cache_array.specs.FieldsAt.{fields_at};
+ghost use Rattle.ruby_value.specs.Directory.{Directory};
+ghost use Rattle.ruby_value.specs.FieldsAt.{fields_at};
 
 use crate::{Fields, NoMemory};
 use ruby_value::LineMap;
@@ -19,7 +19,7 @@ pub struct DirMemory {
 }
 
 impl Model for DirMemory {
-    ghost use Rattle.cache_array.specs.Directory.{Directory, directory_code};
+    ghost use Rattle.ruby_value.specs.Directory.{Directory, directory_code};
 
     ghost Value = { Directory };
 

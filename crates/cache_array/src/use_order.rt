@@ -1,10 +1,10 @@
 ghost use Rattle.std.specs.Prelude.{◌≡◌, ◌==◌, ◌<◌, ◌↔◌, [], ◌∷◌, ◌++◌, length, position, slice_get, is_some, IsTrue, IsSome, IfSome, IfNone, OnOk, OnErr, OnSome, IfOk, IfErr, None, Some};
 ghost use Rattle.std.specs.Bool.{OnFalse};
 ghost use Rattle.std.specs.Option.{option_copied, option_map};
-ghost use Rattle.cache_array.specs.FieldsOf.{fields_of};
-ghost use Rattle.cache_array.specs.MadeRecent.{made_recent};
-ghost use Rattle.cache_array.specs.WithFields.{with_fields};
-ghost use Rattle.cache_array.specs.WithoutLine.{without_line};
+ghost use Rattle.ruby_value.specs.FieldsOf.{fields_of};
+ghost use Rattle.ruby_value.specs.MadeRecent.{made_recent};
+ghost use Rattle.ruby_value.specs.WithFields.{with_fields};
+ghost use Rattle.ruby_value.specs.WithoutLine.{without_line};
 
 use crate::Fields;
 use std::alloc::Global;
@@ -19,7 +19,7 @@ pub(crate) struct UseOrder {
 
 impl Model for UseOrder {
     ghost use Rattle.std.specs.Prelude.{List};
-    ghost use Rattle.cache_array.specs.Cache.{Line};
+    ghost use Rattle.ruby_value.specs.Cache.{Line};
 
     ghost Value = { List Line };
 

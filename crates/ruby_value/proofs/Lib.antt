@@ -1,2 +1,4 @@
+pub mod CacheEdits
+pub mod CacheSets
 mod Entries
 mod Members

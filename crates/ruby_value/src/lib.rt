@@ -4,6 +4,7 @@
 #![tactic(auto)]
 
 mod arithmetic;
+mod asked;
 mod fault;
 mod fields;
 mod kind;
@@ -15,6 +16,7 @@ mod tests;
 mod value;
 
 pub use arithmetic::{add, mul, sub};
+pub use asked::{Answer, Ask, Asked};
 pub use fault::{Fault, Finding};
 pub use fields::Fields;
 pub use kind::Kind;

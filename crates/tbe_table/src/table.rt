@@ -1,7 +1,7 @@
 ghost use Rattle.std.specs.Prelude.{◌≡◌, ◌<◌, ◌≤◌, ◌-◌, ◌↔◌, IsTrue, IsErrOf, IfOk, IfErr, OnOk, OnErr, None, Some, IsNone, ◌≢◌};
 ghost use Rattle.std.specs.Option.{option_copied};
 ghost use Rattle.std.specs.FinMap as map;
-ghost use Rattle.tbe_table.specs.Tbes.{Tbes};
+ghost use Rattle.ruby_value.specs.Tbes.{Tbes};
 
 use ruby_value::{Fields, LineMap};
 use std::alloc::Global;
@@ -32,7 +32,7 @@ pub struct TbeTable {
 impl Model for TbeTable {
     ghost use Rattle.std.specs.Prelude.{◌≤◌};
     ghost use Rattle.std.specs.FinMap as map;
-    ghost use Rattle.tbe_table.specs.Tbes.{Tbes, tbes_code};
+    ghost use Rattle.ruby_value.specs.Tbes.{Tbes, tbes_code};
 
     ghost Value = { Tbes };
 

@@ -1,7 +1,7 @@
 use Rattle.std.proofs.Common.{◌<◌, length, arith, ◌∷◌, [], ◌++◌, sym}
-use Rattle.cache_array.specs.Cache.{Cache}
-use Rattle.cache_array.specs.SetOf.{set_of}
-use Rattle.cache_array.proofs.Edits.{IsRead, put_back, cache_push}
+use Rattle.ruby_value.specs.Cache.{Cache}
+use Rattle.ruby_value.specs.SetOf.{set_of}
+use Rattle.ruby_value.proofs.CacheEdits.{IsRead, put_back, cache_push}
 use Rattle.cache_array.proofs.cache.CacheArray.allocate.Goals as goal
 
 -- the set with one more line is a lawful one, since the line wasn't there and a way was free

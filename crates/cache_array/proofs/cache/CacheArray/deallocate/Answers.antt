@@ -1,8 +1,8 @@
 use Rattle.std.proofs.Common.{◌≡◌, Some, sym}
-use Rattle.cache_array.specs.Cache.{Cache}
-use Rattle.cache_array.specs.FieldsOf.{fields_of}
-use Rattle.cache_array.specs.WithoutLine.{without_line}
-use Rattle.cache_array.proofs.Edits.{IsRead, of_set, put_back, cache_without}
+use Rattle.ruby_value.specs.Cache.{Cache}
+use Rattle.ruby_value.specs.FieldsOf.{fields_of}
+use Rattle.ruby_value.specs.WithoutLine.{without_line}
+use Rattle.ruby_value.proofs.CacheEdits.{IsRead, of_set, put_back, cache_without}
 use Rattle.cache_array.proofs.cache.CacheArray.deallocate.Goals as goal
 
 -- the set without the line is a lawful one

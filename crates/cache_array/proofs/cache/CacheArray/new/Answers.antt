@@ -1,5 +1,5 @@
 use Rattle.std.proofs.Common.{◌≡◌, arith}
-use Rattle.cache_array.proofs.Edits.{empty_cache}
+use Rattle.ruby_value.proofs.CacheEdits.{empty_cache}
 use Rattle.cache_array.proofs.cache.CacheArray.new.Goals as goal
 
 pub invariant_of-result : goal.invariant_of-result

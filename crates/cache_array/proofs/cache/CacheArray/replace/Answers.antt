@@ -1,8 +1,8 @@
 use Rattle.std.proofs.Common.{◌≡◌, Some}
-use Rattle.cache_array.specs.Cache.{Cache}
-use Rattle.cache_array.specs.FieldsOf.{fields_of}
-use Rattle.cache_array.specs.WithFields.{with_fields}
-use Rattle.cache_array.proofs.Edits.{IsRead, of_set, put_back, cache_with_fields}
+use Rattle.ruby_value.specs.Cache.{Cache}
+use Rattle.ruby_value.specs.FieldsOf.{fields_of}
+use Rattle.ruby_value.specs.WithFields.{with_fields}
+use Rattle.ruby_value.proofs.CacheEdits.{IsRead, of_set, put_back, cache_with_fields}
 use Rattle.cache_array.proofs.cache.CacheArray.replace.Goals as goal
 
 -- the set with other fields of the line is a lawful one

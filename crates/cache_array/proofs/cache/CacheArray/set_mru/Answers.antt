@@ -1,8 +1,8 @@
 use Rattle.std.proofs.Common.{IsTrue, is_some, refl, sym}
-use Rattle.cache_array.specs.Cache.{Cache}
-use Rattle.cache_array.specs.FieldsOf.{fields_of}
-use Rattle.cache_array.specs.MadeRecent.{made_recent}
-use Rattle.cache_array.proofs.Edits.{IsRead, of_set, put_back, cache_recent}
+use Rattle.ruby_value.specs.Cache.{Cache}
+use Rattle.ruby_value.specs.FieldsOf.{fields_of}
+use Rattle.ruby_value.specs.MadeRecent.{made_recent}
+use Rattle.ruby_value.proofs.CacheEdits.{IsRead, of_set, put_back, cache_recent}
 use Rattle.cache_array.proofs.cache.CacheArray.set_mru.Goals as goal
 
 -- the set in its new order is a lawful one

@@ -1,9 +1,0 @@
--- Whether a line has a place: it is in the cache, or its set has fewer lines than ways. This is what gem5's
--- `cacheAvail` answers.
-use Rattle.std.specs.Prelude.{ℕ, Bool, ◌||◌, is_some, length, nat_lt}
-use Rattle.cache_array.specs.Cache.{Cache}
-use Rattle.cache_array.specs.FieldsOf.{fields_of}
-use Rattle.cache_array.specs.SetOf.{set_of}
-
-abbrev pub available : Cache → ℕ → Bool
-available cache line = is_some (fields_of (set_of cache line) line) || nat_lt (length (set_of cache line)) cache.ways

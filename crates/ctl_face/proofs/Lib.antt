@@ -1,0 +1,14 @@
+pub mod Arrivals
+pub mod Callbacks
+pub mod Cases
+pub mod Inboxes
+pub mod Kept
+pub mod Lines
+pub mod Maps
+pub mod Marks
+pub mod Opened
+pub mod Ordered
+pub mod Reading
+pub mod Sends
+pub mod TableCalls
+pub mod Tables

@@ -1,0 +1,65 @@
+-- A controller as a run begins fits its machine.
+use Rattle.std.proofs.Common.{◌≡◌, ℕ, zero, suc, ◌≤◌, Bool, true, false, List, [], ◌∷◌, map, All, IsTrue, IfSome, refl, arith, slice_get}
+use Rattle.std.proofs.lemmas.List.{length-replicate}
+use Rattle.std.proofs.lemmas.List.Elements.{All-nil, All-replicate}
+use Rattle.std.specs.FinMap.{empty, get, get-empty, len-empty}
+use Rattle.std.specs.Ordering.{nat_cmp}
+use Rattle.ruby_value.specs.declared.asked.Answer.{Answer}
+use Rattle.ruby_value.specs.declared.asked.Asked.{Asked}
+use Rattle.ruby_value.specs.declared.kind.Kind.{Kind}
+use Rattle.ruby_value.specs.declared.value.Value.{Value}
+use Rattle.ruby_value.proofs.CacheEdits.{empty_cache}
+use Rattle.ctl_face.specs.declared.setup.Setup.{Setup}
+use Rattle.ctl_face.specs.declared.setup.TableSetup.{TableSetup}
+use Rattle.ctl_face.specs.declared.setup.TableSize.{TableSize}
+use Rattle.ctl_face.specs.declared.setup.TableSize.TheVariants as size
+use Rattle.ctl_face.specs.Ctl.{InboxMessage}
+use Rattle.ctl_face.specs.Fits.{Fits, FitsLine, FitsLines, FitsMessage, FitsSequencer, FitsTableAt, IsLine, IsOfSize, IsRequest}
+use Rattle.ctl_face.specs.HasKinds.{has_kinds}
+use Rattle.ctl_face.specs.Inbox.{number_before}
+use Rattle.ctl_face.specs.IsSetup.{HasPlaces, IsSetup, network_count}
+use Rattle.ctl_face.specs.Opening.{opening_table, no_requests, opening_ctl}
+use Rattle.ctl_face.proofs.Ordered.{AllPairs-nil}
+
+none_kept : {X : Type 0} (P : ℕ → X → Type 0) (line : ℕ) → IfSome (get (empty {X = X} {R = nat_cmp}) line) (P line)
+none_kept P line = rw (get-empty nat_cmp line) tt
+
+opened_size : (z : TableSize) (initial : List Value) → HasPlaces z → IsOfSize z initial (opening_table z initial)
+opened_size (size.Cache sets ways) initial places = (empty_cache ways sets (omega arith) (omega arith), refl, length-replicate sets [])
+opened_size size.Directory initial places = refl
+opened_size (size.Tbe entries) initial places = (refl, rw (len-empty nat_cmp (List Value)) (omega arith))
+opened_size size.Parameters initial places = tt
+
+opened_lines : (z : TableSize) (kinds : List Kind) (initial : List Value) → IsTrue (has_kinds kinds initial) → FitsLines kinds (opening_table z initial)
+opened_lines (size.Cache sets ways) kinds initial here = All-replicate (All (FitsLine kinds)) sets [] (All-nil (FitsLine kinds))
+opened_lines size.Directory kinds initial here = (here, none_kept (λ line fields. FitsLine kinds (line, fields)))
+opened_lines (size.Tbe entries) kinds initial here = none_kept (λ line fields. FitsLine kinds (line, fields))
+opened_lines size.Parameters kinds initial here = here
+
+opened_fits : (tables : List TableSetup) → ((j : ℕ) → IfSome (slice_get tables j) (λ (s : TableSetup). HasPlaces s.size)) → ((j : ℕ) → IfSome (slice_get tables j) (λ (s : TableSetup). IsTrue (has_kinds s.kinds s.initial)))
+    → (j : ℕ) → FitsTableAt (slice_get tables j) (slice_get (map (λ (s : TableSetup). opening_table s.size s.initial) tables) j)
+opened_fits [] places initial j = tt
+opened_fits (s ∷ tables) places initial zero = record { size = opened_size s.size s.initial (places 0); lines = opened_lines s.size s.kinds s.initial (initial 0) }
+opened_fits (s ∷ tables) places initial (suc j) = opened_fits tables (λ k. places (suc k)) (λ k. initial (suc k)) j
+
+no_requests_fit : (has : Bool) → FitsSequencer has (no_requests has)
+no_requests_fit false = tt
+no_requests_fit true = record {
+  outstanding = none_kept (λ line (a : Asked). (a.line ≡ line) × IsRequest a);
+  finished = All-nil (λ (a : Answer). IsRequest a.asked);
+  finished_ascend = AllPairs-nil (λ (a b : Answer). a.asked.line ≤ b.asked.line);
+}
+
+pub opening_fits : (setup : Setup) → IsSetup setup → Fits setup (opening_ctl setup) 0
+opening_fits setup lawful = record {
+  tables = opened_fits setup.tables lawful.places lawful.initial;
+  states = none_kept (λ line state. IsLine line);
+  inbox_ascends = AllPairs-nil (λ (a b : InboxMessage). IsTrue (number_before a.message.number b.message.number));
+  messages = All-nil (FitsMessage setup 0);
+  marks_ascend = λ k within. absurd (omega arith);
+  sequencer = no_requests_fit setup.has_sequencer;
+  networks = length-replicate network_count (empty {K = ℕ} {X = ℕ} {R = nat_cmp});
+  copies = omega arith;
+  sent = omega arith;
+  drawn = omega arith;
+}

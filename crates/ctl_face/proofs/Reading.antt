@@ -1,0 +1,100 @@
+-- What is read of a lawful local has its kinds.
+use Rattle.std.proofs.Common.{◌≡◌, ℕ, zero, suc, Bool, true, false, cond, List, [], ◌∷◌, All, IsTrue, IfSome, IsSomeAnd, subst, Option, None, Some, Ok, slice_get, unwrap_or, is_none, eqb, ◌&&◌}
+use Rattle.std.proofs.lemmas.List.Elements.{All-head, All-tail, All-filter, All-weaker, filter_passes}
+use Rattle.std.proofs.lemmas.Bool.{eqb-true}
+use Rattle.std.specs.Bool.{nat_le}
+use Rattle.std.specs.List.{filter}
+use Rattle.std.specs.Option.{option_and_then, option_map, ok_or}
+use Rattle.ruby_value.specs.declared.fault.Fault.TheVariants.{Front, Reference}
+use Rattle.ruby_value.specs.declared.kind.Kind.{Kind}
+use Rattle.ruby_value.specs.declared.message.Message.{Message}
+use Rattle.ruby_value.specs.declared.value.Ref.{Ref}
+use Rattle.ruby_value.specs.declared.value.Value.{Value}
+use Rattle.ruby_value.specs.HasKind.{has_kind}
+use Rattle.ctl_face.specs.declared.setup.BufferSetup.{BufferSetup}
+use Rattle.ctl_face.specs.declared.setup.TableSetup.{TableSetup}
+use Rattle.ctl_face.specs.Ctl.{InboxMessage}
+use Rattle.ctl_face.specs.FieldsIn.{fields_in}
+use Rattle.ctl_face.specs.Fits.{FitsMessage, FitsTableAt, IsLawful}
+use Rattle.ctl_face.specs.Front.{is_ready, least_message, earlier_message, message_before}
+use Rattle.ctl_face.specs.Get.{get, fields_behind}
+use Rattle.ctl_face.specs.HasKinds.{has_kinds}
+use Rattle.ctl_face.specs.LocalView.{LocalView}
+use Rattle.ctl_face.specs.Ready.{peek, front_now}
+use Rattle.ctl_face.specs.Served.{TakesField, TakesMessage}
+use Rattle.ctl_face.specs.Table.{Table}
+use Rattle.ctl_face.proofs.Lines.{parts_true}
+use Rattle.ctl_face.proofs.TableCalls.{kinds_in}
+
+field_kind : (kinds : List Kind) (fields : List Value) (field : ℕ) (value : Value) → IsTrue (has_kinds kinds fields) → slice_get fields field ≡ Some value → IsSomeAnd (slice_get kinds field) (λ k. IsTrue (has_kind k value))
+field_kind kinds [] field value all is = cc
+field_kind [] (v ∷ vs) field value all is = cc
+field_kind (k ∷ ks) (v ∷ vs) zero value all is =
+    let same : v ≡ value = cc in
+    let Q : Value → Type 0 = λ w. IsTrue (has_kind k w) in
+    subst Q same (parts_true (has_kind k v) (has_kinds ks vs) all).0
+field_kind (k ∷ ks) (v ∷ vs) (suc field) value all is = field_kind ks vs field value (parts_true (has_kind k v) (has_kinds ks vs) all).1 is
+
+ok_is : {X : Type 0} (o : Option X) (x : X) → ok_or o Reference ≡ Ok x → o ≡ Some x
+ok_is None x is = cc
+ok_is (Some y) x is = cc
+
+read_kind : (s : Option TableSetup) (o : Option (List Value)) (field : ℕ) (value : Value) → IfSome o (λ fields. IsTrue (has_kinds (unwrap_or (option_map (λ (u : TableSetup). u.kinds) s) []) fields))
+    → ok_or (option_and_then (λ fields. slice_get fields field) o) Reference ≡ Ok value → IsSomeAnd (slice_get (unwrap_or (option_map (λ (u : TableSetup). u.kinds) s) []) field) (λ k. IsTrue (has_kind k value))
+read_kind s None field value kinds is = cc
+read_kind s (Some fields) field value kinds is =
+    field_kind (unwrap_or (option_map (λ (u : TableSetup). u.kinds) s) []) fields field value kinds (ok_is (slice_get fields field) value is)
+
+fields_fit : (line : ℕ) (s : Option TableSetup) (t : Option Table) → FitsTableAt s t → IfSome (option_and_then (λ (u : Table). fields_in u line) t) (λ fields. IsTrue (has_kinds (unwrap_or (option_map (λ (u : TableSetup). u.kinds) s) []) fields))
+fields_fit line s None fits = tt
+fields_fit line None (Some t) fits = absurd fits
+fields_fit line (Some s) (Some t) fits = kinds_in s.kinds t line fits.lines
+
+pub get_kind : (v : LocalView) (r : Ref) (field : ℕ) (value : Value) → IsLawful v → get v r field ≡ Ok value → TakesField v r.table field value
+get_kind v r field value lawful is =
+    read_kind (slice_get v.setup.tables r.table) (fields_behind v r) field value
+    (fields_fit r.line (slice_get v.setup.tables r.table) (slice_get v.ctl.tables r.table) (lawful.fits.tables r.table)) is
+
+-- the least message is one of them
+module _ (P : Message → Type 0) where
+  earlier_holds : (b : Bool) (m o : Message) → P m → P o → P (cond b o m)
+  earlier_holds true m o first second = second
+  earlier_holds false m o first second = first
+
+  least_holds : (ms : List InboxMessage) → All (λ (m : InboxMessage). P m.message) ms → IfSome (least_message ms) P
+  least_holds [] all = tt
+  least_holds (m ∷ ms) all =
+      let here = All-head (λ (m : InboxMessage). P m.message) m ms all in
+      let rest = least_holds ms (All-tail (λ (m : InboxMessage). P m.message) m ms all) in
+      elim (least_message ms) as (λ o. IfSome o P → P (earlier_message m.message o)) [
+        | None ↦ λ _. here
+        | Some o ↦ λ there. earlier_holds (message_before o m.message) m.message o here there
+      ] rest
+
+message_kinds_fit : (s : Option BufferSetup) (fields : List Value) → IsSomeAnd s (λ (b : BufferSetup). IsTrue (has_kinds b.kinds fields)) → IsTrue (has_kinds (unwrap_or (option_map (λ (b : BufferSetup). b.kinds) s) []) fields)
+message_kinds_fit None fields here = absurd here
+message_kinds_fit (Some b) fields here = here
+
+peeked : (P : Message → Type 0) (o : Option Message) (m : Message) → IfSome o P → ok_or o Front ≡ Ok m → P m
+peeked P None m here is = cc
+peeked P (Some n) m here is = let same : n ≡ m = cc in subst P same here
+
+pub peek_kinds : (v : LocalView) (buffer : ℕ) (m : Message) → IsLawful v → peek v buffer ≡ Ok m → TakesMessage v m.buffer m.fields
+peek_kinds v buffer m lawful is =
+    let P : Message → Type 0 = λ n. TakesMessage v n.buffer n.fields in
+    let fit = λ (o : InboxMessage) (f : FitsMessage v.setup v.ctl.sent o). message_kinds_fit (slice_get v.setup.buffers o.message.buffer) o.message.fields f.fields in
+    let all = All-weaker (FitsMessage v.setup v.ctl.sent) (λ (o : InboxMessage). P o.message) fit v.ctl.inbox lawful.fits.messages in
+    peeked P (front_now v buffer) m (least_holds P (filter (is_ready buffer v.now) v.ctl.inbox) (All-filter (is_ready buffer v.now) (λ (o : InboxMessage). P o.message) v.ctl.inbox all)) is
+
+of_buffer : (buffer now : ℕ) (o : InboxMessage) → is_ready buffer now o ≡ true → o.message.buffer ≡ buffer
+of_buffer buffer now o is =
+    eqb-true o.message.buffer buffer
+    (parts_true (eqb o.message.buffer buffer) (nat_le o.message.arrival now)
+    (parts_true (eqb o.message.buffer buffer && nat_le o.message.arrival now) (is_none o.waiting) is).0).0
+
+pub peek_buffer : (v : LocalView) (buffer : ℕ) (m : Message) → peek v buffer ≡ Ok m → m.buffer ≡ buffer
+peek_buffer v buffer m is =
+    let P : Message → Type 0 = λ n. n.buffer ≡ buffer in
+    let ready = filter (is_ready buffer v.now) v.ctl.inbox in
+    let all = All-weaker (λ (o : InboxMessage). is_ready buffer v.now o ≡ true) (λ (o : InboxMessage). P o.message) (of_buffer buffer v.now) ready (filter_passes (is_ready buffer v.now) v.ctl.inbox) in
+    peeked P (front_now v buffer) m (least_holds P ready all) is

@@ -1,0 +1,211 @@
+-- What holds of a lawful controller holds after a send.
+use Rattle.std.proofs.Common.{◌≡◌, ℕ, ℤ, ◌+◌, ◌*◌, ◌≤◌, Bool, true, false, cond, not, ◌&&◌, eqb, List, [], ◌∷◌, length, IsTrue, IsSomeAnd, refl, sym, ap, subst, ◌∙◌, arith, Option, None, Some, Result, Ok, Err, nat_abs, is_some, slice_get, unwrap_or}
+use Rattle.std.proofs.lemmas.Bool.{eqb-true}
+use Rattle.std.proofs.lemmas.List.{length-set}
+use Rattle.std.proofs.lemmas.List.Elements.{All-weaker}
+use Rattle.std.specs.Bool.{nat_lt}
+use Rattle.std.specs.FinMap as map
+use Rattle.std.specs.List.{fold, list_all}
+use Rattle.std.specs.Option.{option_map}
+use Rattle.ruby_value.specs.declared.fault.Fault.{Fault}
+use Rattle.ruby_value.specs.declared.fault.Fault.TheVariants.{Latency, Route, Copies}
+use Rattle.ruby_value.specs.declared.kind.Kind.{Kind}
+use Rattle.ruby_value.specs.declared.message.Message.{Message}
+use Rattle.ruby_value.specs.declared.value.Value.{Value}
+use Rattle.ctl_face.specs.declared.setup.BufferPlace.{BufferPlace}
+use Rattle.ctl_face.specs.declared.setup.BufferPlace.TheVariants as place
+use Rattle.ctl_face.specs.declared.setup.BufferSetup.{BufferSetup}
+use Rattle.ctl_face.specs.declared.setup.Setup.{Setup}
+use Rattle.ctl_face.specs.Ctl.{Ctl, InboxMessage}
+use Rattle.ctl_face.specs.Enqueue.{enqueue, after_sending}
+use Rattle.ctl_face.specs.Fits.{Fits, FitsMessage, IsLawful}
+use Rattle.ctl_face.specs.HasKinds.{has_kinds}
+use Rattle.ctl_face.specs.IsSetup.{IsSetup, network_count, network_of}
+use Rattle.ctl_face.specs.Lasts.{Lasts, with_last}
+use Rattle.ctl_face.specs.Latency.{is_latency}
+use Rattle.ctl_face.specs.LocalView.{LocalView}
+use Rattle.ctl_face.specs.OfMachine.{buffer_place, message_kinds}
+use Rattle.ctl_face.specs.Routing.{receiving_buffer, is_ordered}
+use Rattle.ctl_face.specs.Send.{Sending, send, sent_from, copy_limit, members_of, delivered, counted, next_copy, has_jitter, after_network_copy, network_arrival, with_network_copy, local_arrival, local_copy}
+use Rattle.ctl_face.proofs.Cases.{Good, good_ok, good_err, good_cond}
+use Rattle.ctl_face.proofs.Inboxes.{ascend-with, all-with}
+use Rattle.ctl_face.proofs.Marks.{IsStrictlyIncreasing-with_mark}
+
+-- the buffer is there, and its messages have these fields
+abbrev pub TakesFields : Setup → ℕ → List Value → Type 0
+TakesFields setup buffer fields = IsSomeAnd (slice_get setup.buffers buffer) (λ (s : BufferSetup). IsTrue (has_kinds s.kinds fields))
+
+takes_fields : (setup : Setup) (s : Option BufferSetup) (p : BufferPlace) (fields : List Value) → option_map (λ (b : BufferSetup). b.place) s ≡ Some p
+    → IsTrue (has_kinds (unwrap_or (option_map (λ (b : BufferSetup). b.kinds) s) []) fields) → IsSomeAnd s (λ (b : BufferSetup). IsTrue (has_kinds b.kinds fields))
+takes_fields setup None p fields is here = cc
+takes_fields setup (Some b) p fields is here = here
+
+own_fits : (setup : Setup) (sent buffer arrival : ℕ) (fields : List Value) → TakesFields setup buffer fields
+    → FitsMessage setup (sent + 1) (record { message = record { number = record { sender = setup.me; count = sent }; buffer = buffer; arrival = arrival; recycled = false; fields = fields }; waiting = None })
+own_fits setup sent buffer arrival fields takes = record { fields = takes; own_number = λ _. omega arith; line = tt }
+
+older_fits : (setup : Setup) (sent : ℕ) (m : InboxMessage) → FitsMessage setup sent m → FitsMessage setup (sent + 1) m
+older_fits setup sent m fits = record { fields = fits.fields; own_number = λ own. let before = fits.own_number own in omega arith; line = fits.line }
+
+and_true : (a b : Bool) → (a && b) ≡ true → (a ≡ true) × (b ≡ true)
+and_true true b is = (refl, is)
+and_true false b is = cc
+
+-- one copy more
+module _ (setup : Setup) (now : ℕ) where
+  counted_fits : (ctl : Ctl) (mine : Bool) (m : Message) → ctl.copies + 1 ≤ copy_limit → (mine ≡ true → FitsMessage setup (ctl.sent + 1) (record { message = m; waiting = None })) → Fits setup ctl now
+      → Fits setup (record (delivered mine ctl m) { sent = ctl.sent + 1; copies = ctl.copies + 1 }) now
+  counted_fits ctl true m room own fits = record {
+    tables = fits.tables;
+    states = fits.states;
+    inbox_ascends = ascend-with ctl.inbox (record { message = m; waiting = None }) fits.inbox_ascends;
+    messages = all-with (FitsMessage setup (ctl.sent + 1)) ctl.inbox (record { message = m; waiting = None })
+        (All-weaker (FitsMessage setup ctl.sent) (FitsMessage setup (ctl.sent + 1)) (older_fits setup ctl.sent) ctl.inbox fits.messages) (own refl);
+    marks_ascend = IsStrictlyIncreasing-with_mark ctl.marks m.arrival fits.marks_ascend;
+    sequencer = fits.sequencer;
+    networks = fits.networks;
+    copies = room;
+    sent = (let before = fits.sent in omega arith);
+    drawn = (let before = fits.drawn in omega arith);
+  }
+  counted_fits ctl false m room own fits = record {
+    tables = fits.tables;
+    states = fits.states;
+    inbox_ascends = fits.inbox_ascends;
+    messages = All-weaker (FitsMessage setup ctl.sent) (FitsMessage setup (ctl.sent + 1)) (older_fits setup ctl.sent) ctl.inbox fits.messages;
+    marks_ascend = fits.marks_ascend;
+    sequencer = fits.sequencer;
+    networks = fits.networks;
+    copies = room;
+    sent = (let before = fits.sent in omega arith);
+    drawn = (let before = fits.drawn in omega arith);
+  }
+
+  last_fits : (ctl : Ctl) (lasts : Lasts) → Fits setup ctl now → Fits setup (record ctl { local_last = lasts }) now
+  last_fits ctl lasts fits = record {
+    tables = fits.tables;
+    states = fits.states;
+    inbox_ascends = fits.inbox_ascends;
+    messages = fits.messages;
+    marks_ascend = fits.marks_ascend;
+    sequencer = fits.sequencer;
+    networks = fits.networks;
+    copies = fits.copies;
+    sent = fits.sent;
+    drawn = fits.drawn;
+  }
+
+  delivered_drawn : (mine : Bool) (ctl : Ctl) (m : Message) → (delivered mine ctl m).drawn ≡ ctl.drawn
+  delivered_drawn true ctl m = refl
+  delivered_drawn false ctl m = refl
+
+  cond_le : (b : Bool) (x y n : ℕ) → x ≤ n → y ≤ n → cond b x y ≤ n
+  cond_le true x y n first second = first
+  cond_le false x y n first second = second
+
+  cond_length : {X : Type 0} (b : Bool) (xs ys : List X) (n : ℕ) → length xs ≡ n → length ys ≡ n → length (cond b xs ys) ≡ n
+  cond_length true xs ys n first second = first
+  cond_length false xs ys n first second = second
+
+  drawn_fits : (ctl : Ctl) (network receiver arrival : ℕ) → ctl.drawn + 1 ≤ copy_limit * now + ctl.copies → Fits setup ctl now → Fits setup (after_network_copy setup ctl network receiver arrival) now
+  drawn_fits ctl network receiver arrival room fits = record {
+    tables = fits.tables;
+    states = fits.states;
+    inbox_ascends = fits.inbox_ascends;
+    messages = fits.messages;
+    marks_ascend = fits.marks_ascend;
+    sequencer = fits.sequencer;
+    networks = cond_length (is_ordered setup.routes network) (with_last ctl.network_last network receiver arrival) ctl.network_last network_count (length-set ctl.network_last network _ ∙ fits.networks) fits.networks;
+    copies = fits.copies;
+    sent = fits.sent;
+    drawn = cond_le (has_jitter setup) (ctl.drawn + 1) ctl.drawn (copy_limit * now + ctl.copies) room fits.drawn;
+  }
+
+  -- what a copy to the controller itself needs
+  abbrev MineTakes : ℕ → List Value → ℕ → Type 0
+  MineTakes network fields receiver = receiver ≡ setup.me → TakesFields setup (unwrap_or (receiving_buffer setup.routes receiver network) 0) fields
+
+  step_fits : (network latency : ℕ) (fields : List Value) (s : Sending) (receiver : ℕ) → s.sender.copies + 1 ≤ copy_limit → MineTakes network fields receiver → Fits setup s.sender now → Fits setup (with_network_copy setup network latency fields now s receiver).sender now
+  step_fits network latency fields s receiver room mine fits =
+      let arrival = network_arrival setup s.sender network latency now receiver in
+      let buffer = unwrap_or (receiving_buffer setup.routes receiver network) 0 in
+      let copy = next_copy setup s.sender receiver buffer arrival fields in
+      let is_mine = eqb receiver setup.me in
+      let once_more = counted_fits s.sender is_mine copy.message room (λ is. own_fits setup s.sender.sent buffer arrival fields (mine (eqb-true receiver setup.me is))) fits in
+      let before = fits.drawn in
+      let same = delivered_drawn is_mine s.sender copy.message in
+      drawn_fits (counted setup s.sender copy) network receiver arrival (omega arith) once_more
+
+  each_fits : (network latency : ℕ) (fields : List Value) (members : List ℕ) (s : Sending) → length members + s.sender.copies ≤ copy_limit
+      → list_all (λ receiver. is_some (receiving_buffer setup.routes receiver network)) members ≡ true
+      → ((receiver : ℕ) → is_some (receiving_buffer setup.routes receiver network) ≡ true → MineTakes network fields receiver)
+      → Fits setup s.sender now → Fits setup (fold (with_network_copy setup network latency fields now) s members).sender now
+  each_fits network latency fields [] s room routed mine fits = fits
+  each_fits network latency fields (receiver ∷ members) s room routed mine fits =
+      let both = and_true (is_some (receiving_buffer setup.routes receiver network)) (list_all (λ r. is_some (receiving_buffer setup.routes r network)) members) routed in
+      let room_here : s.sender.copies + 1 ≤ copy_limit = omega arith in
+      let room_then : length members + (s.sender.copies + 1) ≤ copy_limit = omega arith in
+      each_fits network latency fields members (with_network_copy setup network latency fields now s receiver) room_then both.1 mine
+      (step_fits network latency fields s receiver room_here (mine receiver both.0) fits)
+
+module _ (setup : Setup) (lawful : IsSetup setup) (network destination buffer : ℕ) (fields : List Value) (is_to : buffer_place setup buffer ≡ Some (place.To network destination)) (here : IsTrue (has_kinds (message_kinds setup buffer) fields)) where
+  own_buffer_takes : (o : Option ℕ) → receiving_buffer setup.routes setup.me network ≡ o → is_some o ≡ true → TakesFields setup (unwrap_or o 0) fields
+  own_buffer_takes None is there = cc
+  own_buffer_takes (Some b) is there =
+      let from = lawful.own_buffers network b is in
+      let same : message_kinds setup b ≡ message_kinds setup buffer = lawful.one_type b buffer network (ap network_of from) (ap network_of is_to) in
+      let Q : List Kind → Type 0 = λ kinds. IsTrue (has_kinds kinds fields) in
+      takes_fields setup (slice_get setup.buffers b) (place.From network) fields from (subst Q (sym same) here)
+
+  own_takes : (receiver : ℕ) → is_some (receiving_buffer setup.routes receiver network) ≡ true → receiver ≡ setup.me → TakesFields setup (unwrap_or (receiving_buffer setup.routes receiver network) 0) fields
+  own_takes receiver there mine =
+      let Q : ℕ → Type 0 = λ r. is_some (receiving_buffer setup.routes r network) ≡ true → TakesFields setup (unwrap_or (receiving_buffer setup.routes r network) 0) fields in
+      subst Q (sym mine) (own_buffer_takes (receiving_buffer setup.routes setup.me network) refl) there
+
+not_false : (b : Bool) → not b ≡ false → b ≡ true
+not_false true is = refl
+not_false false is = cc
+
+not_above : (a b : ℕ) → nat_lt a b ≡ false → b ≤ a
+not_above a b is = grind arith
+
+abbrev SenderFits : Setup → ℕ → Sending → Type 0
+SenderFits setup now s = Fits setup s.sender now
+
+sent_fits : (p : Option BufferPlace) (setup : Setup) (ctl : Ctl) (buffer latency : ℕ) (fields : List Value) (now : ℕ) → buffer_place setup buffer ≡ p → IsSetup setup → IsTrue (has_kinds (message_kinds setup buffer) fields) → Fits setup ctl now
+    → Good (SenderFits setup now) (sent_from p setup ctl buffer latency fields now)
+sent_fits None setup ctl buffer latency fields now is lawful here fits = good_ok (SenderFits setup now) (record { sender = ctl; copies = [] }) fits
+sent_fits (Some (place.From network)) setup ctl buffer latency fields now is lawful here fits = good_ok (SenderFits setup now) (record { sender = ctl; copies = [] }) fits
+sent_fits (Some (place.Local ordered)) setup ctl buffer latency fields now is lawful here fits =
+    let sending = local_copy setup ordered ctl buffer latency fields now in
+    let arrival = local_arrival ordered ctl buffer latency now in
+    let takes = takes_fields setup (slice_get setup.buffers buffer) (place.Local ordered) fields is here in
+    let copy = next_copy setup ctl setup.me buffer arrival fields in
+    let b = nat_lt copy_limit (ctl.copies + 1) in
+    good_cond (SenderFits setup now) b (Err Copies) (Ok sending) (λ _. good_err (SenderFits setup now) Copies)
+    (λ few. good_ok (SenderFits setup now) sending
+    (last_fits setup now (counted setup ctl copy) (cond ordered (map.insert ctl.local_last buffer arrival) ctl.local_last)
+    (counted_fits setup now ctl (eqb setup.me setup.me) copy.message (not_above copy_limit (ctl.copies + 1) few) (λ _. own_fits setup ctl.sent buffer arrival fields takes) fits)))
+sent_fits (Some (place.To network destination)) setup ctl buffer latency fields now is lawful here fits =
+    let members = members_of (slice_get fields destination) in
+    let sending = fold (with_network_copy setup network latency fields now) (record { sender = ctl; copies = [] }) members in
+    let routed = list_all (λ receiver. is_some (receiving_buffer setup.routes receiver network)) members in
+    let many = nat_lt copy_limit (ctl.copies + length members) in
+    good_cond (SenderFits setup now) (not routed) (Err Route) (cond many (Err Copies) (Ok sending)) (λ _. good_err (SenderFits setup now) Route)
+    (λ are_routed. good_cond (SenderFits setup now) many (Err Copies) (Ok sending) (λ _. good_err (SenderFits setup now) Copies)
+    (λ few. let room = not_above copy_limit (ctl.copies + length members) few in
+    let total : length members + ctl.copies ≤ copy_limit = omega arith in
+    good_ok (SenderFits setup now) sending
+    (each_fits setup now network latency fields members (record { sender = ctl; copies = [] }) total (not_false routed are_routed) (own_takes setup lawful network destination buffer fields is here) fits)))
+
+after_keeps : (v : LocalView) (r : Result Sending Fault) → Good (SenderFits v.setup v.now) r → IsLawful v → Good IsLawful (after_sending v r)
+after_keeps v (Ok s) fits lawful = good_ok IsLawful _ (record { setup = lawful.setup; now = lawful.now; fits = fits.good s refl })
+after_keeps v (Err e) fits lawful = good_err IsLawful e
+
+pub enqueue_keeps : (v : LocalView) (buffer : ℕ) (latency : ℤ) (fields : List Value) → IsTrue (has_kinds (message_kinds v.setup buffer) fields) → IsLawful v → Good IsLawful (enqueue v buffer latency fields)
+enqueue_keeps v buffer latency fields here lawful =
+    let p = buffer_place v.setup buffer in
+    after_keeps v (send v.setup v.ctl buffer latency fields v.now)
+    (good_cond (SenderFits v.setup v.now) (is_latency latency) (sent_from p v.setup v.ctl buffer (nat_abs latency) fields v.now) (Err Latency)
+    (λ _. sent_fits p v.setup v.ctl buffer (nat_abs latency) fields v.now refl lawful.setup here lawful.fits) (λ _. good_err (SenderFits v.setup v.now) Latency))
+    lawful

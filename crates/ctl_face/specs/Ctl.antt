@@ -1,0 +1,41 @@
+-- A controller as plain data: its tables, the states of its built-in map, the messages that were sent to it and not
+-- consumed, the cycles at which it must wake, its sequencer's requests and answers, the counts that its sends go by,
+-- and whether it has stopped. Equal controllers are equal values.
+-- Numbers of messages, marks and counts are this project's own; tables and buffers are those of gem5's Ruby.
+use Rattle.std.specs.Prelude.{ℕ, Bool, List, Option}
+use Rattle.std.specs.Ordering.{nat_cmp}
+use Rattle.std.specs.FinMap as map
+use Rattle.ruby_value.specs.declared.asked.Answer.{Answer}
+use Rattle.ruby_value.specs.declared.asked.Asked.{Asked}
+use Rattle.ruby_value.specs.declared.message.Message.{Message}
+use Rattle.ctl_face.specs.Table.{Table}
+
+-- a message in an inbox, and the line number under which it was taken aside, if it was
+pub record InboxMessage : Type 0 where
+  pub message : Message
+  pub waiting : Option ℕ
+
+-- the outstanding requests of a sequencer by line, at most one for a line, and the finished answers that nobody has
+-- taken yet, the least line first and those of one line in the order in which they were finished
+pub record Requests : Type 0 where
+  pub outstanding : map.FinMap nat_cmp Asked
+  pub finished : List Answer
+
+-- Tables stand by their number within the machine. The inbox has ascending message numbers and the marks ascend, so
+-- that each is one list alone. `states` has the lines whose state was set. `sequencer` is there where the machine has
+-- one. Of the counts, `fired` and `copies` are those of this cycle. `network_last` has, by virtual network, for each
+-- receiver the arrival of the last copy to it, where the network is ordered, and `local_last` the arrival of the last
+-- copy in each of the controller's own ordered buffers; what isn't there counts as 0.
+pub record Ctl : Type 0 where
+  pub tables : List Table
+  pub states : map.FinMap nat_cmp ℕ
+  pub inbox : List InboxMessage
+  pub marks : List ℕ
+  pub sequencer : Option Requests
+  pub sent : ℕ
+  pub drawn : ℕ
+  pub fired : ℕ
+  pub copies : ℕ
+  pub network_last : List (map.FinMap nat_cmp ℕ)
+  pub local_last : map.FinMap nat_cmp ℕ
+  pub stopped : Bool

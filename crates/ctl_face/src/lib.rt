@@ -1,0 +1,20 @@
+//! The controller that every layer above stands on, as plain data, and the calls by which its acts are done: what a
+//! draft changes, what the meaning of a protocol reads and writes, what code that runs on a stack calls.
+#![tactic(auto)]
+
+mod laws;
+mod local;
+mod routes;
+mod setup;
+mod trouble;
+mod uses;
+
+pub use laws::{
+    copies_arrive_later, message_calls_keep_what_holds, opening_controllers_fit,
+    table_calls_keep_what_holds,
+};
+pub use local::Local;
+pub use routes::{Routes, Sizes};
+pub use ruby_value::{Fault, Fields, Message, NoMemory, Seq, Text};
+pub use setup::{BufferPlace, BufferSetup, Setup, TableSetup, TableSize};
+pub use trouble::Trouble;

@@ -1,0 +1,30 @@
+use ruby_value::Seq;
+
+/// What a topology says of the network between controllers, which are numbered from 0. This form of a network is
+/// this project's own.
+#[derive(Debug, Drop)]
+pub struct Routes {
+    /// By sender and then receiver, how many cycles the path between them takes, at most 126,000. It is 0 to oneself.
+    pub paths: Seq<Seq<u64>>,
+    /// The most cycles that a copy may be late, at most 1,000. Where it is 0, none is late and no word is drawn.
+    pub jitter: u64,
+    /// By virtual network, of which there are 16, whether it keeps the order of what one controller sends to another.
+    pub ordered: Seq<bool>,
+    /// By controller and then virtual network, the number within its machine of the buffer that takes the messages of
+    /// that network, where it has one.
+    pub receiving: Seq<Seq<Option<u16>>>,
+}
+
+/// The sizes of a machine's tables and the values of its parameters, as far as a topology sets them, and where each
+/// machine's controllers stand. What isn't listed has its default.
+#[derive(Debug, Drop)]
+pub struct Sizes {
+    /// A cache's number among the machine's tables, its sets and its ways.
+    pub caches: Seq<(u16, u32, u32)>,
+    /// A TBE table's number among the machine's tables, and how many lines it may hold.
+    pub tbes: Seq<(u16, u32)>,
+    /// A parameter's number, and its value.
+    pub parameters: Seq<(u16, i64)>,
+    /// For every machine of the protocol, in the order of the text, its first controller's number and its count.
+    pub machines: Seq<(u32, u32)>,
+}

@@ -1,0 +1,34 @@
+// Two generic uses of a local, which nothing calls: a call after another one is proved from the contracts alone.
+ghost use Rattle.std.specs.Prelude.{◌≡◌, ◌≢◌, IsTrue, IfOk, IfErr, OnOk, Ok, true, false};
+ghost use Rattle.ctl_face.specs.Fits.{IsLawful, IsLine};
+ghost use Rattle.ctl_face.specs.Pop.{pop};
+ghost use Rattle.ctl_face.specs.Ready.{ready};
+ghost use Rattle.ctl_face.specs.Served.{Receives};
+
+use crate::{Local, Trouble};
+
+fn pop_if_ready<L: Local>(local: &mut L, buffer: u16) -> Result<bool, Trouble>
+    requires served { Receives (L.view local.old) buffer }
+    requires lawful { IsLawful (L.view local.old) }
+    ensures answer { IfOk result (λ popped. popped ≡ ready (L.view local.old) buffer) }
+    ensures no_fault { IfErr result (λ trouble. trouble ≡ Trouble.NoMemory) }
+    ensures lawful { IsLawful (L.view local.new) }
+{
+    if !local.ready(buffer) {
+        return Ok(false);
+    }
+    local.pop(buffer)?;
+    Ok(true)
+}
+
+fn pop_two<L: Local>(local: &mut L, a: u16, b: u16) -> Result<(), Trouble>
+    requires first { Receives (L.view local.old) a }
+    requires second { Receives (L.view local.old) b }
+    requires lawful { IsLawful (L.view local.old) }
+    ensures lawful { IsLawful (L.view local.new) }
+    ensures setup { (L.view local.new).setup ≡ (L.view local.old).setup }
+{
+    local.pop(a)?;
+    local.pop(b)?;
+    local.again()
+}
