@@ -14,14 +14,14 @@ use Rattle.ctl_face.specs.Lasts.{last_at, lasts_on}
 use Rattle.ctl_face.specs.Latency.{is_latency}
 use Rattle.ctl_face.specs.OfMachine.{buffer_place}
 use Rattle.ctl_face.specs.Routing.{receiving_buffer, path_to, is_ordered}
-use Rattle.ctl_face.specs.Send.{Sending, next_copy, next_jitter, copy_limit, members_of, send, sent_from, with_network_copy, network_arrival, local_arrival, local_copy}
+use Rattle.ctl_face.specs.Send.{Sending, next_copy, next_jitter, copy_limit, receivers_of, send, sent_from, with_network_copy, network_arrival, local_arrival, local_copy}
 use Rattle.ctl_face.proofs.Cases.{Good, good_ok, good_err, good_cond, good_unless}
 
-raised : (ordered : Bool) (arrival last now : ℕ) → now < arrival → now < cond ordered (max arrival last) arrival
+pub raised : (ordered : Bool) (arrival last now : ℕ) → now < arrival → now < cond ordered (max arrival last) arrival
 raised true arrival last now above = omega arith
 raised false arrival last now above = above
 
-positive : (latency : ℤ) → is_latency latency ≡ true → 0 < nat_abs latency
+pub positive : (latency : ℤ) → is_latency latency ≡ true → 0 < nat_abs latency
 positive (pos n) is = grind arith
 positive (negsuc n) is = cc
 
@@ -59,7 +59,7 @@ from_place (Some (place.Local ordered)) setup ctl buffer latency fields now some
     good_unless (Later now) (nat_lt copy_limit (ctl.copies + 1)) Copies (Ok sending)
     (good_ok (Later now) sending (one_later setup ordered ctl buffer latency fields now some))
 from_place (Some (place.To network destination)) setup ctl buffer latency fields now some =
-    let members = members_of (slice_get fields destination) in
+    let members = receivers_of destination fields in
     let sending = fold (with_network_copy setup network latency fields now) (record { sender = ctl; copies = [] }) members in
     good_unless (Later now) (not (list_all (λ receiver. is_some (receiving_buffer setup.routes receiver network)) members)) Route
     (cond (nat_lt copy_limit (ctl.copies + length members)) (Err Copies) (Ok sending))

@@ -1,3 +1,4 @@
+pub mod Ahead
 pub mod Arrivals
 pub mod Callbacks
 pub mod Cases

@@ -1,11 +1,11 @@
 -- What is read of a lawful local has its kinds.
-use Rattle.std.proofs.Common.{◌≡◌, ℕ, zero, suc, Bool, true, false, cond, List, [], ◌∷◌, All, IsTrue, IfSome, IsSomeAnd, subst, Option, None, Some, Ok, slice_get, unwrap_or, is_none, eqb, ◌&&◌}
+use Rattle.std.proofs.Common.{◌≡◌, ℕ, zero, suc, Bool, true, false, cond, List, [], ◌∷◌, All, IsTrue, IfSome, IsSomeAnd, subst, Option, None, Some, Ok, Err, length, ◌%◌, slice_get, unwrap_or, is_none, eqb, ◌&&◌}
 use Rattle.std.proofs.lemmas.List.Elements.{All-head, All-tail, All-filter, All-weaker, filter_passes}
 use Rattle.std.proofs.lemmas.Bool.{eqb-true}
 use Rattle.std.specs.Bool.{nat_le}
 use Rattle.std.specs.List.{filter}
 use Rattle.std.specs.Option.{option_and_then, option_map, ok_or}
-use Rattle.ruby_value.specs.declared.fault.Fault.TheVariants.{Front, Reference}
+use Rattle.ruby_value.specs.declared.fault.Fault.TheVariants.{Front, Probe, Reference}
 use Rattle.ruby_value.specs.declared.kind.Kind.{Kind}
 use Rattle.ruby_value.specs.declared.message.Message.{Message}
 use Rattle.ruby_value.specs.declared.value.Ref.{Ref}
@@ -15,15 +15,18 @@ use Rattle.ctl_face.specs.declared.setup.BufferSetup.{BufferSetup}
 use Rattle.ctl_face.specs.declared.setup.TableSetup.{TableSetup}
 use Rattle.ctl_face.specs.Ctl.{InboxMessage}
 use Rattle.ctl_face.specs.FieldsIn.{fields_in}
-use Rattle.ctl_face.specs.Fits.{FitsMessage, FitsTableAt, IsLawful}
+use Rattle.ruby_value.specs.Cache.{Line}
+use Rattle.ruby_value.specs.SetOf.{set_of}
+use Rattle.ctl_face.specs.Avail.{avail, least_used_in, probe}
+use Rattle.ctl_face.specs.Fits.{FitsLine, FitsMessage, FitsTableAt, IsLawful, IsLine}
 use Rattle.ctl_face.specs.Front.{is_ready, least_message, earlier_message, message_before}
 use Rattle.ctl_face.specs.Get.{get, fields_behind}
 use Rattle.ctl_face.specs.HasKinds.{has_kinds}
 use Rattle.ctl_face.specs.LocalView.{LocalView}
 use Rattle.ctl_face.specs.Ready.{peek, front_now}
 use Rattle.ctl_face.specs.Served.{TakesField, TakesMessage}
-use Rattle.ctl_face.specs.Table.{Table}
-use Rattle.ctl_face.proofs.Lines.{parts_true}
+use Rattle.ctl_face.specs.Table.{Table, CacheTable, DirectoryTable, TbeTable, ParameterTable}
+use Rattle.ctl_face.proofs.Lines.{All-at, parts_true}
 use Rattle.ctl_face.proofs.TableCalls.{kinds_in}
 
 field_kind : (kinds : List Kind) (fields : List Value) (field : ℕ) (value : Value) → IsTrue (has_kinds kinds fields) → slice_get fields field ≡ Some value → IsSomeAnd (slice_get kinds field) (λ k. IsTrue (has_kind k value))
@@ -98,3 +101,29 @@ peek_buffer v buffer m is =
     let ready = filter (is_ready buffer v.now) v.ctl.inbox in
     let all = All-weaker (λ (o : InboxMessage). is_ready buffer v.now o ≡ true) (λ (o : InboxMessage). P o.message) (of_buffer buffer v.now) ready (filter_passes (is_ready buffer v.now) v.ctl.inbox) in
     peeked P (front_now v buffer) m (least_holds P ready all) is
+
+-- the line that a cache names for replacement is one
+first_line : (kinds : List Kind) (lines : List Line) (l : ℕ) → All (FitsLine kinds) lines → option_map (λ (x : Line). x.0) (slice_get lines 0) ≡ Some l → IsLine l
+first_line kinds [] l all is = cc
+first_line kinds (x ∷ xs) l all is =
+    let same : x.0 ≡ l = cc in
+    subst IsLine same (All-head (FitsLine kinds) x xs all).0
+
+least_used_line : (s : Option TableSetup) (t : Option Table) (line l : ℕ) → FitsTableAt s t → least_used_in t line ≡ Some l → IsLine l
+least_used_line None (Some t) line l fits is = absurd fits
+least_used_line s None line l fits is = cc
+least_used_line (Some s) (Some (CacheTable cache)) line l fits is =
+    first_line s.kinds (set_of cache line) l (All-at (FitsLine s.kinds) cache.sets (line % length cache.sets) fits.lines) is
+least_used_line (Some s) (Some (DirectoryTable d)) line l fits is = cc
+least_used_line (Some s) (Some (TbeTable t)) line l fits is = cc
+least_used_line (Some s) (Some (ParameterTable values)) line l fits is = cc
+
+probed : (b : Bool) (o : Option ℕ) (l : ℕ) → cond b (Err Probe) (ok_or o Probe) ≡ Ok l → o ≡ Some l
+probed true o l is = cc
+probed false None l is = cc
+probed false (Some x) l is = cc
+
+pub probe_line : (v : LocalView) (table line l : ℕ) → IsLawful v → probe v table line ≡ Ok l → IsLine l
+probe_line v table line l lawful is =
+    least_used_line (slice_get v.setup.tables table) (slice_get v.ctl.tables table) line l (lawful.fits.tables table)
+    (probed (avail v table line) (least_used_in (slice_get v.ctl.tables table) line) l is)

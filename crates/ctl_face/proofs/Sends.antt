@@ -26,7 +26,7 @@ use Rattle.ctl_face.specs.Latency.{is_latency}
 use Rattle.ctl_face.specs.LocalView.{LocalView}
 use Rattle.ctl_face.specs.OfMachine.{buffer_place, message_kinds}
 use Rattle.ctl_face.specs.Routing.{receiving_buffer, is_ordered}
-use Rattle.ctl_face.specs.Send.{Sending, send, sent_from, copy_limit, members_of, delivered, counted, next_copy, has_jitter, after_network_copy, network_arrival, with_network_copy, local_arrival, local_copy}
+use Rattle.ctl_face.specs.Send.{Sending, send, sent_from, copy_limit, receivers_of, delivered, counted, next_copy, has_jitter, after_network_copy, network_arrival, with_network_copy, local_arrival, local_copy}
 use Rattle.ctl_face.proofs.Cases.{Good, good_ok, good_err, good_cond}
 use Rattle.ctl_face.proofs.Inboxes.{ascend-with, all-with}
 use Rattle.ctl_face.proofs.Marks.{IsStrictlyIncreasing-with_mark}
@@ -148,7 +148,7 @@ module _ (setup : Setup) (now : ℕ) where
       each_fits network latency fields members (with_network_copy setup network latency fields now s receiver) room_then both.1 mine
       (step_fits network latency fields s receiver room_here (mine receiver both.0) fits)
 
-module _ (setup : Setup) (lawful : IsSetup setup) (network destination buffer : ℕ) (fields : List Value) (is_to : buffer_place setup buffer ≡ Some (place.To network destination)) (here : IsTrue (has_kinds (message_kinds setup buffer) fields)) where
+module _ (setup : Setup) (lawful : IsSetup setup) (network : ℕ) (destination : Option ℕ) (buffer : ℕ) (fields : List Value) (is_to : buffer_place setup buffer ≡ Some (place.To network destination)) (here : IsTrue (has_kinds (message_kinds setup buffer) fields)) where
   own_buffer_takes : (o : Option ℕ) → receiving_buffer setup.routes setup.me network ≡ o → is_some o ≡ true → TakesFields setup (unwrap_or o 0) fields
   own_buffer_takes None is there = cc
   own_buffer_takes (Some b) is there =
@@ -187,7 +187,7 @@ sent_fits (Some (place.Local ordered)) setup ctl buffer latency fields now is la
     (last_fits setup now (counted setup ctl copy) (cond ordered (map.insert ctl.local_last buffer arrival) ctl.local_last)
     (counted_fits setup now ctl (eqb setup.me setup.me) copy.message (not_above copy_limit (ctl.copies + 1) few) (λ _. own_fits setup ctl.sent buffer arrival fields takes) fits)))
 sent_fits (Some (place.To network destination)) setup ctl buffer latency fields now is lawful here fits =
-    let members = members_of (slice_get fields destination) in
+    let members = receivers_of destination fields in
     let sending = fold (with_network_copy setup network latency fields now) (record { sender = ctl; copies = [] }) members in
     let routed = list_all (λ receiver. is_some (receiving_buffer setup.routes receiver network)) members in
     let many = nat_lt copy_limit (ctl.copies + length members) in

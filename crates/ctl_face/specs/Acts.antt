@@ -1,7 +1,8 @@
 -- What the acts of a controller have done to messages: the numbers that were consumed, stalled, woken and recycled, and
--- the copies that were sent, each list in the order of the acts. It is what a journal tells of a transition, which is
+-- the copies that were sent, each list in the order of the acts; and whether the controller was told to wake again in the
+-- next cycle, as after a stall. It is what a journal tells of a transition, which is
 -- this project's own. Nothing here says that the acts are those of one transition alone.
-use Rattle.std.specs.Prelude.{ℕ, List}
+use Rattle.std.specs.Prelude.{ℕ, Bool, List}
 use Rattle.ruby_value.specs.declared.message.Message.{Message}
 use Rattle.ruby_value.specs.declared.message.MsgNo.{MsgNo}
 
@@ -16,3 +17,4 @@ pub record Acts : Type 0 where
   pub woken : List MsgNo
   pub recycled : List MsgNo
   pub sent : List Copy
+  pub again : Bool

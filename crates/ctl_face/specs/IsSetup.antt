@@ -1,6 +1,6 @@
 -- What holds of what stays as it is of a controller: each cache and TBE table has place for a line, and for no more than
--- the limits; the default fields of each table have their kinds; the receivers of a message to a network are a set of
--- controllers; the buffer that takes a network's messages at the controller itself is one from that network; buffers on
+-- the limits; the default fields of each table have their kinds; the field that names the receivers of a message to a
+-- network is a set of controllers; the buffer that takes a network's messages at the controller itself is one from that network; buffers on
 -- one network have one message type; the networks are 16; paths and jitter are within their limits.
 -- The limits are this project's own.
 use Rattle.std.specs.Prelude.{◌≡◌, ◌<◌, ◌≤◌, ◌*◌, ℕ, Option, None, Some, length, slice_get, IsTrue, IfSome}
@@ -34,7 +34,7 @@ network_count = 16
 pub record IsSetup (setup : Setup) : Type 0 where
   pub places : (table : ℕ) → IfSome (slice_get setup.tables table) (λ (s : TableSetup). HasPlaces s.size)
   pub initial : (table : ℕ) → IfSome (slice_get setup.tables table) (λ (s : TableSetup). IsTrue (has_kinds s.kinds s.initial))
-  pub receivers : (buffer network destination : ℕ) → buffer_place setup buffer ≡ Some (place.To network destination)
+  pub receivers : (buffer network destination : ℕ) → buffer_place setup buffer ≡ Some (place.To network (Some destination))
       → slice_get (message_kinds setup buffer) destination ≡ Some Dest
   pub networks : (buffer : ℕ) → IfSome (network_of (buffer_place setup buffer)) (λ network. network < network_count)
   pub own_buffers : (network buffer : ℕ) → receiving_buffer setup.routes setup.me network ≡ Some buffer

@@ -20,6 +20,7 @@ pub mod Lasts
 pub mod Latency
 pub mod LocalView
 pub mod Lookup
+pub mod MarksAhead
 pub mod OfMachine
 pub mod Opening
 pub mod Pop

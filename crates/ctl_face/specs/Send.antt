@@ -33,10 +33,15 @@ pub record Sending : Type 0 where
 abbrev pub copy_limit : ℕ
 copy_limit = 4096
 
--- the controllers that a message names, which ascend
+-- the controllers of a value, as it lists them; a set of controllers ascends
 abbrev pub members_of : Option Value → List ℕ
 members_of (Some (Dest members)) = members
 members_of _ = []
+
+-- those that the field of a message names, if it has one for them
+abbrev pub receivers_of : Option ℕ → List Value → List ℕ
+receivers_of None fields = []
+receivers_of (Some destination) fields = members_of (slice_get fields destination)
 
 -- the next copy of a controller
 abbrev pub next_copy : Setup → Ctl → ℕ → ℕ → ℕ → List Value → Copy
@@ -52,10 +57,14 @@ next_copy setup ctl receiver buffer arrival fields = record {
 }
 
 -- the controller with a message more in its inbox, for which it will wake
+abbrev pub arrived : Ctl → Message → Ctl
+arrived ctl m =
+    record ctl { inbox = with_message ctl.inbox (record { message = m; waiting = None }); marks = with_mark ctl.marks m.arrival }
+
+-- a copy comes to its sender only where that is the receiver
 abbrev pub delivered : Bool → Ctl → Message → Ctl
 delivered false ctl m = ctl
-delivered true ctl m =
-    record ctl { inbox = with_message ctl.inbox (record { message = m; waiting = None }); marks = with_mark ctl.marks m.arrival }
+delivered true ctl m = arrived ctl m
 
 -- the sender after one copy more, which it may have sent to itself
 abbrev pub counted : Setup → Ctl → Copy → Ctl
@@ -122,7 +131,7 @@ abbrev pub sent_from : Option BufferPlace → Setup → Ctl → ℕ → ℕ → 
 sent_from (Some (place.Local ordered)) setup ctl buffer latency fields now =
     if nat_lt copy_limit (ctl.copies + 1) then Err Copies else Ok (local_copy setup ordered ctl buffer latency fields now)
 sent_from (Some (place.To network destination)) setup ctl buffer latency fields now =
-    network_copies setup network (members_of (slice_get fields destination)) ctl latency fields now
+    network_copies setup network (receivers_of destination fields) ctl latency fields now
 sent_from _ setup ctl buffer latency fields now = Ok (record { sender = ctl; copies = [] })
 
 -- The latency is judged first, also where nobody is named. Nothing is sent on a buffer that only takes messages in, and

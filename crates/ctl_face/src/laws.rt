@@ -17,6 +17,8 @@ ghost use Rattle.ctl_face.specs.Fits.{Fits, IsLawful, IsLine};
 ghost use Rattle.ctl_face.specs.Get.{get};
 ghost use Rattle.ctl_face.specs.IsSetup.{IsSetup};
 ghost use Rattle.ctl_face.specs.LocalView.{LocalView};
+ghost use Rattle.ctl_face.specs.Avail.{probe};
+ghost use Rattle.ctl_face.specs.MarksAhead.{MarksAhead};
 ghost use Rattle.ctl_face.specs.Served.{TakesField, TakesMessage};
 ghost use Rattle.ctl_face.specs.Opening.{opening_ctl};
 ghost use Rattle.ctl_face.specs.Pop.{pop};
@@ -32,6 +34,14 @@ ghost use Rattle.ctl_face.specs.Wake.{wake, wake_all};
 /// Each copy that a send makes arrives after the cycle of the send.
 pub fn copies_arrive_later()
     ensures { (setup : SetupRecord) (ctl : Ctl) (buffer : ℕ) (latency : ℤ) (fields : List Value) (now : ℕ) (s : Sending) → send setup ctl buffer latency fields now ≡ Ok s → All (λ (c : Copy). now < c.message.arrival) s.copies }
+{}
+
+/// Each cycle at which a controller must wake after an act is one at which it had to before, or comes after this cycle. The
+/// acts that aren't named here leave these cycles as they are.
+pub fn marks_lie_ahead()
+    ensures again { (v : LocalView) → MarksAhead v.ctl.marks v.now (again v).ctl.marks }
+    ensures recycle { (v : LocalView) (buffer : ℕ) (latency : ℤ) (after : LocalView) → recycle v buffer latency ≡ Ok after → MarksAhead v.ctl.marks v.now after.ctl.marks }
+    ensures enqueue { (v : LocalView) (buffer : ℕ) (latency : ℤ) (fields : List Value) (after : LocalView) → enqueue v buffer latency fields ≡ Ok after → MarksAhead v.ctl.marks v.now after.ctl.marks }
 {}
 
 /// A controller as a run begins fits its machine.
@@ -61,10 +71,11 @@ pub fn message_calls_keep_what_holds()
     ensures again { (v : LocalView) → IsLawful v → IsLawful (again v) }
 {}
 
-/// What is read of a controller that fits its machine has its kinds: the value of a field is one of the field's kind, and
-/// the fields of a front are those of a message of its buffer, which is the one that was asked for.
+/// What is read of a controller that fits its machine has its kinds: the value of a field is one of the field's kind, what
+/// a cache names for replacement is a line, and the fields of a front are those of a message of its buffer, which is the one that was asked for.
 pub fn reads_have_their_kinds()
     ensures get { (v : LocalView) (r : RefRecord) (field : ℕ) (value : Value) → IsLawful v → get v r field ≡ Ok value → TakesField v r.table field value }
     ensures peek { (v : LocalView) (buffer : ℕ) (m : MessageRecord) → IsLawful v → peek v buffer ≡ Ok m → TakesMessage v m.buffer m.fields }
+    ensures probe { (v : LocalView) (table line l : ℕ) → IsLawful v → probe v table line ≡ Ok l → IsLine l }
     ensures peek_buffer { (v : LocalView) (buffer : ℕ) (m : MessageRecord) → peek v buffer ≡ Ok m → m.buffer ≡ buffer }
 {}

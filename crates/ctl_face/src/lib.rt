@@ -10,11 +10,11 @@ mod trouble;
 mod uses;
 
 pub use laws::{
-    copies_arrive_later, message_calls_keep_what_holds, opening_controllers_fit,
-    table_calls_keep_what_holds,
+    copies_arrive_later, marks_lie_ahead, message_calls_keep_what_holds, opening_controllers_fit,
+    reads_have_their_kinds, table_calls_keep_what_holds,
 };
 pub use local::Local;
 pub use routes::{Routes, Sizes};
-pub use ruby_value::{Fault, Fields, Message, NoMemory, Seq, Text};
+pub use ruby_value::{Block, Fault, Fields, Message, NoMemory, Ref, Seq, Text, Value};
 pub use setup::{BufferPlace, BufferSetup, Setup, TableSetup, TableSize};
 pub use trouble::Trouble;

@@ -1,4 +1,4 @@
-ghost use Rattle.std.specs.Prelude.{◌≡◌, ◌<◌, ◌^◌, Ok, IsTrue, IsSome, IsSomeAnd, IfOk, IfErr, OnOk, OnErr, slice_get};
+ghost use Rattle.std.specs.Prelude.{◌≡◌, ◌<◌, ◌≤◌, ◌^◌, Ok, IsTrue, IsSome, IsSomeAnd, IfOk, IfErr, OnOk, OnErr, slice_get};
 ghost use Rattle.ctl_face.specs.Again.{again};
 ghost use Rattle.ctl_face.specs.Allocate.{allocate};
 ghost use Rattle.ctl_face.specs.Avail.{avail, probe};
@@ -6,7 +6,7 @@ ghost use Rattle.ctl_face.specs.Callback.{read_back, write_back, written_back};
 ghost use Rattle.ctl_face.specs.Deallocate.{deallocate};
 ghost use Rattle.ctl_face.specs.Enqueue.{enqueue};
 ghost use Rattle.ctl_face.specs.FaultsAs.{FaultsAs};
-ghost use Rattle.ctl_face.specs.Fits.{IsLawful, IsLine};
+ghost use Rattle.ctl_face.specs.Fits.{IsLawful, IsLine, last_cycle};
 ghost use Rattle.ctl_face.specs.Free.{free};
 ghost use Rattle.ctl_face.specs.Get.{get};
 ghost use Rattle.ctl_face.specs.LocalView.{LocalView, SameSetting};
@@ -29,7 +29,8 @@ use ruby_value::{Block, Fields, Message, Ref, Value};
 /// byte addresses divided by 64, and cycles and latencies are counted in cycles.
 ///
 /// A contract sees a local as its `LocalView`: what stays as it is of the controller, the cycle, the controller, and what
-/// the acts have done to messages. Each call is the definition of its name, and its fault comes exactly where that
+/// the acts have done to messages. Each call is the definition of its name, `front` that of `peek` and `send` that of
+/// `enqueue`, and its fault comes exactly where that
 /// definition has it, unless there was no memory. After a fault or want of memory the local is as it was. A call that
 /// can't answer want of memory takes none. Which words the faults are is this project's own.
 pub trait Local {
@@ -37,7 +38,8 @@ pub trait Local {
 
     /// The cycle in which the acts are done, at most 10^12.
     fn now(&self) -> u64
-        ensures { result ≡ (view self.now).now };
+        ensures cycle { result ≡ (view self.now).now }
+        ensures bounded { result ≤ last_cycle };
 
     /// The controller's actor number.
     fn me(&self) -> u32
@@ -176,7 +178,8 @@ pub trait Local {
         ensures setting { SameSetting (view self.old) (view self.new) }
         ensures lawful { IsLawful (view self.new) };
 
-    /// Gives the front of a buffer a later arrival, which is this cycle and a latency. The fault `Latency` comes where that
+    /// Gives the front of a buffer a later arrival, which is this cycle and a latency, for which the controller will wake; it
+    /// counts as recycled from then on. The fault `Latency` comes where that
     /// is outside 1 to 1,000,000, and else `Front` where there is no front.
     fn recycle(&mut self, buffer: u16, latency: i64) -> Result<(), Trouble>
         requires served { Receives (view self.old) buffer }

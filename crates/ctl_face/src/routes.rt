@@ -4,11 +4,12 @@ use ruby_value::Seq;
 /// this project's own.
 #[derive(Debug, Drop)]
 pub struct Routes {
-    /// By sender and then receiver, how many cycles the path between them takes, at most 126,000. It is 0 to oneself.
+    /// By sender and then receiver, how many cycles the path between them takes, at most 126,000. A topology has 0 to oneself.
     pub paths: Seq<Seq<u64>>,
     /// The most cycles that a copy may be late, at most 1,000. Where it is 0, none is late and no word is drawn.
     pub jitter: u64,
-    /// By virtual network, of which there are 16, whether it keeps the order of what one controller sends to another.
+    /// By virtual network, of which there are 16, whether it keeps the order of what one controller sends to another. It
+    /// does where the topology or a buffer on it says so; whoever makes the routes joins the two.
     pub ordered: Seq<bool>,
     /// By controller and then virtual network, the number within its machine of the buffer that takes the messages of
     /// that network, where it has one.
@@ -23,7 +24,7 @@ pub struct Sizes {
     pub caches: Seq<(u16, u32, u32)>,
     /// A TBE table's number among the machine's tables, and how many lines it may hold.
     pub tbes: Seq<(u16, u32)>,
-    /// A parameter's number, and its value.
+    /// A parameter's number among the machine's parameters, and its value.
     pub parameters: Seq<(u16, i64)>,
     /// For every machine of the protocol, in the order of the text, its first controller's number and its count.
     pub machines: Seq<(u32, u32)>,

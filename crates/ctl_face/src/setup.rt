@@ -28,12 +28,21 @@ pub struct TableSetup {
 /// Where the messages of a buffer come from or go to.
 #[derive(Clone, Copy, Debug, PartialEq, Eq)]
 pub enum BufferPlace {
-    /// The controller's own: what it sends there it takes from there. An ordered one keeps the order of its sends.
-    Local { ordered: bool },
-    /// To a virtual network. The field of this number names the receivers.
-    To { network: u16, destination: u16 },
+    /// The controller's own: it takes from there what it sends there, or what a driver asks of it. An ordered one keeps the
+    /// order of its sends.
+    Local {
+        ordered: bool,
+    },
+    /// To a virtual network. The field of this number names the receivers; a message type without such a field may have a
+    /// buffer, on which nothing is sent.
+    To {
+        network: u16,
+        destination: Option<u16>,
+    },
     /// From a virtual network.
-    From { network: u16 },
+    From {
+        network: u16,
+    },
 }
 
 /// A buffer of a machine.

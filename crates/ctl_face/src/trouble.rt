@@ -5,7 +5,7 @@ use ruby_value::{Fault, NoMemory};
 /// Why an act of a controller wasn't done.
 #[derive(Debug, Drop)]
 pub enum Trouble {
-    /// The protocol's own fault, at which its transition ends.
+    /// The protocol's own fault, at which its scan ends.
     Fault(Fault),
     /// There was no memory for it.
     NoMemory,
