@@ -1,4 +1,6 @@
-ghost use Rattle.std.specs.Prelude.{◌≡◌, List, IfOk};
+ghost use Rattle.std.specs.Prelude.{◌≡◌, List, map, IfOk};
+ghost use Rattle.std.specs.BTreeMap.{IsOrdered};
+ghost use Rattle.std.specs.Ordering.{nat_cmp, ordering_then};
 ghost use Rattle.run_journal.specs.AreFinals.{AreFinals};
 ghost use Rattle.run_journal.specs.declared.entry.Entry.{Entry as EntryRecord};
 ghost use Rattle.run_journal.specs.declared.summary.Final.{Final as FinalRecord};
@@ -24,15 +26,23 @@ pub fn finals(alloc: Global, j: &Seq<Entry>) -> Result<Seq<Final>, NoMemory>
             let _before = states.insert((*controller, note.address), note.next)?;
         }
     }
-    let all: Vec<Final> = states
-        .iter()
-        .map(|(place, state)| Final {
+    listed(alloc, &states)
+}
+
+// The states that are kept under a controller and an address, in the order of these.
+fn listed(alloc: Global, states: &BTreeMap<(u32, u64), u16>) -> Result<Seq<Final>, NoMemory>
+    ensures listed { IfOk result (λ all. all ≡ map (λ e. record { controller = e.0.0; address = e.0.1; state = e.1 }) states.now.entries) }
+    ensures ordered { IsOrdered (λ p q. ordering_then (nat_cmp p.0 q.0) (nat_cmp p.1 q.1)) states.now }
+{
+    let mut all = Seq::new(alloc);
+    for (place, state) in states {
+        all.push(Final {
             controller: place.0,
             address: place.1,
             state: *state,
-        })
-        .collect(alloc)?;
-    Ok(Seq::of(all))
+        })?;
+    }
+    Ok(all)
 }
 
 /// A journal has at most one list of final states. This function does nothing: its contract is that law.

@@ -1,0 +1,2 @@
+mod FinalStates
+mod LastStates
