@@ -3,17 +3,17 @@ use Rattle.std.proofs.Common.{◌≡◌, ℕ, zero, suc, ◌<◌, ◌+◌, ◌�
 use Rattle.std.specs.declared.cmp.Ordering.{Ordering}
 use Rattle.std.specs.declared.cmp.Ordering.TheVariants.{Less, Equal, Greater}
 use Rattle.std.specs.Ordering.{nat_cmp, ordering_then}
-use Rattle.std.specs.Cmp.{IsTotalOrder, on_total, then_total, nat_cmp_total, ranked}
+use Rattle.std.specs.Cmp.{IsTotalOrder, on_total, then_total, nat_cmp_total, ranked, eq_by_cmp_equiv}
 use Rattle.std.specs.List.Sorted.{IsStrictlySortedBy}
-use Rattle.std.specs.Map.{keys_of}
-use Rattle.std.specs.BTreeMap.{BTreeMap, IsOrdered, get}
+use Rattle.std.specs.Map.{keys_of, lookup}
+use Rattle.std.specs.BTreeMap.{is_at}
 use Rattle.std.proofs.lemmas.List.Kept.{AllPairs-cons}
 use Rattle.std.proofs.lemmas.List.Elements.{All-cons, All-nil, All-contains}
 use Rattle.std.proofs.Math.ListN.{get_or-map}
 use Rattle.std.proofs.lemmas.List.{length-map}
 use Rattle.std.proofs.lemmas.Map.Lookups.{CmpEqualImpliesEq, exact_pairs, exact_unsigned}
-use Rattle.std.proofs.lemmas.Map.Views.{btree_map_get_iff, All-after_first}
-use Rattle.std.proofs.lemmas.Map.Keys.{sorted_tail}
+use Rattle.std.proofs.lemmas.Map.Views.{All-after_first, lookup-from_Contains, Contains-from_lookup, tells_apart}
+use Rattle.std.proofs.lemmas.Map.Keys.{sorted_tail, IsDistinct-from_sorted}
 use Rattle.run_journal.specs.declared.entry.Entry.{Entry}
 use Rattle.run_journal.specs.declared.summary.Final.{Final}
 use Rattle.run_journal.specs.AreFinals.{AreFinals}
@@ -21,7 +21,7 @@ use Rattle.run_journal.specs.IsBefore.{IsBefore}
 use Rattle.run_journal.specs.LastState.{last_state}
 use Rattle.run_journal.proofs.LastStates.{place_cmp}
 
-place_total : IsTotalOrder place_cmp
+pub place_total : IsTotalOrder place_cmp
 place_total = then_total (on_total (λ (p : ℕ × ℕ). p.0) nat_cmp_total) (on_total (λ (p : ℕ × ℕ). p.1) nat_cmp_total)
 
 place_exact : CmpEqualImpliesEq place_cmp
@@ -59,14 +59,14 @@ has_final : (es : List ((ℕ × ℕ) × ℕ)) (f : Final) → Contains es (entry
 has_final es f has =
     (has.0, subst (λ n. has.0 < n) (sym (length-map es final_at)) has.1, get_or-map final_at es has.0 (entry_at f) ∙ ap final_at has.2)
 
--- the entries of an ordered map that answers the last states
-pub finals_of_map : (journal : List Entry) (m : BTreeMap (ℕ × ℕ) ℕ) → IsOrdered place_cmp m → ((c a : ℕ) → get place_cmp m (c, a) ≡ last_state journal c a) → AreFinals journal (map final_at m.entries)
-finals_of_map journal m s is =
+-- entries in the order of their places, which answer the last states
+pub finals_of_entries : (journal : List Entry) (es : List ((ℕ × ℕ) × ℕ)) → IsStrictlySortedBy place_cmp (keys_of es) → ((c a : ℕ) → lookup (is_at (place_cmp (c, a))) es ≡ last_state journal c a) → AreFinals journal (map final_at es)
+finals_of_entries journal es s is =
     record {
-      ascending = ascending m.entries s;
+      ascending = ascending es s;
       exactly = λ f. (
-        λ has. sym (is f.controller f.address) ∙ (btree_map_get_iff place_total place_exact m s (f.controller, f.address) f.state).1 (has_entry m.entries f has),
-        λ left. has_final m.entries f ((btree_map_get_iff place_total place_exact m s (f.controller, f.address) f.state).0 (is f.controller f.address ∙ left)),
+        λ has. sym (is f.controller f.address) ∙ lookup-from_Contains (eq_by_cmp_equiv place_total) (f.controller, f.address) f.state es (IsDistinct-from_sorted place_cmp (keys_of es) s) (has_entry es f has),
+        λ left. has_final es f (Contains-from_lookup (tells_apart place_exact) (f.controller, f.address) f.state es (is f.controller f.address ∙ left)),
       );
     }
 

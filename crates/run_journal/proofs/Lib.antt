@@ -1,2 +1,4 @@
 mod FinalStates
 mod LastStates
+mod PartStates
+mod SomeFinals

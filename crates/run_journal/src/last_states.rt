@@ -1,9 +1,7 @@
-ghost use Rattle.std.specs.Prelude.{◌≡◌, List, map, IfOk};
+ghost use Rattle.std.specs.Prelude.{◌≡◌, map, IfOk};
 ghost use Rattle.std.specs.BTreeMap.{IsOrdered};
 ghost use Rattle.std.specs.Ordering.{nat_cmp, ordering_then};
 ghost use Rattle.run_journal.specs.AreFinals.{AreFinals};
-ghost use Rattle.run_journal.specs.declared.entry.Entry.{Entry as EntryRecord};
-ghost use Rattle.run_journal.specs.declared.summary.Final.{Final as FinalRecord};
 
 use crate::{Entry, Final, NoMemory, Seq};
 use std::alloc::Global;
@@ -44,8 +42,3 @@ fn listed(alloc: Global, states: &BTreeMap<(u32, u64), u16>) -> Result<Seq<Final
     }
     Ok(all)
 }
-
-/// A journal has at most one list of final states. This function does nothing: its contract is that law.
-pub fn finals_are_determined()
-    ensures { (journal : List EntryRecord) (a b : List FinalRecord) → AreFinals journal a → AreFinals journal b → a ≡ b }
-{}

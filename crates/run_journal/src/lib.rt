@@ -6,6 +6,7 @@
 mod entry;
 mod event;
 mod last_states;
+mod laws;
 mod parts;
 mod summary;
 #[cfg(test)]
@@ -14,7 +15,8 @@ mod verdict;
 
 pub use entry::{End, Entry, FireNote, Sent, StopAt};
 pub use event::Event;
-pub use last_states::{finals, finals_are_determined};
+pub use last_states::finals;
+pub use laws::{finals_are_one_list, finals_follow_from_parts};
 pub use parts::part;
 pub use ruby_base::{NoMemory, Seq, Text};
 pub use ruby_value::{Fault, Finding, MsgNo};

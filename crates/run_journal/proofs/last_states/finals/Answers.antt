@@ -2,7 +2,7 @@ use Rattle.std.proofs.Common.{◌≡◌, ◌+◌, ◌∙◌, ap, drop, List, Opt
 use Rattle.std.specs.BTreeMap.{get}
 use Rattle.run_journal.specs.declared.entry.Entry.{Entry}
 use Rattle.run_journal.specs.LastState.{last_state, next_state}
-use Rattle.run_journal.proofs.FinalStates.{final_at, finals_of_map, if_listed}
+use Rattle.run_journal.proofs.FinalStates.{final_at, finals_of_entries, if_listed}
 use Rattle.run_journal.proofs.LastStates.{place_cmp, takes_in, from_here, passes_over, at_end}
 use Rattle.run_journal.proofs.last_states.finals.Goals as goal
 use Rattle.run_journal.proofs.last_states.finals.Goals.{in-Fired+in_ok-_before, in_default}
@@ -23,6 +23,6 @@ loop-entry-preserved c = λ k a.
 pub returns : goal.returns
 returns c =
     if_listed c.args.j.now c.listed.result (map final_at c.loop-entry.states.entries) c.listed.ensures.listed
-    (finals_of_map c.args.j.now c.loop-entry.states c.listed.ensures.ordered (λ k a.
+    (finals_of_entries c.args.j.now c.loop-entry.states.entries c.listed.ensures.ordered (λ k a.
     at_end c.as_slice-entry-items.result.now c.loop-entry.entry-index k a (get place_cmp c.loop-entry.states (k, a)) _ c.loop-entry-test.false (c.loop-entry.invariant k a)
     ∙ ap (λ j. last_state j k a) c.as_slice-entry-items.ensures))
