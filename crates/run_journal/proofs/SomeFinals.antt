@@ -1,5 +1,5 @@
 -- Each journal has a list of final states: that of a finite map that takes in one entry after the other.
-use Rattle.std.proofs.Common.{◌≡◌, ℕ, cond, Bool, true, false, ◌&&◌, T, List, [], ◌∷◌, map, Some, None, refl, sym, ap, subst, ◌∙◌}
+use Rattle.std.proofs.Common.{◌≡◌, ℕ, cond, Bool, true, false, ◌&&◌, T, List, [], ◌∷◌, map, Some, refl, sym, ap, ◌∙◌}
 use Rattle.std.specs.declared.cmp.Ordering.{Ordering}
 use Rattle.std.specs.declared.cmp.Ordering.TheVariants.{Less, Equal, Greater}
 use Rattle.std.specs.Cmp.{eq_by_cmp_equiv}
@@ -14,7 +14,7 @@ use Rattle.run_journal.specs.declared.entry.Entry.{Entry}
 use Rattle.run_journal.specs.declared.entry.Entry.TheVariants.{Fired, Ended, Turned}
 use Rattle.run_journal.specs.declared.summary.Final.{Final}
 use Rattle.run_journal.specs.AreFinals.{AreFinals}
-use Rattle.run_journal.specs.LastState.{next_state, last_state}
+use Rattle.run_journal.specs.LastState.{next_state}
 use Rattle.run_journal.proofs.FinalStates.{place_total, final_at, finals_of_entries}
 use Rattle.run_journal.proofs.LastStates.{place_cmp, takes_in}
 

@@ -20,7 +20,7 @@ pub struct FireNote {
 #[derive(Clone, Copy, Debug, PartialEq, Eq)]
 pub struct Sent {
     pub number: MsgNo,
-    /// The controller that gets the copy.
+    /// The controller that gets the copy, which is the sender where the buffer is one of its own.
     pub receiver: u32,
     /// The number of the buffer within the receiver's machine.
     pub buffer: u16,
@@ -29,7 +29,8 @@ pub struct Sent {
 }
 
 /// Where a scan stopped, as far as it is known: the byte address, and state and event by their numbers in the
-/// controller's machine. What isn't known is `None`.
+/// controller's machine. What isn't known is `None`: all three before an event is triggered, and the state where
+/// `getState` itself stopped.
 #[derive(Debug, Drop)]
 pub struct StopAt {
     pub address: Option<u64>,
@@ -77,7 +78,8 @@ impl End {
 }
 
 /// An entry of a run's journal. The journal has one for each event but `Take` and `Release`, in their order. Cycles
-/// and controllers are counted from 0. The lists of numbers stand in the order of the acts.
+/// and controllers are counted from 0. The lists of a transition stand in the order of its acts. The journal is this
+/// project's own.
 #[derive(Debug, Drop)]
 pub enum Entry {
     /// A controller fired a transition.
@@ -91,7 +93,7 @@ pub enum Entry {
         sent: Seq<Sent>,
         /// The messages that its actions took aside under an address.
         stalled: Seq<MsgNo>,
-        /// The messages that its actions put back from under an address.
+        /// The messages that its actions put back from under an address, those of one call in increasing number.
         woken: Seq<MsgNo>,
         /// The messages that its actions gave another arrival by `recycle`.
         recycled: Seq<MsgNo>,

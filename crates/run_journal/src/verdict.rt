@@ -1,6 +1,6 @@
-/// How a run ended, one variant for each verdict line that the program prints. Each has the cycle, counted from 0, of
-/// the turn that told it. The variants stand in the order in which a turn tries them, but for a driver's findings, of
-/// which it has at most one. The verdicts are this project's own.
+/// How a run ended, one variant for each verdict line that the program prints. A run ends at a turn: `Stop` is tried
+/// first, then what the driver found, which is one of the next three, and then the others in their order. The cycle of
+/// each is that of the turn, counted from 0. The verdicts are this project's own.
 #[derive(Clone, Copy, Debug, PartialEq, Eq)]
 pub enum Verdict {
     /// A controller has stopped; of several, the one of least number.

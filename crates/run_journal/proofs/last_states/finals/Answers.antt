@@ -1,4 +1,4 @@
-use Rattle.std.proofs.Common.{◌≡◌, ◌+◌, ◌∙◌, ap, drop, List, Option, ℕ, arith, map}
+use Rattle.std.proofs.Common.{◌+◌, ◌∙◌, ap, drop, List, Option, ℕ, map}
 use Rattle.std.specs.BTreeMap.{get}
 use Rattle.run_journal.specs.declared.entry.Entry.{Entry}
 use Rattle.run_journal.specs.LastState.{last_state, next_state}
