@@ -1,6 +1,6 @@
 -- The final states of a run: for each controller and address that a transition fired for, the next state of the last
 -- such transition, by ascending controller and then address. So each pair of a controller and an address is there at
--- most once, and a journal has one such list. The list is this project's own.
+-- most once. The list is this project's own, and it has nothing for an address that no transition fired for.
 use Rattle.std.specs.Prelude.{◌≡◌, ◌↔◌, List, Some, AllPairs, Contains}
 use Rattle.run_journal.specs.declared.entry.Entry.{Entry}
 use Rattle.run_journal.specs.declared.summary.Final.{Final}

@@ -1,5 +1,6 @@
 -- The entries of a journal that are one controller's, in their order: the transitions that it fired, and the ends of
--- its wake-ups. An entry of a turn is nobody's. The journal is this project's own.
+-- its wake-ups. An entry of a turn is nobody's. The journal is this project's own; nothing here says that the entries
+-- are those of a run.
 use Rattle.std.specs.Prelude.{ℕ, Bool, false, List, ◌==◌, filter}
 use Rattle.run_journal.specs.declared.entry.Entry.{Entry}
 use Rattle.run_journal.specs.declared.entry.Entry.TheVariants.{Fired, Ended, Turned}
