@@ -1,0 +1,4 @@
+mod FinalStates
+mod LastStates
+mod PartStates
+mod SomeFinals

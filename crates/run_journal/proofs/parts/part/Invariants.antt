@@ -1,0 +1,7 @@
+use Rattle.std.proofs.Common.{◌≡◌, ◌++◌, drop}
+use Rattle.run_journal.specs.PartOf.{part_of}
+use Rattle.run_journal.proofs.parts.part.Given as goal
+
+-- what is there and what the rest of the journal gives are the whole part
+abbrev pub invariant-loop-entry : goal.invariant-loop-entry
+invariant-loop-entry l = l.entries ++ part_of l.controller (drop l.entry-index l.entry-items) ≡ part_of l.controller l.entry-items

@@ -1,0 +1,4 @@
+pub mod AreFinals
+pub mod IsBefore
+pub mod LastState
+pub mod PartOf

@@ -1,0 +1,24 @@
+//! What a run leaves behind: the events of its history, the entries of its journal, how it ended, and what is read
+//! off them. All of it is plain data. Two readings of a journal stand here: the final states, and the entries of one
+//! controller.
+#![tactic(auto)]
+
+mod entry;
+mod event;
+mod last_states;
+mod laws;
+mod parts;
+mod summary;
+#[cfg(test)]
+mod tests;
+mod verdict;
+
+pub use entry::{End, Entry, FireNote, Sent, StopAt};
+pub use event::Event;
+pub use last_states::finals;
+pub use laws::{finals_are_one_list, finals_follow_from_parts};
+pub use parts::part;
+pub use ruby_base::{NoMemory, Seq, Text};
+pub use ruby_value::{Fault, Finding, MsgNo};
+pub use summary::{Account, Final, Tally};
+pub use verdict::Verdict;
