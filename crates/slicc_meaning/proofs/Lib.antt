@@ -1,3 +1,4 @@
+mod ScansKeep
 pub mod FiredCounts
 pub mod Invalid
 pub mod InvalidRuns
