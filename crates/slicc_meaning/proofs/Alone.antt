@@ -28,8 +28,8 @@ parted [] (b ∷ before) after x y same = absurd (not_nil before after y (tail-s
 parted (z ∷ xs) [] after x y same = Earlier xs (ap (λ e. e ∷ xs) (head-same same))
 parted (z ∷ xs) (b ∷ before) after x y same =
     elim (parted xs before after x y (tail-same same)) [
-      Last is last ↦ Last (ap (λ e. e ∷ xs) (head-same same) ∙ ap (λ es. b ∷ es) is) last
-    | Earlier rest is ↦ Earlier rest (ap (λ e. e ∷ xs) (head-same same) ∙ ap (λ es. b ∷ es) is)
+      | Last is last ↦ Last (ap (λ e. e ∷ xs) (head-same same) ∙ ap (λ es. b ∷ es) is) last
+      | Earlier rest is ↦ Earlier rest (ap (λ e. e ∷ xs) (head-same same) ∙ ap (λ es. b ∷ es) is)
     ]
 
 some_same : {A : Type 0} {x y : A} → Some x ≡ Some y → x ≡ y
@@ -44,13 +44,13 @@ pub alone_more : (s : Setting) (history : List Event) (e : Event) (w : World) (j
 alone_more s history e w journal is_run alone next =
     λ before after f v told split before_run.
     elim (parted history before after e f split) [
-      Last is last ↦
-        let P : List Event → Type 0 = λ h. IsRun s h v told in
-        let here : w ≡ v = same_world s history w v journal told is_run (subst P (sym is) before_run) in
-        let Q : World → Type 0 = λ u. IsAloneEvent u e in
-        let R : Event → Type 0 = λ g. IsAloneEvent v g in
-        subst R last (subst Q here next)
-    | Earlier rest is ↦ alone before rest f v told is before_run
+      | Last is last ↦
+          let P : List Event → Type 0 = λ h. IsRun s h v told in
+          let here : w ≡ v = same_world s history w v journal told is_run (subst P (sym is) before_run) in
+          let Q : World → Type 0 = λ u. IsAloneEvent u e in
+          let R : Event → Type 0 = λ g. IsAloneEvent v g in
+          subst R last (subst Q here next)
+      | Earlier rest is ↦ alone before rest f v told is before_run
     ]
 
 pub alone_nil : (s : Setting) → IsAlone s []
