@@ -1,0 +1,6 @@
+pub mod Entries
+pub mod Mails
+pub mod NoLast
+pub mod Outcomes
+pub mod Rooms
+pub mod SentParts

@@ -1,0 +1,6 @@
+pub mod Asking
+pub mod Room
+pub mod TableCode
+pub mod TableOf
+pub mod View
+pub mod Wakes

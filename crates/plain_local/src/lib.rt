@@ -1,0 +1,28 @@
+//! A plain slow body of the calls by which a controller's acts are done: lists that are walked and written anew. It shows
+//! that what the calls promise can be kept, and the worked rows are tried on it.
+#![tactic(auto)]
+
+mod asks;
+mod callbacks;
+mod copies;
+mod fields;
+mod inbox;
+mod lasts;
+mod local;
+mod marks;
+mod messages;
+mod opening;
+mod routes;
+mod sending;
+mod table;
+mod tables;
+mod waiting;
+
+pub use asks::PlainRequests;
+pub use copies::SentCopy;
+pub use lasts::LastArrivals;
+pub use local::{Done, PlainLocal, Post};
+pub use ruby_base::{NoMemory, Seq};
+pub use sending::Outgoing;
+pub use table::PlainTable;
+pub use waiting::Waiting;
