@@ -32,7 +32,7 @@ ctl_of l = record {
 }
 
 abbrev pub acts_of : Done → Acts
-acts_of d = record { consumed = d.consumed; stalled = d.stalled; woken = d.woken; recycled = d.recycled; sent = d.sent }
+acts_of d = record { consumed = d.consumed; stalled = d.stalled; woken = d.woken; recycled = d.recycled; sent = d.sent; again = d.again }
 
 abbrev pub view_of : PlainLocal → LocalView
 view_of l = record { setup = l.setup; now = l.cycle; ctl = ctl_of l; acts = acts_of l.acts }

@@ -1,4 +1,4 @@
-ghost use Rattle.std.specs.Prelude.{◌≡◌, ◌<◌, ◌≤◌, [], ◌∷◌, ℕ, None, Some, Ok, IfOk, IfErr, OnOk, OnErr, IsTrue, true};
+ghost use Rattle.std.specs.Prelude.{◌≡◌, ◌<◌, ◌≤◌, ◌^◌, [], ◌∷◌, ℕ, None, Some, Ok, IfOk, IfErr, OnOk, OnErr, IsTrue, true};
 ghost use Rattle.ctl_face.specs.Ctl.{InboxMessage};
 ghost use Rattle.ctl_face.specs.FaultsAs.{FaultsAs};
 ghost use Rattle.ctl_face.specs.IsSetup.{IsSetup, network_count};
@@ -36,6 +36,8 @@ pub struct Done {
     pub woken: Seq<MsgNo>,
     pub recycled: Seq<MsgNo>,
     pub sent: Seq<SentCopy>,
+    /// Whether the controller was told to wake again in the next cycle.
+    pub again: bool,
 }
 
 /// A controller in whose cycle acts are done, with lists that each call walks. It shows that the promises of `Local` can
@@ -52,6 +54,7 @@ pub struct PlainLocal {
     pub(crate) stopped: bool,
     pub(crate) post: Post,
     pub(crate) acts: Done,
+    ghost early: { cycle ≤ 10 ^ 12 },
 }
 
 impl Local for PlainLocal {

@@ -125,5 +125,6 @@ pub(crate) fn again(local: &mut PlainLocal) -> Result<(), NoMemory>
     ensures setting { SameSetting (view_of local.old) (view_of local.new) }
 {
     local.post.marks = with_mark(local.alloc, local.post.marks.as_slice(), local.cycle + 1)?;
+    local.acts.again = true;
     Ok(())
 }

@@ -1,5 +1,5 @@
 // A local as a run begins, and the calls by which a test or a driver brings messages and requests and looks at it.
-ghost use Rattle.std.specs.Prelude.{◌≡◌, ◌<◌, ◌≤◌, ◌^◌, [], ◌∷◌, ◌++◌, ℕ, None, Some, Ok, IfOk, OnOk, OnErr, IsTrue, true, map, replicate, slice_get, IfSome};
+ghost use Rattle.std.specs.Prelude.{◌≡◌, ◌<◌, ◌≤◌, ◌^◌, [], ◌∷◌, ◌++◌, ℕ, None, Some, Ok, IfOk, OnOk, OnErr, IsTrue, true, false, map, replicate, slice_get, IfSome};
 ghost use Rattle.std.specs.FinMap as finite;
 ghost use Rattle.std.specs.Option.{option_map};
 ghost use Rattle.ctl_face.specs.Ctl.{InboxMessage, Requests};
@@ -59,7 +59,7 @@ fn no_messages(alloc: Global) -> Result<Post, NoMemory>
 }
 
 fn nothing_done(alloc: Global) -> Done
-    ensures { result ≡ record { consumed = []; stalled = []; woken = []; recycled = []; sent = [] } }
+    ensures { result ≡ record { consumed = []; stalled = []; woken = []; recycled = []; sent = []; again = false } }
 {
     Done {
         consumed: Seq::new(alloc),
@@ -67,6 +67,7 @@ fn nothing_done(alloc: Global) -> Done
         woken: Seq::new(alloc),
         recycled: Seq::new(alloc),
         sent: Seq::new(alloc),
+        again: false,
     }
 }
 
@@ -83,10 +84,11 @@ fn no_requests(alloc: Global, has_sequencer: bool) -> Option<PlainRequests>
 }
 
 impl PlainLocal {
-    /// The controller as a run begins, in a cycle in which nothing was done yet.
+    /// The controller as a run begins, in a cycle up to 10^12 in which nothing was done yet.
     pub fn new(alloc: Global, setup: Setup, now: u64) -> Result<PlainLocal, NoMemory>
-        requires { IsSetup setup }
-        ensures { IfOk result (λ l. view_of l ≡ record { setup = setup; now = now; ctl = opening_ctl setup; acts = record { consumed = []; stalled = []; woken = []; recycled = []; sent = [] } }) }
+        requires setup { IsSetup setup }
+        requires early { now ≤ 10 ^ 12 }
+        ensures { IfOk result (λ l. view_of l ≡ record { setup = setup; now = now; ctl = opening_ctl setup; acts = record { consumed = []; stalled = []; woken = []; recycled = []; sent = []; again = false } }) }
     {
         let tables = opening_tables(alloc, setup.tables.as_slice())?;
         let sequencer = no_requests(alloc, setup.has_sequencer);
