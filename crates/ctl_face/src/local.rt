@@ -1,4 +1,4 @@
-ghost use Rattle.std.specs.Prelude.{◌≡◌, ◌<◌, ◌≤◌, ◌^◌, Ok, IsTrue, IsSome, IsSomeAnd, IfOk, IfErr, OnOk, OnErr, slice_get};
+ghost use Rattle.std.specs.Prelude.{◌≡◌, ◌<◌, ◌^◌, Ok, IsTrue, IsSome, IsSomeAnd, IfOk, IfErr, OnOk, OnErr, slice_get};
 ghost use Rattle.ctl_face.specs.Again.{again};
 ghost use Rattle.ctl_face.specs.Allocate.{allocate};
 ghost use Rattle.ctl_face.specs.Avail.{avail, probe};
@@ -6,7 +6,7 @@ ghost use Rattle.ctl_face.specs.Callback.{read_back, write_back, written_back};
 ghost use Rattle.ctl_face.specs.Deallocate.{deallocate};
 ghost use Rattle.ctl_face.specs.Enqueue.{enqueue};
 ghost use Rattle.ctl_face.specs.FaultsAs.{FaultsAs};
-ghost use Rattle.ctl_face.specs.Fits.{IsLawful, IsLine, last_cycle};
+ghost use Rattle.ctl_face.specs.Fits.{IsLawful, IsLine};
 ghost use Rattle.ctl_face.specs.Free.{free};
 ghost use Rattle.ctl_face.specs.Get.{get};
 ghost use Rattle.ctl_face.specs.LocalView.{LocalView, SameSetting};
@@ -36,10 +36,9 @@ use ruby_value::{Block, Fields, Message, Ref, Value};
 pub trait Local {
     ghost view: { Self → LocalView };
 
-    /// The cycle in which the acts are done, at most 10^12.
+    /// The cycle in which the acts are done. That of a lawful local is at most 10^12.
     fn now(&self) -> u64
-        ensures cycle { result ≡ (view self.now).now }
-        ensures bounded { result ≤ last_cycle };
+        ensures { result ≡ (view self.now).now };
 
     /// The controller's actor number.
     fn me(&self) -> u32

@@ -1,4 +1,4 @@
-ghost use Rattle.std.specs.Prelude.{◌≡◌, ◌<◌, ◌≤◌, ◌^◌, [], ◌∷◌, ℕ, None, Some, Ok, IfOk, IfErr, OnOk, OnErr, IsTrue, true};
+ghost use Rattle.std.specs.Prelude.{◌≡◌, ◌<◌, ◌≤◌, [], ◌∷◌, ℕ, None, Some, Ok, IfOk, IfErr, OnOk, OnErr, IsTrue, true};
 ghost use Rattle.ctl_face.specs.Ctl.{InboxMessage};
 ghost use Rattle.ctl_face.specs.FaultsAs.{FaultsAs};
 ghost use Rattle.ctl_face.specs.IsSetup.{IsSetup, network_count};
@@ -54,7 +54,6 @@ pub struct PlainLocal {
     pub(crate) stopped: bool,
     pub(crate) post: Post,
     pub(crate) acts: Done,
-    ghost early: { cycle ≤ 10 ^ 12 },
 }
 
 impl Local for PlainLocal {

@@ -84,10 +84,9 @@ fn no_requests(alloc: Global, has_sequencer: bool) -> Option<PlainRequests>
 }
 
 impl PlainLocal {
-    /// The controller as a run begins, in a cycle up to 10^12 in which nothing was done yet.
+    /// The controller as a run begins, in a cycle in which nothing was done yet.
     pub fn new(alloc: Global, setup: Setup, now: u64) -> Result<PlainLocal, NoMemory>
-        requires setup { IsSetup setup }
-        requires early { now ≤ 10 ^ 12 }
+        requires { IsSetup setup }
         ensures { IfOk result (λ l. view_of l ≡ record { setup = setup; now = now; ctl = opening_ctl setup; acts = record { consumed = []; stalled = []; woken = []; recycled = []; sent = []; again = false } }) }
     {
         let tables = opening_tables(alloc, setup.tables.as_slice())?;
