@@ -26,8 +26,8 @@ module _ (setup : Setup) (network latency : ℕ) (fields : List Value) (now : �
       → ◌≡◌ {A = Sending} (record { sender = second; copies = copies }) (with_network_copy setup network latency fields now s receiver)
   one_more a b copy first second copies is_a is_b is_copy is_first is_second is_copies =
       let all : ◌≡◌ {A = Sending} (record { sender = second; copies = copies }) (with_copy a copy) =
-          ap (λ (c : Ctl). record { sender = c; copies = copies }) (is_second ∙ ap (λ (c : Ctl). after_network_copy setup c network receiver a) is_first)
-          ∙ ap (λ (cs : List Copy). record { sender = after_network_copy setup (counted setup s.sender copy) network receiver a; copies = cs }) is_copies in
+      ap (λ (c : Ctl). record { sender = c; copies = copies }) (is_second ∙ ap (λ (c : Ctl). after_network_copy setup c network receiver a) is_first)
+      ∙ ap (λ (cs : List Copy). record { sender = after_network_copy setup (counted setup s.sender copy) network receiver a; copies = cs }) is_copies in
       all ∙ ap (with_copy a) (sym is_copy)
       ∙ ap (λ (x : ℕ). with_copy x (next_copy setup s.sender receiver b x fields)) is_a
       ∙ ap (λ (y : ℕ). with_copy (network_arrival setup s.sender network latency now receiver) (next_copy setup s.sender receiver y (network_arrival setup s.sender network latency now receiver) fields)) is_b
@@ -50,7 +50,7 @@ module _ (setup : Setup) (ordered : Bool) (ctl : Ctl) (buffer latency : ℕ) (fi
       → ◌≡◌ {A = Sending} (record { sender = record first { local_last = cond ordered (map.insert ctl.local_last buffer a) ctl.local_last }; copies = copies }) (local_copy setup ordered ctl buffer latency fields now)
   own_one a copy first copies is_a is_copy is_first is_copies =
       let all : ◌≡◌ {A = Sending} (record { sender = record first { local_last = cond ordered (map.insert ctl.local_last buffer a) ctl.local_last }; copies = copies }) (with_own a copy) =
-          ap (λ (c : Ctl). record { sender = record c { local_last = cond ordered (map.insert ctl.local_last buffer a) ctl.local_last }; copies = copies }) is_first
-          ∙ ap (λ (cs : List Copy). record { sender = record (counted setup ctl copy) { local_last = cond ordered (map.insert ctl.local_last buffer a) ctl.local_last }; copies = cs }) is_copies in
+      ap (λ (c : Ctl). record { sender = record c { local_last = cond ordered (map.insert ctl.local_last buffer a) ctl.local_last }; copies = copies }) is_first
+      ∙ ap (λ (cs : List Copy). record { sender = record (counted setup ctl copy) { local_last = cond ordered (map.insert ctl.local_last buffer a) ctl.local_last }; copies = cs }) is_copies in
       all ∙ ap (with_own a) (sym is_copy)
       ∙ ap (λ (x : ℕ). with_own x (next_copy setup ctl setup.me buffer x fields)) is_a

@@ -69,11 +69,7 @@ pub(crate) fn read_back(local: &mut PlainLocal, line: u64, block: Block) -> Resu
     Ok(())
 }
 
-pub(crate) fn write_back(
-    local: &mut PlainLocal,
-    line: u64,
-    block: Block,
-) -> Result<Block, Trouble>
+pub(crate) fn write_back(local: &mut PlainLocal, line: u64, block: Block) -> Result<Block, Trouble>
     ensures ok { OnOk result (write_back_of (view_of local.old) line block ≡ Ok (view_of local.new)) }
     ensures block { IfOk result (λ b. b ≡ written_back (view_of local.old) line block) }
     ensures fault { IfErr result (FaultsAs (write_back_of (view_of local.old) line block)) }

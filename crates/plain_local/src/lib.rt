@@ -4,6 +4,7 @@
 
 mod asks;
 mod callbacks;
+mod checks;
 mod copies;
 mod fields;
 mod inbox;
@@ -19,6 +20,7 @@ mod tables;
 mod waiting;
 
 pub use asks::PlainRequests;
+pub use checks::{has_places, have_places};
 pub use copies::SentCopy;
 pub use lasts::LastArrivals;
 pub use local::{Done, PlainLocal, Post};

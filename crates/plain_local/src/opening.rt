@@ -1,9 +1,10 @@
 // A local as a run begins, and the calls by which a test or a driver brings messages and requests and looks at it.
 ghost use Rattle.std.specs.Prelude.{◌≡◌, ◌<◌, ◌≤◌, ◌^◌, [], ◌∷◌, ◌++◌, ℕ, None, Some, Ok, IfOk, OnOk, OnErr, IsTrue, true, false, map, replicate, slice_get, IfSome};
 ghost use Rattle.std.specs.FinMap as finite;
+ghost use Rattle.std.specs.List.{All};
 ghost use Rattle.std.specs.Option.{option_map};
 ghost use Rattle.ctl_face.specs.Ctl.{InboxMessage, Requests};
-ghost use Rattle.ctl_face.specs.IsSetup.{HasPlaces, IsSetup, network_count};
+ghost use Rattle.ctl_face.specs.IsSetup.{HasPlaces, network_count};
 ghost use Rattle.ctl_face.specs.LocalView.{LocalView};
 ghost use Rattle.ctl_face.specs.Opening.{opening_ctl, opening_table, no_requests as no_requests_of};
 ghost use Rattle.ctl_face.specs.Send.{delivered};
@@ -18,13 +19,13 @@ use crate::lasts::LastArrivals;
 use crate::local::{Done, PlainLocal, Post};
 use crate::marks::with_mark;
 use crate::table::PlainTable;
-use crate::{NoMemory, Seq, SentCopy, Waiting};
+use crate::{NoMemory, SentCopy, Seq, Waiting};
 use ctl_face::{Setup, TableSetup};
 use ruby_value::{Answer, Asked, LineMap, Message, MsgNo};
 use std::alloc::Global;
 
 fn opening_tables(alloc: Global, tables: &[TableSetup]) -> Result<Vec<PlainTable>, NoMemory>
-    requires { (i : ℕ) → IfSome (slice_get tables.now i) (λ (s : TableSetupRecord). HasPlaces s.size) }
+    requires { All (λ (s : TableSetupRecord). HasPlaces s.size) tables.now }
     ensures { IfOk result (λ all. all.items ≡ map (λ (s : TableSetupRecord). opening_table s.size s.initial) tables.now) }
 {
     let mut all = Vec::new(alloc);
@@ -86,8 +87,13 @@ fn no_requests(alloc: Global, has_sequencer: bool) -> Option<PlainRequests>
 impl PlainLocal {
     /// The controller as a run begins, in a cycle in which nothing was done yet.
     pub fn new(alloc: Global, setup: Setup, now: u64) -> Result<PlainLocal, NoMemory>
+<<<<<<< HEAD
         requires { IsSetup setup }
         ensures { IfOk result (λ l. view_of l ≡ record { setup = setup; now = now; ctl = opening_ctl setup; acts = record { consumed = []; stalled = []; woken = []; recycled = []; sent = []; again = false } }) }
+=======
+        requires { All (λ (s : TableSetupRecord). HasPlaces s.size) setup.tables }
+        ensures { IfOk result (λ l. view_of l ≡ record { setup = setup; now = now; ctl = opening_ctl setup; acts = record { consumed = []; stalled = []; woken = []; recycled = []; sent = [] } }) }
+>>>>>>> 4b98f5b9f07b0cc5473db6234ef5c1e725cab1ea
     {
         let tables = opening_tables(alloc, setup.tables.as_slice())?;
         let sequencer = no_requests(alloc, setup.has_sequencer);

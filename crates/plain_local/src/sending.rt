@@ -19,7 +19,7 @@ use crate::local::{PlainLocal, Post};
 use crate::marks::with_mark;
 use crate::messages::latency_of;
 use crate::routes::{buffer_place, is_ordered, path_to, receiving_buffer};
-use crate::{NoMemory, Seq, SentCopy, Waiting, inbox};
+use crate::{NoMemory, SentCopy, Seq, Waiting, inbox};
 use ctl_face::{BufferPlace, Routes, Trouble};
 use pcg_words::Words;
 use ruby_value::{Fault, Fields, Message, MsgNo, Value};
@@ -364,8 +364,19 @@ fn sent_from(
             }
             Ok(local_copy(local, ordered, buffer, latency, fields)?)
         }
-        Some(BufferPlace::To { network, destination }) => {
-            network_copies(local, network, receivers(fields, destination), latency, fields)
+        Some(
+            BufferPlace::To {
+                network,
+                destination,
+            },
+        ) => {
+            network_copies(
+                local,
+                network,
+                receivers(fields, destination),
+                latency,
+                fields,
+            )
         }
         _ => Ok(Outgoing {
             post: local.post.copied(local.alloc)?,
@@ -391,7 +402,11 @@ pub(crate) fn send(
         return Err(Trouble::Fault(Fault::Latency));
     };
     let out = sent_from(local, buffer, later, fields)?;
-    let sent = joined(local.alloc, local.acts.sent.as_slice(), out.copies.as_slice())?;
+    let sent = joined(
+        local.alloc,
+        local.acts.sent.as_slice(),
+        out.copies.as_slice(),
+    )?;
     local.acts.sent = sent;
     local.post = out.post;
     Ok(())
