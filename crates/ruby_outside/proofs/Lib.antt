@@ -1,3 +1,4 @@
 pub mod Counts
 pub mod Growth
 pub mod Puts
+pub mod Whole

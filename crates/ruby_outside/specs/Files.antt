@@ -36,6 +36,14 @@ IsWithin limit TooLarge = Unit {0}
 IsWithin limit Failed = Unit {0}
 IsWithin limit NoMemory = Unit {0}
 
+-- an answer to a read, of no more than so many bytes, of a file that has these bytes
+abbrev pub IsReadOf : List ℕ → ℕ → Got → Type 0
+IsReadOf bytes limit (Bytes read) = (read ≡ bytes) × (length bytes ≤ limit)
+IsReadOf bytes limit Absent = ⊥
+IsReadOf bytes limit TooLarge = limit < length bytes
+IsReadOf bytes limit Failed = Unit {0}
+IsReadOf bytes limit NoMemory = Unit {0}
+
 -- the count of faults of a library after it gave this answer
 abbrev pub count_after : Got → ℕ → ℕ
 count_after (Bytes bytes) faults = faults

@@ -1,6 +1,6 @@
-ghost use Rattle.std.specs.Prelude.{◌≡◌, ◌<◌, ◌≤◌, ℕ, List, Option, None, length};
+ghost use Rattle.std.specs.Prelude.{◌≡◌, ◌<◌, ◌≤◌, ℕ, List, Option, None, IfSome, length};
 ghost use Rattle.ruby_outside.specs.Faults.{Rose};
-ghost use Rattle.ruby_outside.specs.Files.{IsCountedRead, IsWithin};
+ghost use Rattle.ruby_outside.specs.Files.{IsCountedRead, IsReadOf, IsWithin};
 ghost use Rattle.ruby_outside.specs.Sink.{IsCountedWrite, bytes_taken};
 
 use crate::{Got, Library, Sink, Wrote};
@@ -73,8 +73,10 @@ fn read_file<R: Files>(alloc: Global, runtime: &R, name: &str, limit: u64) -> Go
 }
 
 /// Reads what a reader has left, one byte past the limit at most.
+#[tactic(auto, using(crate::proofs::Whole::all_taken, crate::proofs::Whole::all_counted))]
 fn read_whole<F: Read + Drop>(alloc: Global, file: F, limit: u64) -> Got
-    ensures { IsWithin limit result }
+    ensures within { IsWithin limit result }
+    ensures told { IfSome (F.remaining file) (λ bytes. IsReadOf bytes limit result) }
 {
     let mut bytes = Vec::new(alloc);
     match file.take(limit.saturating_add(1)).read_to_end(&mut bytes) {
