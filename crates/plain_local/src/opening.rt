@@ -87,13 +87,8 @@ fn no_requests(alloc: Global, has_sequencer: bool) -> Option<PlainRequests>
 impl PlainLocal {
     /// The controller as a run begins, in a cycle in which nothing was done yet.
     pub fn new(alloc: Global, setup: Setup, now: u64) -> Result<PlainLocal, NoMemory>
-<<<<<<< HEAD
-        requires { IsSetup setup }
-        ensures { IfOk result (λ l. view_of l ≡ record { setup = setup; now = now; ctl = opening_ctl setup; acts = record { consumed = []; stalled = []; woken = []; recycled = []; sent = []; again = false } }) }
-=======
         requires { All (λ (s : TableSetupRecord). HasPlaces s.size) setup.tables }
-        ensures { IfOk result (λ l. view_of l ≡ record { setup = setup; now = now; ctl = opening_ctl setup; acts = record { consumed = []; stalled = []; woken = []; recycled = []; sent = [] } }) }
->>>>>>> 4b98f5b9f07b0cc5473db6234ef5c1e725cab1ea
+        ensures { IfOk result (λ l. view_of l ≡ record { setup = setup; now = now; ctl = opening_ctl setup; acts = record { consumed = []; stalled = []; woken = []; recycled = []; sent = []; again = false } }) }
     {
         let tables = opening_tables(alloc, setup.tables.as_slice())?;
         let sequencer = no_requests(alloc, setup.has_sequencer);
