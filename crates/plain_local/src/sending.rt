@@ -8,12 +8,11 @@ ghost use Rattle.ctl_face.specs.Lasts.{last_at, lasts_on, with_last as with_last
 ghost use Rattle.ctl_face.specs.LocalView.{SameSetting};
 ghost use Rattle.ctl_face.specs.OfMachine.{buffer_place as buffer_place_of};
 ghost use Rattle.ctl_face.specs.Routing.{receiving_buffer as receiving_buffer_of, path_to as path_to_of, is_ordered as is_ordered_of};
-ghost use Rattle.ctl_face.specs.Send.{copy_limit, counted as counted_of, after_network_copy as after_network_copy_of, local_arrival as local_arrival_of, local_copy as local_copy_of, network_arrival as network_arrival_of, network_copies as network_copies_of, next_copy, next_jitter as next_jitter_of, sent_from as sent_from_of, with_network_copy as with_network_copy_of};
+ghost use Rattle.ctl_face.specs.Send.{copy_limit, counted as counted_of, after_network_copy as after_network_copy_of, local_arrival as local_arrival_of, local_copy as local_copy_of, members_of, network_arrival as network_arrival_of, network_copies as network_copies_of, next_copy, next_jitter as next_jitter_of, receivers_of, sent_from as sent_from_of, with_network_copy as with_network_copy_of};
 ghost use Rattle.plain_local.specs.Room.{CanSend, CountsMore, HasRoom, HasTime};
 ghost use Rattle.plain_local.specs.View.{view_of, ctl_of, ctl_with, sending_of};
 
 use crate::copies::joined;
-use crate::fields::receivers;
 use crate::inbox::with_message;
 use crate::lasts::LastArrivals;
 use crate::local::{PlainLocal, Post};
@@ -23,7 +22,7 @@ use crate::routes::{buffer_place, is_ordered, path_to, receiving_buffer};
 use crate::{NoMemory, SentCopy, Seq, Waiting, inbox};
 use ctl_face::{BufferPlace, Routes, Trouble};
 use pcg_words::Words;
-use ruby_value::{Fault, Fields, Message, MsgNo};
+use ruby_value::{Fault, Fields, Message, MsgNo, Value};
 use std::alloc::Global;
 use std::cmp::max;
 
@@ -61,6 +60,26 @@ fn with_copy(
 {
     copies.push(SentCopy::new(receiver, message.clone()?))?;
     Ok(copies)
+}
+
+// The controllers of a value.
+fn members(fields: &Fields, destination: u16) -> &[u32]
+    ensures { result.now ≡ members_of (slice_get fields.now destination) }
+{
+    match fields.get(destination) {
+        Some(Value::Dest(members)) => members.as_slice(),
+        _ => &[],
+    }
+}
+
+// Those that the field of a message names, if its type has one for them.
+fn receivers(fields: &Fields, destination: Option<u16>) -> &[u32]
+    ensures { result.now ≡ receivers_of destination fields.now }
+{
+    match destination {
+        None => &[],
+        Some(place) => members(fields, place),
+    }
 }
 
 // The next copy of the controller.
