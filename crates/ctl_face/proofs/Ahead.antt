@@ -1,5 +1,5 @@
 -- The marks that an act sets lie ahead.
-use Rattle.std.proofs.Common.{◌≡◌, ◌<◌, ◌⊎◌, inl, inr, ℕ, ℤ, ◌+◌, Bool, true, false, cond, not, Option, None, Some, List, [], ◌∷◌, Result, Ok, Err, nat_abs, All, refl, subst, arith, length, is_some, unwrap_or, slice_get}
+use Rattle.std.proofs.Common.{◌≡◌, ◌<◌, ◌⊎◌, inl, inr, ℕ, ℤ, ◌+◌, Bool, true, false, cond, not, Option, None, Some, List, [], ◌∷◌, Result, Ok, Err, nat_abs, refl, arith, length, is_some, unwrap_or}
 use Rattle.std.proofs.lemmas.List.Elements.{All-append, All-cons, All-filter, All-contains_itself, All-weaker}
 use Rattle.std.specs.Bool.{nat_lt}
 use Rattle.std.specs.List.{fold, list_all, Contains}

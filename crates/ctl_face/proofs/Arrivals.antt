@@ -1,5 +1,5 @@
 -- Each copy that a send makes arrives after the cycle of the send.
-use Rattle.std.proofs.Common.{◌≡◌, ℕ, ℤ, pos, negsuc, ◌+◌, ◌<◌, Bool, true, false, cond, not, max, List, [], ◌∷◌, Option, Some, None, Ok, Err, nat_abs, All, arith, unwrap_or, length, is_some, slice_get}
+use Rattle.std.proofs.Common.{◌≡◌, ℕ, ℤ, pos, negsuc, ◌+◌, ◌<◌, Bool, true, false, cond, not, max, List, [], ◌∷◌, Option, Some, None, Ok, Err, nat_abs, All, arith, unwrap_or, length, is_some}
 use Rattle.std.proofs.lemmas.List.Elements.{All-nil, All-cons, All-push}
 use Rattle.std.specs.Bool.{nat_lt}
 use Rattle.std.specs.List.{fold, list_all}

@@ -9,6 +9,8 @@ pub mod Maps
 pub mod Marks
 pub mod Opened
 pub mod Ordered
+pub mod OwnBuffers
+pub mod Paths
 pub mod Reading
 pub mod Sends
 pub mod TableCalls

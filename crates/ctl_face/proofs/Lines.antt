@@ -36,6 +36,12 @@ module _ {X : Type 0} (P : ℕ × X → Type 0) where
         | false ↦ λ other. lookup_holds line xs (All-tail P x xs all)
       ] refl
 
+-- what holds of each element holds of the one at a place, if there is one
+pub All-found : {X : Type 0} (P : X → Type 0) (xs : List X) (place : ℕ) → All P xs → IfSome (slice_get xs place) P
+All-found P [] place all = tt
+All-found P (x ∷ xs) zero all = All-head P x xs all
+All-found P (x ∷ xs) (suc place) all = All-found P xs place (All-tail P x xs all)
+
 pub All-at : {X : Type 0} (P : X → Type 0) (lists : List (List X)) (place : ℕ) → All (All P) lists → All P (unwrap_or (slice_get lists place) [])
 All-at P [] place all = All-nil P
 All-at P (xs ∷ lists) zero all = All-head (All P) xs lists all

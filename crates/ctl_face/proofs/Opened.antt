@@ -1,7 +1,7 @@
 -- A controller as a run begins fits its machine.
 use Rattle.std.proofs.Common.{◌≡◌, ℕ, zero, suc, ◌≤◌, Bool, true, false, List, [], ◌∷◌, map, All, IsTrue, IfSome, refl, arith, slice_get}
 use Rattle.std.proofs.lemmas.List.{length-replicate}
-use Rattle.std.proofs.lemmas.List.Elements.{All-nil, All-replicate}
+use Rattle.std.proofs.lemmas.List.Elements.{All-nil, All-head, All-tail, All-replicate}
 use Rattle.std.specs.FinMap.{empty, get, get-empty, len-empty}
 use Rattle.std.specs.Ordering.{nat_cmp}
 use Rattle.ruby_value.specs.declared.asked.Answer.{Answer}
@@ -17,7 +17,7 @@ use Rattle.ctl_face.specs.Ctl.{InboxMessage}
 use Rattle.ctl_face.specs.Fits.{Fits, FitsLine, FitsLines, FitsMessage, FitsSequencer, FitsTableAt, IsLine, IsOfSize, IsRequest}
 use Rattle.ctl_face.specs.HasKinds.{has_kinds}
 use Rattle.ctl_face.specs.Inbox.{number_before}
-use Rattle.ctl_face.specs.IsSetup.{HasPlaces, IsSetup, network_count}
+use Rattle.ctl_face.specs.IsSetup.{HasPlaces, IsSetup, IsTableSetup, network_count}
 use Rattle.ctl_face.specs.Opening.{opening_table, no_requests, opening_ctl}
 use Rattle.ctl_face.proofs.Ordered.{AllPairs-nil}
 
@@ -36,11 +36,12 @@ opened_lines size.Directory kinds initial here = (here, none_kept (λ line field
 opened_lines (size.Tbe entries) kinds initial here = none_kept (λ line fields. FitsLine kinds (line, fields))
 opened_lines size.Parameters kinds initial here = here
 
-opened_fits : (tables : List TableSetup) → ((j : ℕ) → IfSome (slice_get tables j) (λ (s : TableSetup). HasPlaces s.size)) → ((j : ℕ) → IfSome (slice_get tables j) (λ (s : TableSetup). IsTrue (has_kinds s.kinds s.initial)))
-    → (j : ℕ) → FitsTableAt (slice_get tables j) (slice_get (map (λ (s : TableSetup). opening_table s.size s.initial) tables) j)
-opened_fits [] places initial j = tt
-opened_fits (s ∷ tables) places initial zero = record { size = opened_size s.size s.initial (places 0); lines = opened_lines s.size s.kinds s.initial (initial 0) }
-opened_fits (s ∷ tables) places initial (suc j) = opened_fits tables (λ k. places (suc k)) (λ k. initial (suc k)) j
+opened_fits : (tables : List TableSetup) → All IsTableSetup tables → (j : ℕ) → FitsTableAt (slice_get tables j) (slice_get (map (λ (s : TableSetup). opening_table s.size s.initial) tables) j)
+opened_fits [] all j = tt
+opened_fits (s ∷ tables) all zero =
+    let first = All-head IsTableSetup s tables all in
+    record { size = opened_size s.size s.initial first.places; lines = opened_lines s.size s.kinds s.initial first.initial }
+opened_fits (s ∷ tables) all (suc j) = opened_fits tables (All-tail IsTableSetup s tables all) j
 
 no_requests_fit : (has : Bool) → FitsSequencer has (no_requests has)
 no_requests_fit false = tt
@@ -50,9 +51,9 @@ no_requests_fit true = record {
   finished_ascend = AllPairs-nil (λ (a b : Answer). a.asked.line ≤ b.asked.line);
 }
 
-pub opening_fits : (setup : Setup) → IsSetup setup → Fits setup (opening_ctl setup) 0
-opening_fits setup lawful = record {
-  tables = opened_fits setup.tables lawful.places lawful.initial;
+pub opening_fits : (setup : Setup) (now : ℕ) → IsSetup setup → Fits setup (opening_ctl setup) now
+opening_fits setup now lawful = record {
+  tables = opened_fits setup.tables lawful.tables;
   states = none_kept (λ line state. IsLine line);
   inbox_ascends = AllPairs-nil (λ (a b : InboxMessage). IsTrue (number_before a.message.number b.message.number));
   messages = All-nil (FitsMessage setup 0);

@@ -1,5 +1,5 @@
 -- What holds of a lawful controller holds after a send.
-use Rattle.std.proofs.Common.{◌≡◌, ℕ, ℤ, ◌+◌, ◌*◌, ◌≤◌, Bool, true, false, cond, not, ◌&&◌, eqb, List, [], ◌∷◌, length, IsTrue, IsSomeAnd, refl, sym, ap, subst, ◌∙◌, arith, Option, None, Some, Result, Ok, Err, nat_abs, is_some, slice_get, unwrap_or}
+use Rattle.std.proofs.Common.{◌≡◌, ℕ, ℤ, ◌+◌, ◌*◌, ◌≤◌, Bool, true, false, cond, not, ◌&&◌, eqb, List, [], ◌∷◌, length, All, IsTrue, IfSome, IsSomeAnd, refl, sym, ap, subst, ◌∙◌, arith, Option, None, Some, Result, Ok, Err, nat_abs, is_some, slice_get, unwrap_or}
 use Rattle.std.proofs.lemmas.Bool.{eqb-true}
 use Rattle.std.proofs.lemmas.List.{length-set}
 use Rattle.std.proofs.lemmas.List.Elements.{All-weaker}
@@ -20,7 +20,7 @@ use Rattle.ctl_face.specs.Ctl.{Ctl, InboxMessage}
 use Rattle.ctl_face.specs.Enqueue.{enqueue, after_sending}
 use Rattle.ctl_face.specs.Fits.{Fits, FitsMessage, IsLawful}
 use Rattle.ctl_face.specs.HasKinds.{has_kinds}
-use Rattle.ctl_face.specs.IsSetup.{IsSetup, network_count, network_of}
+use Rattle.ctl_face.specs.IsSetup.{AgreeOnType, IsFrom, IsSetup, network_count, network_of}
 use Rattle.ctl_face.specs.Lasts.{Lasts, with_last}
 use Rattle.ctl_face.specs.Latency.{is_latency}
 use Rattle.ctl_face.specs.LocalView.{LocalView}
@@ -29,6 +29,7 @@ use Rattle.ctl_face.specs.Routing.{receiving_buffer, is_ordered}
 use Rattle.ctl_face.specs.Send.{Sending, send, sent_from, copy_limit, receivers_of, delivered, counted, next_copy, has_jitter, after_network_copy, network_arrival, with_network_copy, local_arrival, local_copy}
 use Rattle.ctl_face.proofs.Cases.{Good, good_ok, good_err, good_cond}
 use Rattle.ctl_face.proofs.Inboxes.{ascend-with, all-with}
+use Rattle.ctl_face.proofs.Lines.{All-found}
 use Rattle.ctl_face.proofs.Marks.{IsStrictlyIncreasing-with_mark}
 
 -- the buffer is there, and its messages have these fields
@@ -148,12 +149,34 @@ module _ (setup : Setup) (now : ℕ) where
       each_fits network latency fields members (with_network_copy setup network latency fields now s receiver) room_then both.1 mine
       (step_fits network latency fields s receiver room_here (mine receiver both.0) fits)
 
+found_pair : (s : Option BufferSetup) (buffers : List BufferSetup) (b : ℕ) → IfSome s (λ x. All (AgreeOnType x) buffers) → IfSome s (λ x. IfSome (slice_get buffers b) (AgreeOnType x))
+found_pair None buffers b all = tt
+found_pair (Some x) buffers b all = All-found (AgreeOnType x) buffers b all
+
+agreed : (s t : Option BufferSetup) (p q : BufferPlace) (network : ℕ) → option_map (λ (x : BufferSetup). x.place) s ≡ Some p → option_map (λ (x : BufferSetup). x.place) t ≡ Some q → network_of p ≡ Some network → network_of q ≡ Some network
+    → IfSome s (λ x. IfSome t (AgreeOnType x)) → unwrap_or (option_map (λ (x : BufferSetup). x.kinds) s) [] ≡ unwrap_or (option_map (λ (x : BufferSetup). x.kinds) t) []
+agreed None t p q network is_p is_q on_p on_q agree = cc
+agreed (Some x) None p q network is_p is_q on_p on_q agree = cc
+agreed (Some x) (Some y) p q network is_p is_q on_p on_q agree =
+    let same_p : x.place ≡ p = cc in
+    let same_q : y.place ≡ q = cc in
+    agree network (ap network_of same_p ∙ on_p) (ap network_of same_q ∙ on_q)
+
+-- two buffers on one network have one message type
+same_kinds : (setup : Setup) → IsSetup setup → (a b : ℕ) (p q : BufferPlace) (network : ℕ) → buffer_place setup a ≡ Some p → buffer_place setup b ≡ Some q → network_of p ≡ Some network → network_of q ≡ Some network
+    → message_kinds setup a ≡ message_kinds setup b
+same_kinds setup lawful a b p q network is_p is_q on_p on_q =
+    let s = slice_get setup.buffers a in
+    let all = All-found (λ x. All (AgreeOnType x) setup.buffers) setup.buffers a lawful.one_type.one_type in
+    agreed s (slice_get setup.buffers b) p q network is_p is_q on_p on_q (found_pair s setup.buffers b all)
+
 module _ (setup : Setup) (lawful : IsSetup setup) (network : ℕ) (destination : Option ℕ) (buffer : ℕ) (fields : List Value) (is_to : buffer_place setup buffer ≡ Some (place.To network destination)) (here : IsTrue (has_kinds (message_kinds setup buffer) fields)) where
   own_buffer_takes : (o : Option ℕ) → receiving_buffer setup.routes setup.me network ≡ o → is_some o ≡ true → TakesFields setup (unwrap_or o 0) fields
   own_buffer_takes None is there = cc
   own_buffer_takes (Some b) is there =
-      let from = lawful.own_buffers network b is in
-      let same : message_kinds setup b ≡ message_kinds setup buffer = lawful.one_type b buffer network (ap network_of from) (ap network_of is_to) in
+      let P : Option ℕ → Type 0 = IsFrom setup network in
+      let from = subst P is (lawful.own_buffers network) in
+      let same = same_kinds setup lawful b buffer (place.From network) (place.To network destination) network from is_to refl refl in
       let Q : List Kind → Type 0 = λ kinds. IsTrue (has_kinds kinds fields) in
       takes_fields setup (slice_get setup.buffers b) (place.From network) fields from (subst Q (sym same) here)
 

@@ -39,7 +39,8 @@ use Rattle.ctl_face.specs.Set.{written, set as set_field}
 use Rattle.ctl_face.specs.Table.{Table, CacheTable, DirectoryTable, TbeTable, ParameterTable}
 use Rattle.ctl_face.specs.Touch.{touch, used_line}
 use Rattle.ctl_face.proofs.Cases.{Good, good_ok, good_err, good_cond}
-use Rattle.ctl_face.proofs.Lines.{All-removed, All-written, All-at, lookup_holds, has_kinds-set}
+use Rattle.ctl_face.specs.IsSetup.{IsTableSetup}
+use Rattle.ctl_face.proofs.Lines.{All-found, All-removed, All-written, All-at, lookup_holds, has_kinds-set}
 use Rattle.ctl_face.proofs.Maps.{insert_keeps, remove_keeps}
 use Rattle.ctl_face.proofs.Tables.{changed_keeps}
 
@@ -225,10 +226,10 @@ pub allocate_keeps : (v : LocalView) (table line : ℕ) → IsLine line → IsLa
 allocate_keeps v table line is lawful =
     changed_keeps v lawful table (with_line (initial_fields v.setup table) line)
     (λ s t there fits.
-    let P : Option TableSetup → Type 0 = λ o. IfSome o (λ (u : TableSetup). KindsAre u.kinds u.initial) in
+    let P : Option TableSetup → Type 0 = λ o. IfSome o IsTableSetup in
     let Q : List Value → Type 0 = λ fields. Good (FitsTable s) (with_line fields line t) in
     let same : initial_fields v.setup table ≡ s.initial = ap (λ o. unwrap_or (option_map (λ (u : TableSetup). u.initial) o) []) there in
-    subst Q (sym same) (allocated s t line s.initial is (subst P there (lawful.setup.initial table)) fits))
+    subst Q (sym same) (allocated s t line s.initial is (subst P there (All-found IsTableSetup v.setup.tables table lawful.setup.tables)).initial fits))
 
 deallocated : (s : TableSetup) (t : Table) (line : ℕ) → FitsTable s t → Good (FitsTable s) (without_line_in line t)
 deallocated s (CacheTable cache) line fits =

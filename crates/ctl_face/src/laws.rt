@@ -44,9 +44,9 @@ pub fn marks_lie_ahead()
     ensures enqueue { (v : LocalView) (buffer : ℕ) (latency : ℤ) (fields : List Value) (after : LocalView) → enqueue v buffer latency fields ≡ Ok after → MarksAhead v.ctl.marks v.now after.ctl.marks }
 {}
 
-/// A controller as a run begins fits its machine.
+/// A controller as a run begins fits its machine, in that cycle and in each later one.
 pub fn opening_controllers_fit()
-    ensures { (setup : SetupRecord) → IsSetup setup → Fits setup (opening_ctl setup) 0 }
+    ensures { (setup : SetupRecord) (now : ℕ) → IsSetup setup → Fits setup (opening_ctl setup) now }
 {}
 
 /// What holds of each controller of a machine holds after each act on its tables.

@@ -2,9 +2,11 @@
 //! draft changes, what the meaning of a protocol reads and writes, what code that runs on a stack calls.
 #![tactic(auto)]
 
+mod lawful;
 mod laws;
 mod local;
 mod routes;
+mod serving;
 mod setup;
 mod trouble;
 mod uses;
@@ -16,5 +18,6 @@ pub use laws::{
 pub use local::Local;
 pub use routes::{Routes, Sizes};
 pub use ruby_value::{Block, Fault, Fields, Message, NoMemory, Ref, Seq, Text, Value};
+pub use serving::have_kinds;
 pub use setup::{BufferPlace, BufferSetup, Setup, TableSetup, TableSize};
 pub use trouble::Trouble;

@@ -1,3 +1,6 @@
+ghost use Rattle.std.specs.Prelude.{◌≡◌};
+ghost use Rattle.ctl_face.specs.Routing.{receiving_buffer as receiving_buffer_of, path_to as path_to_of, is_ordered as is_ordered_of};
+
 use ruby_value::Seq;
 
 /// What a topology says of the network between controllers, which are numbered from 0. This form of a network is
@@ -28,4 +31,42 @@ pub struct Sizes {
     pub parameters: Seq<(u16, i64)>,
     /// For every machine of the protocol, in the order of the text, its first controller's number and its count.
     pub machines: Seq<(u32, u32)>,
+}
+
+impl Routes {
+    /// The buffer that takes the messages of a virtual network at a controller, if there is one. It takes no memory.
+    pub fn receiving_buffer(&self, receiver: u32, network: u16) -> Option<u16>
+        ensures { result ≡ receiving_buffer_of self.now receiver network }
+    {
+        let Some(buffers) = self.receiving.get(receiver as usize) else {
+            return None;
+        };
+        match buffers.get(usize::from(network)) {
+            Some(buffer) => *buffer,
+            None => None,
+        }
+    }
+
+    /// The length of the path between two controllers, in cycles; 0 between two that aren't there. It takes no memory.
+    pub fn path_to(&self, sender: u32, receiver: u32) -> u64
+        ensures { result ≡ path_to_of self.now sender receiver }
+    {
+        let Some(paths) = self.paths.get(sender as usize) else {
+            return 0;
+        };
+        match paths.get(receiver as usize) {
+            Some(path) => *path,
+            None => 0,
+        }
+    }
+
+    /// Whether a virtual network keeps the order of what one controller sends to another. It takes no memory.
+    pub fn is_ordered(&self, network: u16) -> bool
+        ensures { result ≡ is_ordered_of self.now network }
+    {
+        match self.ordered.get(usize::from(network)) {
+            Some(ordered) => *ordered,
+            None => false,
+        }
+    }
 }

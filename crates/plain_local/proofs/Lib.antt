@@ -1,3 +1,4 @@
+pub mod Between
 pub mod Entries
 pub mod Mails
 pub mod NoLast

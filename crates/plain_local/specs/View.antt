@@ -1,6 +1,5 @@
 -- What a contract sees of a plain local: the controller with its tables, messages and counts, the cycle and the acts. It
 -- says which part of the local is which part of the controller, and nothing of how the parts are stored.
-use Rattle.std.specs.Prelude.{[]}
 use Rattle.std.specs.Option.{option_map}
 use Rattle.ctl_face.specs.Acts.{Acts}
 use Rattle.ctl_face.specs.Ctl.{Ctl, Requests}

@@ -4,7 +4,6 @@
 
 mod asks;
 mod callbacks;
-mod checks;
 mod copies;
 mod fields;
 mod inbox;
@@ -13,14 +12,12 @@ mod local;
 mod marks;
 mod messages;
 mod opening;
-mod routes;
 mod sending;
 mod table;
 mod tables;
 mod waiting;
 
 pub use asks::PlainRequests;
-pub use checks::{has_places, have_places};
 pub use copies::SentCopy;
 pub use lasts::LastArrivals;
 pub use local::{Done, PlainLocal, Post};

@@ -4,8 +4,10 @@ ghost use Rattle.std.specs.FinMap as finite;
 ghost use Rattle.std.specs.List.{All};
 ghost use Rattle.std.specs.Option.{option_map};
 ghost use Rattle.ctl_face.specs.Ctl.{InboxMessage, Requests};
-ghost use Rattle.ctl_face.specs.IsSetup.{HasPlaces, network_count};
-ghost use Rattle.ctl_face.specs.LocalView.{LocalView};
+ghost use Rattle.ctl_face.specs.Fits.{IsLawful, IsRequest, last_cycle};
+ghost use Rattle.ctl_face.specs.IsSetup.{IsSetup, IsTableSetup, network_count};
+ghost use Rattle.ctl_face.specs.LocalView.{LocalView, SameSetting};
+ghost use Rattle.ctl_face.specs.Served.{Receives, TakesMessage};
 ghost use Rattle.ctl_face.specs.Opening.{opening_ctl, opening_table, no_requests as no_requests_of};
 ghost use Rattle.ctl_face.specs.Send.{delivered};
 ghost use Rattle.ctl_face.specs.declared.setup.Setup.{Setup as SetupRecord};
@@ -25,7 +27,7 @@ use ruby_value::{Answer, Asked, LineMap, Message, MsgNo};
 use std::alloc::Global;
 
 fn opening_tables(alloc: Global, tables: &[TableSetup]) -> Result<Vec<PlainTable>, NoMemory>
-    requires { All (λ (s : TableSetupRecord). HasPlaces s.size) tables.now }
+    requires { All IsTableSetup tables.now }
     ensures { IfOk result (λ all. all.items ≡ map (λ (s : TableSetupRecord). opening_table s.size s.initial) tables.now) }
 {
     let mut all = Vec::new(alloc);
@@ -84,61 +86,100 @@ fn no_requests(alloc: Global, has_sequencer: bool) -> Option<PlainRequests>
     })
 }
 
+fn opened(alloc: Global, setup: Setup, now: u64) -> Result<PlainLocal, NoMemory>
+    requires { All IsTableSetup setup.tables }
+    ensures { IfOk result (λ l. view_of l ≡ record { setup = setup; now = now; ctl = opening_ctl setup; acts = record { consumed = []; stalled = []; woken = []; recycled = []; sent = []; again = false } }) }
+{
+    let tables = opening_tables(alloc, setup.tables.as_slice())?;
+    let sequencer = no_requests(alloc, setup.has_sequencer);
+    Ok(PlainLocal {
+        alloc,
+        setup,
+        cycle: now,
+        tables,
+        states: LineMap::new(alloc),
+        sequencer,
+        fired: 0,
+        stopped: false,
+        post: no_messages(alloc)?,
+        acts: nothing_done(alloc),
+    })
+}
+
+// The local with a message more in the inbox, for which the controller will wake.
+fn receive(local: &mut PlainLocal, m: Message) -> Result<(), NoMemory>
+    ensures ok { OnOk result (view_of local.new ≡ record (view_of local.old) { ctl = delivered true (view_of local.old).ctl m }) }
+    ensures refused { OnErr result (view_of local.new ≡ view_of local.old) }
+{
+    let marks = with_mark(local.alloc, local.post.marks.as_slice(), m.arrival)?;
+    let new = Waiting::new(m, None);
+    local.post.inbox = with_message(local.alloc, local.post.inbox.as_slice(), new)?;
+    local.post.marks = marks;
+    Ok(())
+}
+
+// The local with a request more in its sequencer, if it has one.
+fn ask(local: &mut PlainLocal, asked: Asked) -> Result<(), NoMemory>
+    ensures ok { OnOk result (view_of local.new ≡ record (view_of local.old) { ctl = with_request (view_of local.old).ctl asked }) }
+    ensures refused { OnErr result (view_of local.new ≡ view_of local.old) }
+{
+    let Some(mut requests) = local.sequencer.take() else {
+        return Ok(());
+    };
+    let answer = requests.outstanding.insert(asked.line, asked);
+    local.sequencer = Some(requests);
+    match answer {
+        Ok(_) => Ok(()),
+        Err(_) => Err(NoMemory),
+    }
+}
+
 impl PlainLocal {
-    /// The controller as a run begins, in a cycle in which nothing was done yet.
+    /// The controller as a run begins, in a cycle in which nothing was done yet. A cycle is at most 10^12.
     pub fn new(alloc: Global, setup: Setup, now: u64) -> Result<PlainLocal, NoMemory>
-        requires { All (λ (s : TableSetupRecord). HasPlaces s.size) setup.tables }
-        ensures { IfOk result (λ l. view_of l ≡ record { setup = setup; now = now; ctl = opening_ctl setup; acts = record { consumed = []; stalled = []; woken = []; recycled = []; sent = []; again = false } }) }
+        requires setup { IsSetup setup }
+        requires now { now ≤ last_cycle }
+        ensures view { IfOk result (λ l. view_of l ≡ record { setup = setup; now = now; ctl = opening_ctl setup; acts = record { consumed = []; stalled = []; woken = []; recycled = []; sent = []; again = false } }) }
+        ensures lawful { IfOk result (λ l. IsLawful (view_of l)) }
     {
-        let tables = opening_tables(alloc, setup.tables.as_slice())?;
-        let sequencer = no_requests(alloc, setup.has_sequencer);
-        Ok(PlainLocal {
-            alloc,
-            setup,
-            cycle: now,
-            tables,
-            states: LineMap::new(alloc),
-            sequencer,
-            fired: 0,
-            stopped: false,
-            post: no_messages(alloc)?,
-            acts: nothing_done(alloc),
-        })
+        opened(alloc, setup, now)
     }
 
-    /// Puts a message of another controller into the inbox, for which the controller will wake. Without memory for it the
-    /// local is as it was.
+    /// Puts a message of another actor into the inbox, for which the controller will wake. Without memory for it the local
+    /// is as it was.
     pub fn deliver(&mut self, m: Message) -> Result<(), NoMemory>
+        requires buffer { Receives (view_of self.old) m.buffer }
+        requires fields { TakesMessage (view_of self.old) m.buffer m.fields }
+        requires other { ¬ (m.number.sender ≡ (view_of self.old).setup.me) }
+        requires lawful { IsLawful (view_of self.old) }
         ensures ok { OnOk result (view_of self.new ≡ record (view_of self.old) { ctl = delivered true (view_of self.old).ctl m }) }
         ensures refused { OnErr result (view_of self.new ≡ view_of self.old) }
+        ensures setting { SameSetting (view_of self.old) (view_of self.new) }
+        ensures lawful { IsLawful (view_of self.new) }
     {
-        let marks = with_mark(self.alloc, self.post.marks.as_slice(), m.arrival)?;
-        let new = Waiting::new(m, None);
-        self.post.inbox = with_message(self.alloc, self.post.inbox.as_slice(), new)?;
-        self.post.marks = marks;
-        Ok(())
+        receive(self, m)
     }
 
     /// Puts a request into the sequencer, under its line. A controller without a sequencer is as it was, and so is each
     /// without memory for it.
     pub fn issue(&mut self, asked: Asked) -> Result<(), NoMemory>
+        requires request { IsRequest asked }
+        requires lawful { IsLawful (view_of self.old) }
         ensures ok { OnOk result (view_of self.new ≡ record (view_of self.old) { ctl = with_request (view_of self.old).ctl asked }) }
         ensures refused { OnErr result (view_of self.new ≡ view_of self.old) }
+        ensures setting { SameSetting (view_of self.old) (view_of self.new) }
+        ensures lawful { IsLawful (view_of self.new) }
     {
-        let Some(mut requests) = self.sequencer.take() else {
-            return Ok(());
-        };
-        let answer = requests.outstanding.insert(asked.line, asked);
-        self.sequencer = Some(requests);
-        match answer {
-            Ok(_) => Ok(()),
-            Err(_) => Err(NoMemory),
-        }
+        ask(self, asked)
     }
 
-    /// Goes on to another cycle, in which nothing was sent and nothing has fired yet.
+    /// Goes on to a later cycle, at most 10^12, in which nothing was sent and nothing has fired yet.
     pub fn go_to(&mut self, now: u64)
-        ensures { view_of self.new ≡ record (view_of self.old) { now = now; ctl = record (view_of self.old).ctl { fired = 0; copies = 0 } } }
+        requires later { (view_of self.old).now < now }
+        requires now { now ≤ last_cycle }
+        requires lawful { IsLawful (view_of self.old) }
+        ensures lawful { IsLawful (view_of self.new) }
+        ensures view { view_of self.new ≡ record (view_of self.old) { now = now; ctl = record (view_of self.old).ctl { fired = 0; copies = 0 } } }
     {
         self.cycle = now;
         self.fired = 0;

@@ -8,21 +8,21 @@ ghost use Rattle.ctl_face.specs.Lasts.{last_at, lasts_on, with_last as with_last
 ghost use Rattle.ctl_face.specs.LocalView.{SameSetting};
 ghost use Rattle.ctl_face.specs.OfMachine.{buffer_place as buffer_place_of};
 ghost use Rattle.ctl_face.specs.Routing.{receiving_buffer as receiving_buffer_of, path_to as path_to_of, is_ordered as is_ordered_of};
-ghost use Rattle.ctl_face.specs.Send.{copy_limit, counted as counted_of, after_network_copy as after_network_copy_of, local_arrival as local_arrival_of, local_copy as local_copy_of, members_of, network_arrival as network_arrival_of, network_copies as network_copies_of, next_copy, next_jitter as next_jitter_of, receivers_of, sent_from as sent_from_of, with_network_copy as with_network_copy_of};
+ghost use Rattle.ctl_face.specs.Send.{copy_limit, counted as counted_of, after_network_copy as after_network_copy_of, local_arrival as local_arrival_of, local_copy as local_copy_of, network_arrival as network_arrival_of, network_copies as network_copies_of, next_copy, next_jitter as next_jitter_of, sent_from as sent_from_of, with_network_copy as with_network_copy_of};
 ghost use Rattle.plain_local.specs.Room.{CanSend, CountsMore, HasRoom, HasTime};
 ghost use Rattle.plain_local.specs.View.{view_of, ctl_of, ctl_with, sending_of};
 
 use crate::copies::joined;
+use crate::fields::receivers;
 use crate::inbox::with_message;
 use crate::lasts::LastArrivals;
 use crate::local::{PlainLocal, Post};
 use crate::marks::with_mark;
 use crate::messages::latency_of;
-use crate::routes::{buffer_place, is_ordered, path_to, receiving_buffer};
 use crate::{NoMemory, SentCopy, Seq, Waiting, inbox};
 use ctl_face::{BufferPlace, Routes, Trouble};
 use pcg_words::Words;
-use ruby_value::{Fault, Fields, Message, MsgNo, Value};
+use ruby_value::{Fault, Fields, Message, MsgNo};
 use std::alloc::Global;
 use std::cmp::max;
 
@@ -60,26 +60,6 @@ fn with_copy(
 {
     copies.push(SentCopy::new(receiver, message.clone()?))?;
     Ok(copies)
-}
-
-// The controllers of a value.
-fn members(fields: &Fields, destination: u16) -> &[u32]
-    ensures { result.now ≡ members_of (slice_get fields.now destination) }
-{
-    match fields.get(destination) {
-        Some(Value::Dest(members)) => members.as_slice(),
-        _ => &[],
-    }
-}
-
-// Those that the field of a message names, if its type has one for them.
-fn receivers(fields: &Fields, destination: Option<u16>) -> &[u32]
-    ensures { result.now ≡ receivers_of destination fields.now }
-{
-    match destination {
-        None => &[],
-        Some(place) => members(fields, place),
-    }
 }
 
 // The next copy of the controller.
@@ -161,9 +141,9 @@ fn network_arrival(
     requires latency { latency ≤ 1000000 }
     ensures { result ≡ network_arrival_of local.now.setup (ctl_with (ctl_of local.now) post.now) network latency local.now.cycle receiver }
 {
-    let path = path_to(&local.setup.routes, local.setup.me, receiver);
+    let path = local.setup.routes.path_to(local.setup.me, receiver);
     let arrival = local.cycle + latency + path + next_jitter(local, post);
-    if !is_ordered(&local.setup.routes, network) {
+    if !local.setup.routes.is_ordered(network) {
         return arrival;
     }
     max(arrival, last_on(&post.network_last, network, receiver))
@@ -201,7 +181,7 @@ fn after_network_copy(
     if local.setup.routes.jitter > 0 {
         post.drawn += 1;
     }
-    if is_ordered(&local.setup.routes, network) {
+    if local.setup.routes.is_ordered(network) {
         let networks = post.network_last.into_vec();
         post.network_last = with_last(networks, network, receiver, arrival)?;
     }
@@ -225,7 +205,11 @@ fn with_network_copy(
 {
     let Outgoing { post, copies } = out;
     let arrival = network_arrival(local, &post, network, latency, receiver);
-    let buffer = receiving_buffer(&local.setup.routes, receiver, network).unwrap_or(0);
+    let buffer = local
+        .setup
+        .routes
+        .receiving_buffer(receiver, network)
+        .unwrap_or(0);
     let message = next_message(local, &post, buffer, arrival, fields)?;
     let copies = with_copy(copies, receiver, &message)?;
     let post = counted(local, post, receiver, message)?;
@@ -262,7 +246,7 @@ fn are_routed(routes: &Routes, receivers: &[u32], network: u16) -> bool
 {
     receivers
         .iter()
-        .all(|r| receiving_buffer(routes, *r, network).is_some())
+        .all(|r| routes.receiving_buffer(*r, network).is_some())
 }
 
 // Whether so many copies more are too many.
@@ -357,7 +341,7 @@ fn sent_from(
     ensures ok { IfOk result (λ o. sent_from_of (buffer_place_of local.now.setup buffer) local.now.setup (ctl_of local.now) buffer latency fields.now local.now.cycle ≡ Ok (sending_of (ctl_of local.now) o)) }
     ensures fault { IfErr result (FaultsAs (sent_from_of (buffer_place_of local.now.setup buffer) local.now.setup (ctl_of local.now) buffer latency fields.now local.now.cycle)) }
 {
-    match buffer_place(&local.setup, buffer) {
+    match local.setup.place_of(buffer) {
         Some(BufferPlace::Local { ordered }) => {
             if are_too_many(local.post.copies, 1) {
                 return Err(Trouble::Fault(Fault::Copies));

@@ -1,7 +1,10 @@
 // Whole calls over libraries and sinks in memory. The expected bytes are those that the texts' forms prescribe.
+ghost use Rattle.std.specs.Prelude.{◌≡◌, IfOk, IsUtf8};
+
 use super::*;
 use ruby_base::{NoMemory, Seq, Text};
 use ruby_outside::{Library, MemLibrary, MemSink, OpenGate, Sink, SureLibrary, SureSink};
+use slicc_meaning::{Command, Options};
 use std::alloc::Global;
 use std::sync::Wait;
 use std::test::Fail;
@@ -178,29 +181,57 @@ fn one(alloc: Global, call: u64) -> Result<Seq<u64>, NoMemory> {
     Ok(calls)
 }
 
+/// The status of the call over a library of this file and a sink that never fail. This sink tells nothing of what it
+/// takes.
+fn sure_status<R: Threads + Wait + Sync>(
+    rt: &R,
+    alloc: Global,
+    asked: &[String],
+    file: File,
+) -> Result<u8, NoMemory> {
+    let mut library = SureLibrary::new(alloc, files(alloc, file)?);
+    let mut sink = SureSink::new();
+    let (answered, _) = call(rt, alloc, asked, &mut library, &mut sink);
+    Ok(answered)
+}
+
 #[test]
 fn answers_each_kind_of_fault(rt: HostRuntime) -> Result<(), Fail> {
     let alloc = rt.alloc();
     let asked = words(alloc, &["run", "tick.sm", "3"])?;
-    // The file, the failing write, the most bytes that a write takes, the failing read, the status, and what is written.
-    let rows: [(File, u64, u64, u64, u8, &[u8]); 10] = [
-        (File::Ticker, 1, 4096, 9, 7, b""),
-        (File::Ticker, 2, 4096, 9, 7, first_lines(THREE, 1)),
-        (File::Ticker, 3, 4096, 9, 7, first_lines(THREE, 2)),
-        (File::Ticker, 4, 4096, 9, 7, first_lines(THREE, 3)),
-        (File::Ticker, 5, 4096, 9, 7, first_lines(THREE, 4)),
-        (File::Ticker, 6, 4096, 9, 7, first_lines(THREE, 5)),
-        (File::Ticker, 9999, 1, 9, 0, THREE.as_bytes()),
-        (File::Ticker, 9999, 0, 9, 7, b""),
-        (File::Ticker, 9999, 4096, 1, 5, b"library fault tick.sm\n"),
-        (File::Comment, 1, 4096, 9, 7, b""),
+    // The file, the failing write, the most bytes that a write takes, the failing read, the status, what is written, and
+    // the status over objects that never fail.
+    let rows: [(File, u64, u64, u64, u8, &[u8], u8); 14] = [
+        (File::Ticker, 1, 4096, 9, 7, b"", 0),
+        (File::Ticker, 2, 4096, 9, 7, first_lines(THREE, 1), 0),
+        (File::Ticker, 3, 4096, 9, 7, first_lines(THREE, 2), 0),
+        (File::Ticker, 4, 4096, 9, 7, first_lines(THREE, 3), 0),
+        (File::Ticker, 5, 4096, 9, 7, first_lines(THREE, 4), 0),
+        (File::Ticker, 6, 4096, 9, 7, first_lines(THREE, 5), 0),
+        (File::Ticker, 9999, 1, 9, 0, THREE.as_bytes(), 0),
+        (File::Ticker, 9999, 0, 9, 7, b"", 0),
+        (
+            File::Ticker,
+            9999,
+            4096,
+            1,
+            5,
+            b"library fault tick.sm\n",
+            0,
+        ),
+        (File::TooLong, 9999, 4096, 9, 9, TOO_LARGE.as_bytes(), 9),
+        (File::Longest, 9999, 4096, 9, 0, THREE.as_bytes(), 0),
+        (File::WithoutBack, 9999, 4096, 9, 1, STOPPED.as_bytes(), 1),
+        (File::Comment, 9999, 4096, 9, 3, REFUSED.as_bytes(), 3),
+        (File::Comment, 1, 4096, 9, 7, b"", 3),
     ];
-    for (file, write, most, read, status, expected) in rows {
+    for (file, write, most, read, status, expected, sure) in rows {
         let mut library = MemLibrary::new(alloc, files(alloc, file)?, one(alloc, read)?);
         let mut sink = MemSink::new(alloc, one(alloc, write)?, most, 4096)?;
         let (answered, _) = call(&rt, alloc, asked.as_slice(), &mut library, &mut sink);
         assert_eq!(rt; sink.bytes(), expected);
         assert_eq!(rt; answered, status);
+        assert_eq!(rt; sure_status(&rt, alloc, asked.as_slice(), file)?, sure);
     }
     Ok(())
 }
@@ -226,6 +257,51 @@ fn answers_over_objects_that_never_fail(rt: HostRuntime) -> Result<(), Fail> {
         let (answered, kept) = call(&rt, alloc, asked.as_slice(), &mut library, &mut sink);
         assert_eq!(rt; answered, status);
         assert_eq!(rt; kept, is_kept);
+    }
+    Ok(())
+}
+
+const CUT: &str = "1 Node-0 0x0 A Go B
+2 Node-0 0x0 B Go A
+final Node-0 0x0 A
+messages 3 consumed 2 queued 1 stalled 0 recycled 0
+verdict cycles 2
+";
+
+const FULL: &str = "1 Node-0 0x0 A Go B
+2 Node-0 0x0 B Go A
+3 Node-0 0x0 A Go B
+final Node-0 0x0 B
+messages 3 consumed 3 queued 0 stalled 0 recycled 0
+verdict quiet 4
+";
+
+/// A plain run of three requests, with these bounds.
+fn options(alloc: Global, name: &str, cycles: u64, limit: u64) -> Result<Options, NoMemory>
+    ensures name { IfOk result (λ o. IsUtf8 o.protocol) }
+    ensures count { IfOk result (λ o. o.count ≡ 3) }
+    ensures bounds { IfOk result (λ o. (o.cycles ≡ cycles) × (o.limit ≡ limit)) }
+{
+    Ok(Options {
+        command: Command::Plain,
+        protocol: Text::copied(alloc, name.as_bytes())?,
+        count: 3,
+        cycles,
+        limit,
+    })
+}
+
+#[test]
+fn keeps_the_bound_on_cycles_and_the_limit(rt: HostRuntime) -> Result<(), Fail> {
+    let alloc = rt.alloc();
+    let rows: [(u64, u64, u8, &str); 2] = [(2, 32, 1, CUT), (9, 1, 0, FULL)];
+    for (cycles, limit, status, expected) in rows {
+        let mut library = MemLibrary::new(alloc, files(alloc, File::Ticker)?, Seq::new(alloc));
+        let mut sink = MemSink::new(alloc, Seq::new(alloc), 4096, 4096)?;
+        let options = options(alloc, "tick.sm", cycles, limit)?;
+        let done = ruby_alone(alloc, options, &mut library, &mut sink);
+        assert_eq!(rt; sink.bytes(), expected.as_bytes());
+        assert_eq!(rt; done.status, status);
     }
     Ok(())
 }

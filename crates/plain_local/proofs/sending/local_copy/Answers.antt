@@ -1,6 +1,5 @@
 use Rattle.std.proofs.Common.{ap, List, [], ◌∷◌, ◌++◌, ◌∙◌}
 use Rattle.ctl_face.specs.Acts.{Copy}
-use Rattle.ctl_face.specs.Lasts.{Lasts}
 use Rattle.ctl_face.specs.Send.{counted}
 use Rattle.plain_local.specs.declared.local.Post.{Post}
 use Rattle.plain_local.specs.View.{ctl_of, ctl_with}
