@@ -12,6 +12,7 @@ pub mod Ordered
 pub mod OwnBuffers
 pub mod Paths
 pub mod Reading
+pub mod References
 pub mod Sends
 pub mod TableCalls
 pub mod Tables

@@ -34,10 +34,10 @@ use Rattle.ctl_face.proofs.Marks.{IsStrictlyIncreasing-with_mark}
 
 -- the buffer is there, and its messages have these fields
 abbrev pub TakesFields : Setup → ℕ → List Value → Type 0
-TakesFields setup buffer fields = IsSomeAnd (slice_get setup.buffers buffer) (λ (s : BufferSetup). IsTrue (has_kinds s.kinds fields))
+TakesFields setup buffer fields = IsSomeAnd (slice_get setup.buffers buffer) (λ (s : BufferSetup). IsTrue (has_kinds setup s.kinds fields))
 
 takes_fields : (setup : Setup) (s : Option BufferSetup) (p : BufferPlace) (fields : List Value) → option_map (λ (b : BufferSetup). b.place) s ≡ Some p
-    → IsTrue (has_kinds (unwrap_or (option_map (λ (b : BufferSetup). b.kinds) s) []) fields) → IsSomeAnd s (λ (b : BufferSetup). IsTrue (has_kinds b.kinds fields))
+    → IsTrue (has_kinds setup (unwrap_or (option_map (λ (b : BufferSetup). b.kinds) s) []) fields) → IsSomeAnd s (λ (b : BufferSetup). IsTrue (has_kinds setup b.kinds fields))
 takes_fields setup None p fields is here = cc
 takes_fields setup (Some b) p fields is here = here
 
@@ -170,14 +170,14 @@ same_kinds setup lawful a b p q network is_p is_q on_p on_q =
     let all = All-found (λ x. All (AgreeOnType x) setup.buffers) setup.buffers a lawful.one_type.one_type in
     agreed s (slice_get setup.buffers b) p q network is_p is_q on_p on_q (found_pair s setup.buffers b all)
 
-module _ (setup : Setup) (lawful : IsSetup setup) (network : ℕ) (destination : Option ℕ) (buffer : ℕ) (fields : List Value) (is_to : buffer_place setup buffer ≡ Some (place.To network destination)) (here : IsTrue (has_kinds (message_kinds setup buffer) fields)) where
+module _ (setup : Setup) (lawful : IsSetup setup) (network : ℕ) (destination : Option ℕ) (buffer : ℕ) (fields : List Value) (is_to : buffer_place setup buffer ≡ Some (place.To network destination)) (here : IsTrue (has_kinds setup (message_kinds setup buffer) fields)) where
   own_buffer_takes : (o : Option ℕ) → receiving_buffer setup.routes setup.me network ≡ o → is_some o ≡ true → TakesFields setup (unwrap_or o 0) fields
   own_buffer_takes None is there = cc
   own_buffer_takes (Some b) is there =
       let P : Option ℕ → Type 0 = IsFrom setup network in
       let from = subst P is (lawful.own_buffers network) in
       let same = same_kinds setup lawful b buffer (place.From network) (place.To network destination) network from is_to refl refl in
-      let Q : List Kind → Type 0 = λ kinds. IsTrue (has_kinds kinds fields) in
+      let Q : List Kind → Type 0 = λ kinds. IsTrue (has_kinds setup kinds fields) in
       takes_fields setup (slice_get setup.buffers b) (place.From network) fields from (subst Q (sym same) here)
 
   own_takes : (receiver : ℕ) → is_some (receiving_buffer setup.routes receiver network) ≡ true → receiver ≡ setup.me → TakesFields setup (unwrap_or (receiving_buffer setup.routes receiver network) 0) fields
@@ -195,7 +195,7 @@ not_above a b is = grind arith
 abbrev SenderFits : Setup → ℕ → Sending → Type 0
 SenderFits setup now s = Fits setup s.sender now
 
-sent_fits : (p : Option BufferPlace) (setup : Setup) (ctl : Ctl) (buffer latency : ℕ) (fields : List Value) (now : ℕ) → buffer_place setup buffer ≡ p → IsSetup setup → IsTrue (has_kinds (message_kinds setup buffer) fields) → Fits setup ctl now
+sent_fits : (p : Option BufferPlace) (setup : Setup) (ctl : Ctl) (buffer latency : ℕ) (fields : List Value) (now : ℕ) → buffer_place setup buffer ≡ p → IsSetup setup → IsTrue (has_kinds setup (message_kinds setup buffer) fields) → Fits setup ctl now
     → Good (SenderFits setup now) (sent_from p setup ctl buffer latency fields now)
 sent_fits None setup ctl buffer latency fields now is lawful here fits = good_ok (SenderFits setup now) (record { sender = ctl; copies = [] }) fits
 sent_fits (Some (place.From network)) setup ctl buffer latency fields now is lawful here fits = good_ok (SenderFits setup now) (record { sender = ctl; copies = [] }) fits
@@ -225,7 +225,7 @@ after_keeps : (v : LocalView) (r : Result Sending Fault) → Good (SenderFits v.
 after_keeps v (Ok s) fits lawful = good_ok IsLawful _ (record { setup = lawful.setup; now = lawful.now; fits = fits.good s refl })
 after_keeps v (Err e) fits lawful = good_err IsLawful e
 
-pub enqueue_keeps : (v : LocalView) (buffer : ℕ) (latency : ℤ) (fields : List Value) → IsTrue (has_kinds (message_kinds v.setup buffer) fields) → IsLawful v → Good IsLawful (enqueue v buffer latency fields)
+pub enqueue_keeps : (v : LocalView) (buffer : ℕ) (latency : ℤ) (fields : List Value) → IsTrue (has_kinds v.setup (message_kinds v.setup buffer) fields) → IsLawful v → Good IsLawful (enqueue v buffer latency fields)
 enqueue_keeps v buffer latency fields here lawful =
     let p = buffer_place v.setup buffer in
     after_keeps v (send v.setup v.ctl buffer latency fields v.now)

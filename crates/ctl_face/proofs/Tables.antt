@@ -10,10 +10,10 @@ use Rattle.ctl_face.proofs.Cases.{Good, good_ok, good_err}
 use Rattle.ctl_face.proofs.Lines.{holds_after_set}
 
 module _ (v : LocalView) (lawful : IsLawful v) (table : ℕ) where
-  with_table_lawful : (s : TableSetup) (t : Table) → slice_get v.setup.tables table ≡ Some s → FitsTable s t → IsLawful (with_table v table t)
+  with_table_lawful : (s : TableSetup) (t : Table) → slice_get v.setup.tables table ≡ Some s → FitsTable v.setup s t → IsLawful (with_table v table t)
   with_table_lawful s t is here =
-      let At : ℕ → Option Table → Type 0 = λ j o. FitsTableAt (slice_get v.setup.tables j) o in
-      let Q : Option TableSetup → Type 0 = λ o. FitsTableAt o (Some t) in
+      let At : ℕ → Option Table → Type 0 = λ j o. FitsTableAt v.setup (slice_get v.setup.tables j) o in
+      let Q : Option TableSetup → Type 0 = λ o. FitsTableAt v.setup o (Some t) in
       record {
         setup = lawful.setup;
         now = lawful.now;
@@ -31,15 +31,15 @@ module _ (v : LocalView) (lawful : IsLawful v) (table : ℕ) where
         };
       }
 
-  after_change_lawful : (s : TableSetup) (r : Result Table Fault) → slice_get v.setup.tables table ≡ Some s → Good (FitsTable s) r → Good IsLawful (after_change v table r)
+  after_change_lawful : (s : TableSetup) (r : Result Table Fault) → slice_get v.setup.tables table ≡ Some s → Good (FitsTable v.setup s) r → Good IsLawful (after_change v table r)
   after_change_lawful s (Ok t) is here = good_ok IsLawful (with_table v table t) (with_table_lawful s t is (here.good t refl))
   after_change_lawful s (Err e) is here = good_err IsLawful e
 
   -- what a change of a table has to keep
   abbrev pub KeepsTable : (Table → Result Table Fault) → Type 0
-  KeepsTable change = (s : TableSetup) (t : Table) → slice_get v.setup.tables table ≡ Some s → FitsTable s t → Good (FitsTable s) (change t)
+  KeepsTable change = (s : TableSetup) (t : Table) → slice_get v.setup.tables table ≡ Some s → FitsTable v.setup s t → Good (FitsTable v.setup s) (change t)
 
-  change_lawful : (change : Table → Result Table Fault) → KeepsTable change → (s : Option TableSetup) (o : Option Table) → slice_get v.setup.tables table ≡ s → FitsTableAt s o → Good IsLawful (change_if_there v table change o)
+  change_lawful : (change : Table → Result Table Fault) → KeepsTable change → (s : Option TableSetup) (o : Option Table) → slice_get v.setup.tables table ≡ s → FitsTableAt v.setup s o → Good IsLawful (change_if_there v table change o)
   change_lawful change keeps s None is here = good_ok IsLawful v lawful
   change_lawful change keeps None (Some t) is here = absurd here
   change_lawful change keeps (Some s) (Some t) is here = after_change_lawful s (change t) is (keeps s t is here)

@@ -1,6 +1,7 @@
 -- What holds of a controller of a machine at each moment of a run: its tables, messages and requests are those of the
--- machine, with fields of the declared kinds; each line in it is below 2 ^ 58; its own messages have numbers that it has
--- given; and its counts are at most what it may send in the cycles up to now. Each step of a controller keeps this.
+-- machine, with fields of the declared kinds, a reference to a line of its kind's structure; each line in it, those of
+-- references too, is below 2 ^ 58; its own messages have numbers that it has given; and its counts are at most what it may
+-- send in the cycles up to now. Each step of a controller keeps this.
 -- It doesn't say that the values of enumerations are members, nor that machine numbers are those of controllers.
 use Rattle.std.specs.Prelude.{◌≡◌, ◌<◌, ◌≤◌, ◌^◌, ◌+◌, ◌*◌, ℕ, Bool, true, false, Option, None, Some, List, length, slice_get, IsTrue, IfSome, IsSomeAnd}
 use Rattle.std.specs.FinMap as map
@@ -14,6 +15,7 @@ use Rattle.ruby_value.specs.Cache.{Line}
 use Rattle.ruby_value.specs.IsCache.{IsCache}
 use Rattle.ctl_face.specs.Ctl.{Ctl, InboxMessage, Requests}
 use Rattle.ctl_face.specs.HasKinds.{has_kinds}
+use Rattle.ctl_face.specs.HoldsKind.{line_limit}
 use Rattle.ctl_face.specs.Inbox.{number_before}
 use Rattle.ctl_face.specs.IsSetup.{IsSetup, network_count}
 use Rattle.ctl_face.specs.LocalView.{LocalView}
@@ -27,7 +29,7 @@ use Rattle.ctl_face.specs.Table.{Table, CacheTable, DirectoryTable, TbeTable, Pa
 
 -- line numbers are byte addresses divided by 64
 abbrev pub IsLine : ℕ → Type 0
-IsLine line = line < 2 ^ 58
+IsLine line = line < line_limit
 
 -- the table is what the machine has there, with as many places, and the lines of a directory begin with these fields
 abbrev pub IsOfSize : TableSize → List Value → Table → Type 0
@@ -38,29 +40,29 @@ IsOfSize size.Parameters initial (ParameterTable values) = Unit {0}
 IsOfSize _ initial _ = ⊥
 
 -- a line and its fields
-abbrev pub FitsLine : List Kind → Line → Type 0
-FitsLine kinds l = IsLine l.0 × IsTrue (has_kinds kinds l.1)
+abbrev pub FitsLine : Setup → List Kind → Line → Type 0
+FitsLine setup kinds l = IsLine l.0 × IsTrue (has_kinds setup kinds l.1)
 
 -- each line that the table keeps fits, and so do the fields that a directory's lines begin with, and the parameters
-abbrev pub FitsLines : List Kind → Table → Type 0
-FitsLines kinds (CacheTable cache) = All (All (FitsLine kinds)) cache.sets
-FitsLines kinds (DirectoryTable directory) =
-    IsTrue (has_kinds kinds directory.initial) × ((line : ℕ) → IfSome (map.get directory.written line) (λ fields. FitsLine kinds (line, fields)))
-FitsLines kinds (TbeTable tbes) = (line : ℕ) → IfSome (map.get tbes.held line) (λ fields. FitsLine kinds (line, fields))
-FitsLines kinds (ParameterTable values) = IsTrue (has_kinds kinds values)
+abbrev pub FitsLines : Setup → List Kind → Table → Type 0
+FitsLines setup kinds (CacheTable cache) = All (All (FitsLine setup kinds)) cache.sets
+FitsLines setup kinds (DirectoryTable directory) =
+    IsTrue (has_kinds setup kinds directory.initial) × ((line : ℕ) → IfSome (map.get directory.written line) (λ fields. FitsLine setup kinds (line, fields)))
+FitsLines setup kinds (TbeTable tbes) = (line : ℕ) → IfSome (map.get tbes.held line) (λ fields. FitsLine setup kinds (line, fields))
+FitsLines setup kinds (ParameterTable values) = IsTrue (has_kinds setup kinds values)
 
-pub record FitsTable (s : TableSetup) (t : Table) : Type 0 where
+pub record FitsTable (setup : Setup) (s : TableSetup) (t : Table) : Type 0 where
   pub size : IsOfSize s.size s.initial t
-  pub lines : FitsLines s.kinds t
+  pub lines : FitsLines setup s.kinds t
 
 -- at each number there is a table exactly where the machine has one
-abbrev pub FitsTableAt : Option TableSetup → Option Table → Type 0
-FitsTableAt None None = Unit {0}
-FitsTableAt (Some s) (Some t) = FitsTable s t
-FitsTableAt _ _ = ⊥
+abbrev pub FitsTableAt : Setup → Option TableSetup → Option Table → Type 0
+FitsTableAt setup None None = Unit {0}
+FitsTableAt setup (Some s) (Some t) = FitsTable setup s t
+FitsTableAt setup _ _ = ⊥
 
 pub record FitsMessage (setup : Setup) (sent : ℕ) (m : InboxMessage) : Type 0 where
-  pub fields : IsSomeAnd (slice_get setup.buffers m.message.buffer) (λ (s : BufferSetup). IsTrue (has_kinds s.kinds m.message.fields))
+  pub fields : IsSomeAnd (slice_get setup.buffers m.message.buffer) (λ (s : BufferSetup). IsTrue (has_kinds setup s.kinds m.message.fields))
   pub own_number : m.message.number.sender ≡ setup.me → m.message.number.count < sent
   pub line : IfSome m.waiting IsLine
 
@@ -85,7 +87,7 @@ FitsSequencer true (Some r) = FitsRequests r
 FitsSequencer _ _ = ⊥
 
 pub record Fits (setup : Setup) (ctl : Ctl) (now : ℕ) : Type 0 where
-  pub tables : (table : ℕ) → FitsTableAt (slice_get setup.tables table) (slice_get ctl.tables table)
+  pub tables : (table : ℕ) → FitsTableAt setup (slice_get setup.tables table) (slice_get ctl.tables table)
   pub states : (line : ℕ) → IfSome (map.get ctl.states line) (λ _. IsLine line)
   pub inbox_ascends : NumbersAscend ctl.inbox
   pub messages : All (FitsMessage setup ctl.sent) ctl.inbox

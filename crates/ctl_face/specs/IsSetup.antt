@@ -1,8 +1,8 @@
 -- What holds of what stays as it is of a controller: each cache and TBE table has place for a line, and for no more than
--- the limits; the default fields of each table have their kinds; a buffer's network is one of the 16; the field that names
--- the receivers of a message to a network is a set of controllers; the buffer that takes a network's messages at the
--- controller itself is one from that network; buffers on one network have one message type; paths and jitter are within
--- their limits. The limits are this project's own.
+-- the limits; the default fields of each table have their kinds, references in them too; a buffer's network is one of the
+-- 16; the field that names the receivers of a message to a network is a set of controllers; the buffer that takes a
+-- network's messages at the controller itself is one from that network; buffers on one network have one message type;
+-- paths and jitter are within their limits. The limits are this project's own.
 use Rattle.std.specs.Prelude.{◌≡◌, ◌<◌, ◌≤◌, ◌*◌, ℕ, List, Option, None, Some, length, slice_get, IsTrue, IfSome}
 use Rattle.std.specs.List.{All}
 use Rattle.std.specs.Option.{option_flatten}
@@ -25,9 +25,9 @@ HasPlaces size.Directory = Unit {0}
 HasPlaces (size.Tbe entries) = (1 ≤ entries) × (entries ≤ 256)
 HasPlaces size.Parameters = Unit {0}
 
-pub record IsTableSetup (s : TableSetup) : Type 0 where
+pub record IsTableSetup (setup : Setup) (s : TableSetup) : Type 0 where
   pub places : HasPlaces s.size
-  pub initial : IsTrue (has_kinds s.kinds s.initial)
+  pub initial : IsTrue (has_kinds setup s.kinds s.initial)
 
 abbrev pub network_count : ℕ
 network_count = 16
@@ -75,7 +75,7 @@ abbrev pub most_jitter : ℕ
 most_jitter = 1000
 
 pub record IsSetup (setup : Setup) : Type 0 where
-  pub tables : All IsTableSetup setup.tables
+  pub tables : All (IsTableSetup setup) setup.tables
   pub buffers : All IsBufferSetup setup.buffers
   pub one_type : ShareTypes setup.buffers
   pub own_buffers : OwnBuffersAreFrom setup

@@ -14,6 +14,7 @@ pub mod Free
 pub mod Front
 pub mod Get
 pub mod HasKinds
+pub mod HoldsKind
 pub mod Inbox
 pub mod IsSetup
 pub mod Lasts

@@ -4,12 +4,12 @@
 -- out port may stand on, a network's where the message type names its receivers. Which calls a table has is the rule of SLICC in gem5.
 use Rattle.std.specs.Prelude.{ℕ, Bool, true, false, Option, None, Some, List, IsTrue, IsSome, IsSomeAnd, is_some, slice_get}
 use Rattle.ruby_value.specs.declared.value.Value.{Value}
-use Rattle.ruby_value.specs.HasKind.{has_kind}
 use Rattle.ctl_face.specs.declared.setup.BufferPlace.TheVariants as place
 use Rattle.ctl_face.specs.declared.setup.BufferPlace.{BufferPlace}
 use Rattle.ctl_face.specs.declared.setup.TableSize.TheVariants as size
 use Rattle.ctl_face.specs.declared.setup.TableSize.{TableSize}
 use Rattle.ctl_face.specs.HasKinds.{has_kinds}
+use Rattle.ctl_face.specs.HoldsKind.{holds_kind}
 use Rattle.ctl_face.specs.LocalView.{LocalView}
 use Rattle.ctl_face.specs.OfMachine.{buffer_place, field_kinds, message_kinds, table_size}
 
@@ -49,12 +49,12 @@ sends None = false
 abbrev pub Serves : (Option TableSize → Bool) → LocalView → ℕ → Type 0
 Serves test v table = IsTrue (test (table_size v.setup table))
 
--- the lines of the table have the field, and it takes the value
+-- the lines of the table have the field, and it may hold the value
 abbrev pub HasField : LocalView → ℕ → ℕ → Type 0
 HasField v table field = IsSome (slice_get (field_kinds v.setup table) field)
 
 abbrev pub TakesField : LocalView → ℕ → ℕ → Value → Type 0
-TakesField v table field value = IsSomeAnd (slice_get (field_kinds v.setup table) field) (λ k. IsTrue (has_kind k value))
+TakesField v table field value = IsSomeAnd (slice_get (field_kinds v.setup table) field) (λ k. IsTrue (holds_kind v.setup k value))
 
 -- messages are taken from the buffer
 abbrev pub Receives : LocalView → ℕ → Type 0
@@ -65,7 +65,7 @@ abbrev pub Sends : LocalView → ℕ → Type 0
 Sends v buffer = IsTrue (sends (buffer_place v.setup buffer))
 
 abbrev pub TakesMessage : LocalView → ℕ → List Value → Type 0
-TakesMessage v buffer fields = IsTrue (has_kinds (message_kinds v.setup buffer) fields)
+TakesMessage v buffer fields = IsTrue (has_kinds v.setup (message_kinds v.setup buffer) fields)
 
 -- the machine has the built-in map of states
 abbrev pub HasStates : LocalView → Type 0

@@ -21,10 +21,10 @@ impl TableSize {
     }
 }
 
-fn is_table(s: &TableSetup) -> bool
-    ensures { IsTrue result ↔ IsTableSetup s.now }
+fn is_table(setup: &Setup, s: &TableSetup) -> bool
+    ensures { IsTrue result ↔ IsTableSetup setup.now s.now }
 {
-    s.size.has_places() && have_kinds(s.kinds.as_slice(), s.initial.as_slice())
+    s.size.has_places() && have_kinds(setup, s.kinds.as_slice(), s.initial.as_slice())
 }
 
 impl BufferPlace {
@@ -98,10 +98,10 @@ fn agree_on_type(a: &BufferSetup, b: &BufferSetup) -> bool
     }
 }
 
-fn are_tables(tables: &[TableSetup]) -> bool
-    ensures { IsTrue result ↔ All IsTableSetup tables.now }
+fn are_tables(setup: &Setup, tables: &[TableSetup]) -> bool
+    ensures { IsTrue result ↔ All (IsTableSetup setup.now) tables.now }
 {
-    tables.iter().all(|s| is_table(s))
+    tables.iter().all(|s| is_table(setup, s))
 }
 
 fn are_buffers(buffers: &[BufferSetup]) -> bool
@@ -175,7 +175,7 @@ impl Setup {
     pub fn is_lawful(&self) -> bool
         ensures { IsTrue result ↔ IsSetup self.now }
     {
-        if !are_tables(self.tables.as_slice()) || !are_buffers(self.buffers.as_slice()) {
+        if !are_tables(self, self.tables.as_slice()) || !are_buffers(self.buffers.as_slice()) {
             return false;
         }
         if !all_agree(self.buffers.as_slice()) {

@@ -1,5 +1,5 @@
 // What holds of every controller. These functions do nothing: their contracts are the laws.
-ghost use Rattle.std.specs.Prelude.{◌≡◌, ◌<◌, ℕ, ℤ, List, Ok, IsTrue, IsSomeAnd, slice_get};
+ghost use Rattle.std.specs.Prelude.{◌≡◌, ◌<◌, ℕ, ℤ, List, Ok, IsTrue, IfSome, IsSomeAnd, slice_get};
 ghost use Rattle.std.specs.List.{All};
 ghost use Rattle.ruby_value.specs.declared.value.Block.{Block as BlockRecord};
 ghost use Rattle.ruby_value.specs.declared.message.Message.{Message as MessageRecord};
@@ -15,11 +15,12 @@ ghost use Rattle.ctl_face.specs.Deallocate.{deallocate};
 ghost use Rattle.ctl_face.specs.Enqueue.{enqueue};
 ghost use Rattle.ctl_face.specs.Fits.{Fits, IsLawful, IsLine};
 ghost use Rattle.ctl_face.specs.Get.{get};
+ghost use Rattle.ctl_face.specs.HoldsKind.{reference_in};
 ghost use Rattle.ctl_face.specs.IsSetup.{IsSetup};
 ghost use Rattle.ctl_face.specs.LocalView.{LocalView};
 ghost use Rattle.ctl_face.specs.Avail.{probe};
 ghost use Rattle.ctl_face.specs.MarksAhead.{MarksAhead};
-ghost use Rattle.ctl_face.specs.Served.{TakesField, TakesMessage};
+ghost use Rattle.ctl_face.specs.Served.{looks_up, Serves, TakesField, TakesMessage};
 ghost use Rattle.ctl_face.specs.Opening.{opening_ctl};
 ghost use Rattle.ctl_face.specs.Pop.{pop};
 ghost use Rattle.ctl_face.specs.Ready.{peek};
@@ -71,10 +72,12 @@ pub fn message_calls_keep_what_holds()
     ensures again { (v : LocalView) → IsLawful v → IsLawful (again v) }
 {}
 
-/// What is read of a controller that fits its machine has its kinds: the value of a field is one of the field's kind, what
-/// a cache names for replacement is a line, and the fields of a front are those of a message of its buffer, which is the one that was asked for.
+/// What is read of a controller that fits its machine has its kinds: the value of a field is one of the field's kind, a
+/// reference in it is to a line of a table that lines are looked up in, what a cache names for replacement is a line, and the
+/// fields of a front are those of a message of its buffer, which is the one that was asked for.
 pub fn reads_have_their_kinds()
     ensures get { (v : LocalView) (r : RefRecord) (field : ℕ) (value : Value) → IsLawful v → get v r field ≡ Ok value → TakesField v r.table field value }
+    ensures through { (v : LocalView) (r : RefRecord) (field : ℕ) (value : Value) → IsLawful v → get v r field ≡ Ok value → IfSome (reference_in value) (λ (to : RefRecord). IsLine to.line × Serves looks_up v to.table) }
     ensures peek { (v : LocalView) (buffer : ℕ) (m : MessageRecord) → IsLawful v → peek v buffer ≡ Ok m → TakesMessage v m.buffer m.fields }
     ensures probe { (v : LocalView) (table line l : ℕ) → IsLawful v → probe v table line ≡ Ok l → IsLine l }
     ensures peek_buffer { (v : LocalView) (buffer : ℕ) (m : MessageRecord) → peek v buffer ≡ Ok m → m.buffer ≡ buffer }

@@ -18,6 +18,8 @@ pub enum TableSize {
 #[derive(Debug, Drop)]
 pub struct TableSetup {
     pub size: TableSize,
+    /// The number of the structure of its lines; of the parameters that of their fields, to which no reference is.
+    pub structure: u16,
     /// The kinds of the fields of a line, in the order of their declaration.
     pub kinds: Seq<Kind>,
     /// The fields that a new line has; of a directory, those of each line that was never written; of the parameters,

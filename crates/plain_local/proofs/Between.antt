@@ -6,6 +6,7 @@ use Rattle.ruby_value.specs.declared.asked.Asked.{Asked}
 use Rattle.ruby_value.specs.declared.message.Message.{Message}
 use Rattle.ruby_value.specs.declared.value.Value.{Value}
 use Rattle.ctl_face.specs.declared.setup.BufferSetup.{BufferSetup}
+use Rattle.ctl_face.specs.declared.setup.Setup.{Setup}
 use Rattle.ctl_face.specs.Ctl.{InboxMessage, Requests}
 use Rattle.ctl_face.specs.Fits.{FitsMessage, FitsSequencer, IsLawful, IsRequest, last_cycle}
 use Rattle.ctl_face.specs.HasKinds.{has_kinds}
@@ -17,16 +18,16 @@ use Rattle.ctl_face.proofs.Maps.{insert_keeps}
 use Rattle.ctl_face.proofs.Marks.{IsStrictlyIncreasing-with_mark}
 use Rattle.plain_local.specs.Asking.{with_request}
 
-takes : (o : Option BufferSetup) (fields : List Value) → IsTrue (receives (option_map (λ (s : BufferSetup). s.place) o)) → IsTrue (has_kinds (unwrap_or (option_map (λ (s : BufferSetup). s.kinds) o) []) fields)
-    → IsSomeAnd o (λ (s : BufferSetup). IsTrue (has_kinds s.kinds fields))
-takes None fields there here = cc
-takes (Some s) fields there here = here
+takes : (setup : Setup) (o : Option BufferSetup) (fields : List Value) → IsTrue (receives (option_map (λ (s : BufferSetup). s.place) o)) → IsTrue (has_kinds setup (unwrap_or (option_map (λ (s : BufferSetup). s.kinds) o) []) fields)
+    → IsSomeAnd o (λ (s : BufferSetup). IsTrue (has_kinds setup s.kinds fields))
+takes setup None fields there here = cc
+takes setup (Some s) fields there here = here
 
 pub delivered_lawful : (v : LocalView) (m : Message) → Receives v m.buffer → TakesMessage v m.buffer m.fields → ¬ (m.number.sender ≡ v.setup.me) → IsLawful v → IsLawful (record v { ctl = delivered true v.ctl m })
 delivered_lawful v m there here other lawful =
     let new : InboxMessage = record { message = m; waiting = None } in
     let fits_new : FitsMessage v.setup v.ctl.sent new = record {
-      fields = takes (slice_get v.setup.buffers m.buffer) m.fields there here;
+      fields = takes v.setup (slice_get v.setup.buffers m.buffer) m.fields there here;
       own_number = λ own. absurd (other own);
       line = tt;
     } in

@@ -22,14 +22,15 @@ use crate::local::{Done, PlainLocal, Post};
 use crate::marks::with_mark;
 use crate::table::PlainTable;
 use crate::{NoMemory, SentCopy, Seq, Waiting};
-use ctl_face::{Setup, TableSetup};
+use ctl_face::Setup;
 use ruby_value::{Answer, Asked, LineMap, Message, MsgNo};
 use std::alloc::Global;
 
-fn opening_tables(alloc: Global, tables: &[TableSetup]) -> Result<Vec<PlainTable>, NoMemory>
-    requires { All IsTableSetup tables.now }
-    ensures { IfOk result (λ all. all.items ≡ map (λ (s : TableSetupRecord). opening_table s.size s.initial) tables.now) }
+fn opening_tables(alloc: Global, setup: &Setup) -> Result<Vec<PlainTable>, NoMemory>
+    requires { All (IsTableSetup setup.now) setup.now.tables }
+    ensures { IfOk result (λ all. all.items ≡ map (λ (s : TableSetupRecord). opening_table s.size s.initial) setup.now.tables) }
 {
+    let tables = setup.tables.as_slice();
     let mut all = Vec::new(alloc);
     for s in tables {
         all.push(PlainTable::opening(alloc, s.size, &s.initial)?)?;
@@ -87,10 +88,10 @@ fn no_requests(alloc: Global, has_sequencer: bool) -> Option<PlainRequests>
 }
 
 fn opened(alloc: Global, setup: Setup, now: u64) -> Result<PlainLocal, NoMemory>
-    requires { All IsTableSetup setup.tables }
+    requires { All (IsTableSetup setup) setup.tables }
     ensures { IfOk result (λ l. view_of l ≡ record { setup = setup; now = now; ctl = opening_ctl setup; acts = record { consumed = []; stalled = []; woken = []; recycled = []; sent = []; again = false } }) }
 {
-    let tables = opening_tables(alloc, setup.tables.as_slice())?;
+    let tables = opening_tables(alloc, &setup)?;
     let sequencer = no_requests(alloc, setup.has_sequencer);
     Ok(PlainLocal {
         alloc,
