@@ -1,7 +1,7 @@
 -- What the acts of a controller have done to messages: the numbers that were consumed, stalled, woken and recycled, and
 -- the copies that were sent, each list in the order of the acts; and whether the controller was told to wake again in the
--- next cycle, as after a stall. It is what a journal tells of a transition, which is
--- this project's own. Nothing here says that the acts are those of one transition alone.
+-- next cycle, as it is where a transition has to wait. A journal tells the lists of a transition, which is this project's
+-- own. Nothing here says that the acts are those of one transition alone.
 use Rattle.std.specs.Prelude.{ℕ, Bool, List}
 use Rattle.ruby_value.specs.declared.message.Message.{Message}
 use Rattle.ruby_value.specs.declared.message.MsgNo.{MsgNo}

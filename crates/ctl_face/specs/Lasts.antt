@@ -1,6 +1,7 @@
 -- The arrivals that later copies may not come before: on an ordered virtual network the last arrival at a receiver, and
--- in an ordered buffer of the controller's own the last arrival there; 0 where nothing was sent yet. That order is kept
--- by raising arrivals is this project's own rule.
+-- in an ordered buffer of the controller's own the greatest arrival of what the controller sent there; 0 where it has sent
+-- nothing. A message of a driver doesn't count, nor does a recycled one. That order is kept by raising arrivals is this
+-- project's own rule.
 use Rattle.std.specs.Prelude.{ℕ, List, slice_get, slice_set, unwrap_or}
 use Rattle.std.specs.Ordering.{nat_cmp}
 use Rattle.std.specs.FinMap as map

@@ -1,7 +1,8 @@
 -- Which tables and buffers each call serves. A look-up and an allocation serve caches, directories and TBE tables; a
 -- deallocation serves caches and TBE tables; the calls on places and on the order of use serve caches, and the count of
 -- what is free serves TBE tables. Messages are taken from buffers that a port may stand on, and sent on those that an
--- out port may stand on, a network's where the message type names its receivers. Which calls a table has is the rule of SLICC in gem5.
+-- out port may stand on, a network's where the message type names its receivers. Which calls a table has is this project's
+-- profile of SLICC.
 use Rattle.std.specs.Prelude.{ℕ, Bool, true, false, Option, None, Some, List, IsTrue, IsSome, IsSomeAnd, is_some, slice_get}
 use Rattle.ruby_value.specs.declared.value.Value.{Value}
 use Rattle.ctl_face.specs.declared.setup.BufferPlace.TheVariants as place

@@ -1,5 +1,5 @@
-//! The controller that every layer above stands on, as plain data, and the calls by which its acts are done: what a
-//! draft changes, what the meaning of a protocol reads and writes, what code that runs on a stack calls.
+//! A controller as plain data, the calls by which its acts are done, and tests of what these calls require. The layers that
+//! are to change controllers, to give a protocol its meaning and to run its code are to stand on it.
 #![tactic(auto)]
 
 mod lawful;

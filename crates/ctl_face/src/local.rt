@@ -44,8 +44,8 @@ pub trait Local {
     fn me(&self) -> u32
         ensures { result ≡ (view self.now).setup.me };
 
-    /// The value of a field of the line that a reference names. The fault `Reference` comes exactly where the line isn't
-    /// there. A machine's parameters are the fields of line 0 of a table of their own.
+    /// The value of a field of the line that a reference names. Of a lawful local the fault `Reference` comes exactly where
+    /// the line isn't there. A machine's parameters are the fields of line 0 of a table of their own.
     fn get(&self, r: &Ref, field: u16) -> Result<Value, Trouble>
         requires served { HasField (view self.now) r.now.table field }
         requires line { IsLine r.now.line }
@@ -76,8 +76,8 @@ pub trait Local {
         requires line { IsLine line }
         ensures { result ≡ avail (view self.now) table line };
 
-    /// The least recently used line of the set of a line, as `cacheProbe`. The fault `Probe` comes exactly where `avail` is
-    /// true.
+    /// The least recently used line of the set of a line, as `cacheProbe`. Of a lawful local the fault `Probe` comes exactly
+    /// where `avail` is true.
     fn probe(&self, table: u16, line: u64) -> Result<u64, Trouble>
         requires served { Serves is_cache (view self.now) table }
         requires line { IsLine line }

@@ -11,6 +11,8 @@ fn pop_if_ready<L: Local>(local: &mut L, buffer: u16) -> Result<bool, Trouble>
     requires served { Receives (L.view local.old) buffer }
     requires lawful { IsLawful (L.view local.old) }
     ensures answer { IfOk result (λ popped. popped ≡ ready (L.view local.old) buffer) }
+    ensures popped { IfOk result (λ popped. IsTrue popped → pop (L.view local.old) buffer ≡ Ok (L.view local.new)) }
+    ensures left { IfOk result (λ popped. popped ≡ false → L.view local.new ≡ L.view local.old) }
     ensures no_fault { IfErr result (λ trouble. trouble ≡ Trouble.NoMemory) }
     ensures lawful { IsLawful (L.view local.new) }
 {

@@ -1,5 +1,5 @@
-//! A plain slow body of the calls by which a controller's acts are done: lists that are walked and written anew. It shows
-//! that what the calls promise can be kept, and the worked rows are tried on it.
+//! A plain slow body of the calls by which a controller's acts are done: messages, marks and last arrivals are lists that
+//! are walked and written anew. It shows that what the calls promise can be kept, and its tests try worked examples on it.
 #![tactic(auto)]
 
 mod asks;
@@ -15,6 +15,8 @@ mod opening;
 mod sending;
 mod table;
 mod tables;
+#[cfg(test)]
+mod tests;
 mod waiting;
 
 pub use asks::PlainRequests;

@@ -1,6 +1,6 @@
--- Whether a value is one of a kind: the same sort of value, and for an enumeration a member of that one.
--- The default member that a kind names doesn't matter. A reference is to an entry or to a TBE, and this doesn't
--- say to which structure, since the value itself doesn't show that.
+-- Whether a value is one of a kind: the same sort of value, and for a member of an enumeration the same enumeration.
+-- Whether the enumeration has so many members isn't asked, and the default member that a kind names doesn't matter. A
+-- reference is to an entry or to a TBE, and this doesn't say of which structure, since the value itself doesn't show that.
 use Rattle.std.specs.Prelude.{Bool, true, false, ◌==◌}
 use Rattle.ruby_value.specs.declared.kind.Kind.{Kind}
 use Rattle.ruby_value.specs.declared.kind.Kind.TheVariants as kind

@@ -1,4 +1,4 @@
--- Whether two values are of one kind: the same sort of value, and for enumerations members of the same one.
+-- Whether two values are of one kind: the same sort of value, and for members of enumerations the same one.
 -- References to entries are of one kind, and so are references to TBEs, whatever structures they name; that a
 -- reference fits its place is told apart before a protocol runs.
 use Rattle.std.specs.Prelude.{Bool, true, false, ◌==◌}

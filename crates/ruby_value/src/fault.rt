@@ -3,8 +3,8 @@ ghost use Rattle.std.specs.Prelude.{◌≡◌, IfOk};
 use crate::{NoMemory, Text};
 use std::alloc::Global;
 
-/// Why a transition can't go on, one variant for each word that the program prints. gem5 stops there with an
-/// assertion or a panic; the words, and which case has which, are this project's own.
+/// Why a transition can't go on. The words are those that a run is to print, and they, and which case has which, are this
+/// project's own: gem5 ends at most of these cases with an assertion or a panic, and leaves the rest to C++.
 #[derive(Debug, Drop)]
 pub enum Fault {
     /// No transition is written for the state and the event.

@@ -29,7 +29,7 @@ pub struct Message {
     pub buffer: u16,
     /// The cycle from which on the message is ready.
     pub arrival: u64,
-    /// Whether it was put back by `recycle` since it last came in.
+    /// Whether `recycle` has put it off, at any time since it was sent.
     pub recycled: bool,
     /// The fields of the buffer's message type.
     pub fields: Fields,

@@ -26,7 +26,7 @@ pub enum Value {
     Bool(bool),
     /// `int`, `Cycles` and `Tick`.
     Int(i64),
-    /// The number of an enumeration, and the number of one of its members.
+    /// The number of an enumeration, and the number of a member, which isn't compared with how many there are.
     Enum(u16, u16),
     /// A byte address.
     Addr(u64),
@@ -49,7 +49,7 @@ impl Value {
         *self == *other
     }
 
-    /// Whether the two values are of one kind: the same variant, and two members of the same enumeration.
+    /// Whether the two values are of one kind: the same variant, and of two members of enumerations the same one.
     /// References are of one kind whatever structures they name.
     pub fn shares_kind(&self, other: &Value) -> bool
         ensures { result ≡ same_kind self.now other.now }

@@ -104,7 +104,7 @@ pub enum Entry {
         controller: u32,
         end: End,
     },
-    /// The driver acted, and the cycle or the run ended.
+    /// The driver acted, unless a controller had stopped, and the cycle or the run ended.
     Turned {
         cycle: u64,
         /// The numbers of the requests that the driver issued.

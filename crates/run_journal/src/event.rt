@@ -13,6 +13,7 @@ pub enum Event {
     Done { worker: u32, controller: u32 },
     /// The worker gives the controller back before its wake-up ended, with the transitions that it has fired.
     Release { worker: u32, controller: u32 },
-    /// Nobody is held and no controller is due: the driver acts, and the next cycle begins or the run ends.
+    /// Nobody is held and no controller is due: the driver acts, unless a controller has stopped, and the next cycle begins
+    /// or the run ends.
     Turn { worker: u32 },
 }

@@ -1,4 +1,4 @@
-/// The last state that was set for an address of a controller. Controllers are counted from 0, the address is a byte
+/// The next state of the last transition that a controller fired for an address. Controllers are counted from 0, the address is a byte
 /// address, and the state is its number in the controller's machine.
 #[derive(Clone, Copy, Debug, PartialEq, Eq)]
 pub struct Final {

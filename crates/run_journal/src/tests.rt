@@ -189,10 +189,9 @@ fn a_part_has_the_entries_of_one_controller(rt: HostRuntime) -> Result<(), Fail>
     Ok(())
 }
 
-#[test]
-fn an_entry_is_copied_whole(rt: HostRuntime) -> Result<(), Fail> {
-    let alloc = rt.alloc();
-    let ends = vec![in alloc;
+// Ends of each kind, a stop where nothing is known among them.
+fn ends(alloc: Global) -> Result<Vec<End>, Fail> {
+    Ok(vec![in alloc;
         End::Idle,
         End::Full,
         End::Stop(StopAt {
@@ -207,72 +206,77 @@ fn an_entry_is_copied_whole(rt: HostRuntime) -> Result<(), Fail> {
             event: Some(3),
             fault: Fault::Error(Text::copied(alloc, b"no owner")?),
         }),
-    ]?;
-    let turns = [
-        (None, None),
-        (
-            Some(Finding::Incoherent {
-                controller: 1,
-                line: 2,
-                offset: 3,
-                expected: 4,
-                found: 5,
-            }),
-            Some(Verdict::Incoherent {
-                cycle: 10,
-                controller: 1,
-                address: 128,
-                offset: 3,
-                expected: 4,
-                found: 5,
-            }),
-        ),
-        (
-            Some(Finding::Deadlock {
-                controller: 1,
-                line: 2,
-                issued: 0,
-            }),
-            Some(Verdict::Deadlock {
-                cycle: 10,
-                controller: 1,
-                address: 128,
-                issued: 0,
-            }),
-        ),
-        (
-            Some(Finding::Passed { checks: 100 }),
-            Some(Verdict::Passed {
-                cycle: 10,
-                checks: 100,
-            }),
-        ),
-        (
-            None,
-            Some(Verdict::Stop {
-                cycle: 10,
-                controller: 1,
-            }),
-        ),
-        (None, Some(Verdict::Quiet { cycle: 10 })),
-        (None, Some(Verdict::Cycles { cycle: 10 })),
-        (
-            None,
-            Some(Verdict::Journal {
-                cycle: 10,
-                entries: 1_000_009,
-            }),
-        ),
-        (
-            None,
-            Some(Verdict::Mail {
-                cycle: 10,
-                messages: 500_001,
-            }),
-        ),
-    ];
-    let mut entries = Vec::new(alloc);
-    entries.push(Entry::Fired {
+    ]?)
+}
+
+// Each finding and each verdict.
+const TURNS: [(Option<Finding>, Option<Verdict>); 9] = [
+    (None, None),
+    (
+        Some(Finding::Incoherent {
+            controller: 1,
+            line: 2,
+            offset: 3,
+            expected: 4,
+            found: 5,
+        }),
+        Some(Verdict::Incoherent {
+            cycle: 10,
+            controller: 1,
+            address: 128,
+            offset: 3,
+            expected: 4,
+            found: 5,
+        }),
+    ),
+    (
+        Some(Finding::Deadlock {
+            controller: 1,
+            line: 2,
+            issued: 0,
+        }),
+        Some(Verdict::Deadlock {
+            cycle: 10,
+            controller: 1,
+            address: 128,
+            issued: 0,
+        }),
+    ),
+    (
+        Some(Finding::Passed { checks: 100 }),
+        Some(Verdict::Passed {
+            cycle: 10,
+            checks: 100,
+        }),
+    ),
+    (
+        None,
+        Some(Verdict::Stop {
+            cycle: 10,
+            controller: 1,
+        }),
+    ),
+    (None, Some(Verdict::Quiet { cycle: 10 })),
+    (None, Some(Verdict::Cycles { cycle: 10 })),
+    (
+        None,
+        Some(Verdict::Journal {
+            cycle: 10,
+            entries: 1_000_009,
+        }),
+    ),
+    (
+        None,
+        Some(Verdict::Mail {
+            cycle: 10,
+            messages: 500_001,
+        }),
+    ),
+];
+
+// A transition with something in each list.
+fn full_transition(alloc: Global) -> Result<Entry, Fail> {
+    Ok(Entry::Fired {
         cycle: 1,
         controller: 2,
         note: note(64, 3, 4, 5),
@@ -289,15 +293,22 @@ fn an_entry_is_copied_whole(rt: HostRuntime) -> Result<(), Fail> {
         stalled: numbers(alloc, &[number(12, 13), number(12, 14)])?,
         woken: numbers(alloc, &[number(15, 16), number(15, 17), number(18, 0)])?,
         recycled: numbers(alloc, &[number(19, 20)])?,
-    })?;
-    for end in ends {
+    })
+}
+
+#[test]
+fn an_entry_is_copied_whole(rt: HostRuntime) -> Result<(), Fail> {
+    let alloc = rt.alloc();
+    let mut entries = Vec::new(alloc);
+    entries.push(full_transition(alloc)?)?;
+    for end in ends(alloc)? {
         entries.push(Entry::Ended {
             cycle: 21,
             controller: 22,
             end,
         })?;
     }
-    for (finding, verdict) in turns {
+    for (finding, verdict) in TURNS {
         entries.push(Entry::Turned {
             cycle: 10,
             issued: numbers(alloc, &[number(23, 24)])?,
@@ -313,33 +324,34 @@ fn an_entry_is_copied_whole(rt: HostRuntime) -> Result<(), Fail> {
     Ok(())
 }
 
+const EVENTS: [Event; 6] = [
+    Event::Take {
+        worker: 0,
+        controller: 1,
+    },
+    Event::Fire {
+        worker: 0,
+        controller: 1,
+    },
+    Event::Done {
+        worker: 0,
+        controller: 1,
+    },
+    Event::Release {
+        worker: 0,
+        controller: 1,
+    },
+    Event::Release {
+        worker: 1,
+        controller: 0,
+    },
+    Event::Turn { worker: 0 },
+];
+
 #[test]
 fn the_counts_of_a_run_are_told_apart(rt: HostRuntime) {
-    let events = [
-        Event::Take {
-            worker: 0,
-            controller: 1,
-        },
-        Event::Fire {
-            worker: 0,
-            controller: 1,
-        },
-        Event::Done {
-            worker: 0,
-            controller: 1,
-        },
-        Event::Release {
-            worker: 0,
-            controller: 1,
-        },
-        Event::Release {
-            worker: 1,
-            controller: 0,
-        },
-        Event::Turn { worker: 0 },
-    ];
-    for (i, a) in events.iter().enumerate() {
-        for (k, b) in events.iter().enumerate() {
+    for (i, a) in EVENTS.iter().enumerate() {
+        for (k, b) in EVENTS.iter().enumerate() {
             assert_eq!(rt; *a == *b, i == k);
         }
     }
