@@ -14,3 +14,4 @@ pub mod Kept
 pub mod Turns
 pub mod Accounting
 pub mod Alone
+pub mod NextCycles

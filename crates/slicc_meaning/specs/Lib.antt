@@ -22,3 +22,4 @@ pub mod Text
 pub mod Answer
 pub mod InvalidExactly
 pub mod Tally
+pub mod NextCycle

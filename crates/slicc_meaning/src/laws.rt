@@ -1,14 +1,17 @@
 // What holds of every run. These functions do nothing: their contracts are the laws.
-ghost use Rattle.std.specs.Prelude.{◌≡◌, ◌+◌, List};
+ghost use Rattle.std.specs.Prelude.{◌≡◌, ◌+◌, ℕ, List, Option};
 ghost use Rattle.slicc_meaning.specs.declared.plan.Plan.{Plan as PlanRecord};
 ghost use Rattle.slicc_meaning.specs.declared.record.Entry.{Entry as EntryRecord};
 ghost use Rattle.slicc_meaning.specs.declared.record.Event.{Event as EventRecord};
+ghost use Rattle.slicc_meaning.specs.declared.world.Place.{Place as PlaceRecord};
 ghost use Rattle.slicc_meaning.specs.declared.world.Setting.{Setting as SettingRecord};
 ghost use Rattle.slicc_meaning.specs.declared.world.World.{World as WorldRecord};
 ghost use Rattle.slicc_meaning.specs.Account.{IsAccounted, account};
 ghost use Rattle.slicc_meaning.specs.InvalidExactly.{InvalidExactly};
+ghost use Rattle.slicc_meaning.specs.NextCycle.{IsNextCycle};
 ghost use Rattle.slicc_meaning.specs.Run.{IsRun};
 ghost use Rattle.slicc_meaning.specs.Topology.{HasSeats, plain_of as plain_of_plan};
+ghost use Rattle.slicc_meaning.specs.Verdict.{next_cycle};
 ghost use Rattle.slicc_meaning.specs.WakesOnce.{WakesOnce};
 
 /// In a run each controller that must wake at a cycle ends its wake-up in it once, and no other controller does.
@@ -28,4 +31,10 @@ pub fn accounts_for_each_message()
     ensures accounted { (s : SettingRecord) (history : List EventRecord) (w : WorldRecord) (journal : List EntryRecord) → HasSeats s.topology → IsRun s history w journal → IsAccounted journal w }
     ensures adds_up { (s : SettingRecord) (history : List EventRecord) (w : WorldRecord) (journal : List EntryRecord) → HasSeats s.topology → IsRun s history w journal → let a = account journal w.places in a.sent ≡ a.consumed + a.queued + a.stalled + a.recycled }
     ensures plain_has_seats { (p : PlanRecord) → HasSeats (plain_of_plan p) }
+{}
+
+/// The cycle that a turn goes on to is the least one above this at which a controller or the driver must act, and where
+/// nothing must act above this cycle there is none.
+pub fn next_cycle_is_the_least()
+    ensures { (now : ℕ) (next : Option ℕ) (places : List PlaceRecord) → IsNextCycle now next places (next_cycle now next places) }
 {}
