@@ -15,3 +15,4 @@ pub mod Turns
 pub mod Accounting
 pub mod Alone
 pub mod NextCycles
+pub mod Fronts

@@ -23,3 +23,5 @@ pub mod Answer
 pub mod InvalidExactly
 pub mod Tally
 pub mod NextCycle
+pub mod IsNumberBefore
+pub mod IsFront

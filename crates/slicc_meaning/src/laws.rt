@@ -1,5 +1,6 @@
 // What holds of every run. These functions do nothing: their contracts are the laws.
 ghost use Rattle.std.specs.Prelude.{◌≡◌, ◌+◌, ℕ, List, Option};
+ghost use Rattle.slicc_meaning.specs.declared.controller.Message.{Message as MessageRecord};
 ghost use Rattle.slicc_meaning.specs.declared.plan.Plan.{Plan as PlanRecord};
 ghost use Rattle.slicc_meaning.specs.declared.record.Entry.{Entry as EntryRecord};
 ghost use Rattle.slicc_meaning.specs.declared.record.Event.{Event as EventRecord};
@@ -7,7 +8,9 @@ ghost use Rattle.slicc_meaning.specs.declared.world.Place.{Place as PlaceRecord}
 ghost use Rattle.slicc_meaning.specs.declared.world.Setting.{Setting as SettingRecord};
 ghost use Rattle.slicc_meaning.specs.declared.world.World.{World as WorldRecord};
 ghost use Rattle.slicc_meaning.specs.Account.{IsAccounted, account};
+ghost use Rattle.slicc_meaning.specs.Front.{front};
 ghost use Rattle.slicc_meaning.specs.InvalidExactly.{InvalidExactly};
+ghost use Rattle.slicc_meaning.specs.IsFront.{IsFront};
 ghost use Rattle.slicc_meaning.specs.NextCycle.{IsNextCycle};
 ghost use Rattle.slicc_meaning.specs.Run.{IsRun};
 ghost use Rattle.slicc_meaning.specs.Topology.{HasSeats, plain_of as plain_of_plan};
@@ -37,4 +40,10 @@ pub fn accounts_for_each_message()
 /// nothing must act above this cycle there is none.
 pub fn next_cycle_is_the_least()
     ensures { (now : ℕ) (next : Option ℕ) (places : List PlaceRecord) → IsNextCycle now next places (next_cycle now next places) }
+{}
+
+/// The front of a buffer at a cycle is a ready message of the inbox before which no other ready message of it comes, and
+/// where no message of the inbox is ready there is none.
+pub fn front_comes_first()
+    ensures { (inbox : List MessageRecord) (buffer now : ℕ) → IsFront inbox buffer now (front inbox buffer now) }
 {}
