@@ -16,3 +16,5 @@ pub mod Accounting
 pub mod Alone
 pub mod NextCycles
 pub mod Fronts
+pub mod Orders
+pub mod FinalLists

@@ -25,3 +25,5 @@ pub mod Tally
 pub mod NextCycle
 pub mod IsNumberBefore
 pub mod IsFront
+pub mod LastState
+pub mod AreFinals

@@ -8,6 +8,8 @@ ghost use Rattle.slicc_meaning.specs.declared.world.Place.{Place as PlaceRecord}
 ghost use Rattle.slicc_meaning.specs.declared.world.Setting.{Setting as SettingRecord};
 ghost use Rattle.slicc_meaning.specs.declared.world.World.{World as WorldRecord};
 ghost use Rattle.slicc_meaning.specs.Account.{IsAccounted, account};
+ghost use Rattle.slicc_meaning.specs.AreFinals.{AreFinals};
+ghost use Rattle.slicc_meaning.specs.Finals.{finals};
 ghost use Rattle.slicc_meaning.specs.Front.{front};
 ghost use Rattle.slicc_meaning.specs.InvalidExactly.{InvalidExactly};
 ghost use Rattle.slicc_meaning.specs.IsFront.{IsFront};
@@ -46,4 +48,10 @@ pub fn next_cycle_is_the_least()
 /// where no message of the inbox is ready there is none.
 pub fn front_comes_first()
     ensures { (inbox : List MessageRecord) (buffer now : ℕ) → IsFront inbox buffer now (front inbox buffer now) }
+{}
+
+/// Each controller and address that a transition fired for stands in the final states once, with the next state of the
+/// last such transition; nothing else stands there, and they ascend by controller and then address.
+pub fn finals_are_the_last_states()
+    ensures { (journal : List EntryRecord) → AreFinals journal (finals journal) }
 {}
