@@ -18,3 +18,5 @@ pub mod NextCycles
 pub mod Fronts
 pub mod Orders
 pub mod FinalLists
+pub mod Lasting
+pub mod Ordered

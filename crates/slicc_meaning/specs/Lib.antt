@@ -27,3 +27,4 @@ pub mod IsNumberBefore
 pub mod IsFront
 pub mod LastState
 pub mod AreFinals
+pub mod IsOrdered

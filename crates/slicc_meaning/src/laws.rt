@@ -13,6 +13,7 @@ ghost use Rattle.slicc_meaning.specs.Finals.{finals};
 ghost use Rattle.slicc_meaning.specs.Front.{front};
 ghost use Rattle.slicc_meaning.specs.InvalidExactly.{InvalidExactly};
 ghost use Rattle.slicc_meaning.specs.IsFront.{IsFront};
+ghost use Rattle.slicc_meaning.specs.IsOrdered.{IsWorldOrdered};
 ghost use Rattle.slicc_meaning.specs.NextCycle.{IsNextCycle};
 ghost use Rattle.slicc_meaning.specs.Run.{IsRun};
 ghost use Rattle.slicc_meaning.specs.Topology.{HasSeats, plain_of as plain_of_plan};
@@ -54,4 +55,10 @@ pub fn front_comes_first()
 /// last such transition; nothing else stands there, and they ascend by controller and then address.
 pub fn finals_are_the_last_states()
     ensures { (journal : List EntryRecord) → AreFinals journal (finals journal) }
+{}
+
+/// In each world of a run each controller's states ascend by their addresses, its messages by their numbers, and its
+/// marks, so that none of these is in its list twice.
+pub fn lists_ascend()
+    ensures { (s : SettingRecord) (history : List EventRecord) (w : WorldRecord) (journal : List EntryRecord) → IsRun s history w journal → IsWorldOrdered w }
 {}
