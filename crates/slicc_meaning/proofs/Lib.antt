@@ -20,3 +20,4 @@ pub mod Orders
 pub mod FinalLists
 pub mod Lasting
 pub mod Ordered
+pub mod OneKey

@@ -1,6 +1,8 @@
 // What holds of every run. These functions do nothing: their contracts are the laws.
-ghost use Rattle.std.specs.Prelude.{◌≡◌, ◌+◌, ℕ, List, Option};
+ghost use Rattle.std.specs.Prelude.{◌≡◌, ◌≢◌, ◌≤◌, ◌⊎◌, ◌↔◌, ◌==◌, ◌+◌, ℕ, List, Option, Contains, IsTrue, if◌then◌else◌};
 ghost use Rattle.slicc_meaning.specs.declared.controller.Message.{Message as MessageRecord};
+ghost use Rattle.slicc_meaning.specs.declared.controller.MsgNo.{MsgNo as MsgNoRecord};
+ghost use Rattle.slicc_meaning.specs.declared.controller.StateAt.{StateAt as StateAtRecord};
 ghost use Rattle.slicc_meaning.specs.declared.plan.Plan.{Plan as PlanRecord};
 ghost use Rattle.slicc_meaning.specs.declared.record.Entry.{Entry as EntryRecord};
 ghost use Rattle.slicc_meaning.specs.declared.record.Event.{Event as EventRecord};
@@ -9,13 +11,15 @@ ghost use Rattle.slicc_meaning.specs.declared.world.Setting.{Setting as SettingR
 ghost use Rattle.slicc_meaning.specs.declared.world.World.{World as WorldRecord};
 ghost use Rattle.slicc_meaning.specs.Account.{IsAccounted, account};
 ghost use Rattle.slicc_meaning.specs.AreFinals.{AreFinals};
+ghost use Rattle.slicc_meaning.specs.Ascending.{has_mark, marks_from, with_mark};
 ghost use Rattle.slicc_meaning.specs.Finals.{finals};
-ghost use Rattle.slicc_meaning.specs.Front.{front};
+ghost use Rattle.slicc_meaning.specs.Front.{front, with_message, without_message};
 ghost use Rattle.slicc_meaning.specs.InvalidExactly.{InvalidExactly};
 ghost use Rattle.slicc_meaning.specs.IsFront.{IsFront};
 ghost use Rattle.slicc_meaning.specs.IsOrdered.{IsWorldOrdered};
 ghost use Rattle.slicc_meaning.specs.NextCycle.{IsNextCycle};
 ghost use Rattle.slicc_meaning.specs.Run.{IsRun};
+ghost use Rattle.slicc_meaning.specs.States.{state_at, with_state};
 ghost use Rattle.slicc_meaning.specs.Topology.{HasSeats, plain_of as plain_of_plan};
 ghost use Rattle.slicc_meaning.specs.Verdict.{next_cycle};
 ghost use Rattle.slicc_meaning.specs.WakesOnce.{WakesOnce};
@@ -61,4 +65,14 @@ pub fn finals_are_the_last_states()
 /// marks, so that none of these is in its list twice.
 pub fn lists_ascend()
     ensures { (s : SettingRecord) (history : List EventRecord) (w : WorldRecord) (journal : List EntryRecord) → IsRun s history w journal → IsWorldOrdered w }
+{}
+
+/// The lists that stand for sets and maps change as those do, at one cycle, message number or address and nowhere else:
+/// a mark more, the marks from a cycle on, a message more, a message less, and a state that is set.
+pub fn lists_change_at_one_key()
+    ensures mark_more { (marks : List ℕ) (cycle other : ℕ) → IsTrue (has_mark (with_mark marks cycle) other) ↔ ((cycle ≡ other) ⊎ IsTrue (has_mark marks other)) }
+    ensures marks_left { (marks : List ℕ) (cycle other : ℕ) → IsTrue (has_mark (marks_from cycle marks) other) ↔ ((cycle ≤ other) × IsTrue (has_mark marks other)) }
+    ensures message_more { (inbox : List MessageRecord) (m other : MessageRecord) → Contains (with_message inbox m) other ↔ ((m ≡ other) ⊎ (Contains inbox other × (other.number ≢ m.number))) }
+    ensures message_less { (inbox : List MessageRecord) (number : MsgNoRecord) (other : MessageRecord) → Contains (without_message inbox number) other ↔ (Contains inbox other × (other.number ≢ number)) }
+    ensures state_set { (default : ℕ) (states : List StateAtRecord) (address state other : ℕ) → state_at default (with_state states address state) other ≡ (if address == other then state else state_at default states other) }
 {}
