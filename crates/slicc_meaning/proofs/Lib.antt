@@ -21,3 +21,4 @@ pub mod FinalLists
 pub mod Lasting
 pub mod Ordered
 pub mod OneKey
+pub mod Outcomes

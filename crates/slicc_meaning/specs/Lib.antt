@@ -28,3 +28,4 @@ pub mod IsFront
 pub mod LastState
 pub mod AreFinals
 pub mod IsOrdered
+pub mod IsOutcome

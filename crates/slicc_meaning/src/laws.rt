@@ -1,11 +1,12 @@
-// What holds of every run. These functions do nothing: their contracts are the laws.
-ghost use Rattle.std.specs.Prelude.{◌≡◌, ◌≢◌, ◌≤◌, ◌⊎◌, ◌↔◌, ◌==◌, ◌+◌, ℕ, List, Option, Contains, IsTrue, if◌then◌else◌};
+// What holds of every run, and of what a run is made of. These functions do nothing: their contracts are the laws.
+ghost use Rattle.std.specs.Prelude.{◌≡◌, ◌≢◌, ◌≤◌, ◌⊎◌, ◌↔◌, ◌==◌, ◌+◌, ℕ, List, Option, Some, Contains, IsTrue, if◌then◌else◌};
 ghost use Rattle.slicc_meaning.specs.declared.controller.Message.{Message as MessageRecord};
 ghost use Rattle.slicc_meaning.specs.declared.controller.MsgNo.{MsgNo as MsgNoRecord};
 ghost use Rattle.slicc_meaning.specs.declared.controller.StateAt.{StateAt as StateAtRecord};
 ghost use Rattle.slicc_meaning.specs.declared.plan.Plan.{Plan as PlanRecord};
 ghost use Rattle.slicc_meaning.specs.declared.record.Entry.{Entry as EntryRecord};
 ghost use Rattle.slicc_meaning.specs.declared.record.Event.{Event as EventRecord};
+ghost use Rattle.slicc_meaning.specs.declared.record.Event.TheVariants.{Turn};
 ghost use Rattle.slicc_meaning.specs.declared.world.Place.{Place as PlaceRecord};
 ghost use Rattle.slicc_meaning.specs.declared.world.Setting.{Setting as SettingRecord};
 ghost use Rattle.slicc_meaning.specs.declared.world.World.{World as WorldRecord};
@@ -17,9 +18,11 @@ ghost use Rattle.slicc_meaning.specs.Front.{front, with_message, without_message
 ghost use Rattle.slicc_meaning.specs.InvalidExactly.{InvalidExactly};
 ghost use Rattle.slicc_meaning.specs.IsFront.{IsFront};
 ghost use Rattle.slicc_meaning.specs.IsOrdered.{IsWorldOrdered};
+ghost use Rattle.slicc_meaning.specs.IsOutcome.{IsOutcome};
 ghost use Rattle.slicc_meaning.specs.NextCycle.{IsNextCycle};
 ghost use Rattle.slicc_meaning.specs.Run.{IsRun};
 ghost use Rattle.slicc_meaning.specs.States.{state_at, with_state};
+ghost use Rattle.slicc_meaning.specs.Step.{step};
 ghost use Rattle.slicc_meaning.specs.Topology.{HasSeats, plain_of as plain_of_plan};
 ghost use Rattle.slicc_meaning.specs.Verdict.{next_cycle};
 ghost use Rattle.slicc_meaning.specs.WakesOnce.{WakesOnce};
@@ -43,10 +46,16 @@ pub fn accounts_for_each_message()
     ensures plain_has_seats { (p : PlanRecord) → HasSeats (plain_of_plan p) }
 {}
 
-/// The cycle that a turn goes on to is the least one above this at which a controller or the driver must act, and where
-/// nothing must act above this cycle there is none.
+/// The next cycle is the least one above this at which a controller or the driver must act, and where nothing must act
+/// above this cycle there is none.
 pub fn next_cycle_is_the_least()
     ensures { (now : ℕ) (next : Option ℕ) (places : List PlaceRecord) → IsNextCycle now next places (next_cycle now next places) }
+{}
+
+/// A turn ends the run with its least-numbered stopped controller, or, where none has stopped, goes on to the next cycle
+/// where that is within the bound, ends at the bound where it is beyond it, and else ends quietly.
+pub fn turns_go_to_the_next_cycle()
+    ensures { (s : SettingRecord) (w v : WorldRecord) (worker : ℕ) (entry : Option EntryRecord) → step s w (Turn worker) ≡ Some (record { world = v; entry = entry }) → IsOutcome s w v.now v.verdict }
 {}
 
 /// The front of a buffer at a cycle is a ready message of the inbox before which no other ready message of it comes, and
