@@ -1,5 +1,5 @@
 // A plain run and its record.
-ghost use Rattle.std.specs.Prelude.{◌≡◌, ◌<◌, ◌^◌, ◌∷◌, [], IfOk, length};
+ghost use Rattle.std.specs.Prelude.{◌≡◌, ◌<◌, ◌≤◌, ◌^◌, ◌∷◌, [], IfOk, length};
 ghost use Rattle.slicc_meaning.specs.World.{opening_place as opening_place_of};
 ghost use Rattle.plain_run.specs.Book.{IsRunSoFar};
 ghost use Rattle.plain_run.specs.Cycle.{IsBetween};
@@ -55,7 +55,8 @@ fn open(alloc: Global, setting: &Setting) -> Result<Book, NoMemory>
     })
 }
 
-/// Runs a plan with one controller by the plain driver, from the opening to a verdict, and keeps the record.
+/// Runs a plan with one controller by the plain driver, from the opening to a verdict, and keeps the record. The driver
+/// issues at most 100,000 requests, since the definition of verdicts is that of such runs.
 pub fn run_plain(
     alloc: Global,
     options: Options,
@@ -63,6 +64,7 @@ pub fn run_plain(
     topology: Topology,
 ) -> Result<RunRecord, NoMemory>
     requires one { topology.counts ≡ 1 ∷ [] }
+    requires count { options.count ≤ 100000 }
     requires cycles { options.cycles < 2 ^ 63 }
     requires limit { options.limit < 2 ^ 63 }
     ensures whole { IfOk result IsWholeRun }

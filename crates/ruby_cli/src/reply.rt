@@ -34,6 +34,7 @@ pub enum Reply {
 
 // The reply to the bytes of the protocol.
 fn reply_to(alloc: Global, options: Options, bytes: &[u8]) -> Result<Reply, NoMemory>
+    requires count { options.count ≤ 100000 }
     requires cycles { options.cycles < 2 ^ 63 }
     requires limit { options.limit < 2 ^ 63 }
     ensures { IfOk result (IsReplyTo bytes.now options) }
@@ -56,6 +57,7 @@ pub fn find_reply<L: Library>(
     library: &mut L,
 ) -> Result<Reply, NoMemory>
     requires name { IsUtf8 options.protocol }
+    requires count { options.count ≤ 100000 }
     requires cycles { options.cycles < 2 ^ 63 }
     requires limit { options.limit < 2 ^ 63 }
     ensures read { IsReadOnce L.reads options library.old library.new (λ got. IfOk result (IsReplyBy options got)) }

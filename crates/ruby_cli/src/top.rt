@@ -77,6 +77,7 @@ fn prepare<L: Library>(
     library: &mut L,
 ) -> Result<(Reply, Text), NoMemory>
     requires name { IsUtf8 options.protocol }
+    requires count { options.count ≤ 100000 }
     requires cycles { options.cycles < 2 ^ 63 }
     requires limit { options.limit < 2 ^ 63 }
     ensures read { IsReadOnce L.reads options library.old library.new (λ got. IfOk result (λ r. IsReplyBy options got r.0)) }

@@ -14,3 +14,11 @@ pub mod Kept
 pub mod Turns
 pub mod Accounting
 pub mod Alone
+pub mod NextCycles
+pub mod Fronts
+pub mod Orders
+pub mod FinalLists
+pub mod Lasting
+pub mod Ordered
+pub mod OneKey
+pub mod Outcomes

@@ -22,3 +22,10 @@ pub mod Text
 pub mod Answer
 pub mod InvalidExactly
 pub mod Tally
+pub mod NextCycle
+pub mod IsNumberBefore
+pub mod IsFront
+pub mod LastState
+pub mod AreFinals
+pub mod IsOrdered
+pub mod IsOutcome

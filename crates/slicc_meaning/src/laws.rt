@@ -1,14 +1,30 @@
-// What holds of every run. These functions do nothing: their contracts are the laws.
-ghost use Rattle.std.specs.Prelude.{◌≡◌, ◌+◌, List};
+// What holds of every run, and of what a run is made of. These functions do nothing: their contracts are the laws.
+ghost use Rattle.std.specs.Prelude.{◌≡◌, ◌≢◌, ◌≤◌, ◌⊎◌, ◌↔◌, ◌==◌, ◌+◌, ℕ, List, Option, Some, Contains, IsTrue, if◌then◌else◌};
+ghost use Rattle.slicc_meaning.specs.declared.controller.Message.{Message as MessageRecord};
+ghost use Rattle.slicc_meaning.specs.declared.controller.MsgNo.{MsgNo as MsgNoRecord};
+ghost use Rattle.slicc_meaning.specs.declared.controller.StateAt.{StateAt as StateAtRecord};
 ghost use Rattle.slicc_meaning.specs.declared.plan.Plan.{Plan as PlanRecord};
 ghost use Rattle.slicc_meaning.specs.declared.record.Entry.{Entry as EntryRecord};
 ghost use Rattle.slicc_meaning.specs.declared.record.Event.{Event as EventRecord};
+ghost use Rattle.slicc_meaning.specs.declared.record.Event.TheVariants.{Turn};
+ghost use Rattle.slicc_meaning.specs.declared.world.Place.{Place as PlaceRecord};
 ghost use Rattle.slicc_meaning.specs.declared.world.Setting.{Setting as SettingRecord};
 ghost use Rattle.slicc_meaning.specs.declared.world.World.{World as WorldRecord};
 ghost use Rattle.slicc_meaning.specs.Account.{IsAccounted, account};
+ghost use Rattle.slicc_meaning.specs.AreFinals.{AreFinals};
+ghost use Rattle.slicc_meaning.specs.Ascending.{has_mark, marks_from, with_mark};
+ghost use Rattle.slicc_meaning.specs.Finals.{finals};
+ghost use Rattle.slicc_meaning.specs.Front.{front, with_message, without_message};
 ghost use Rattle.slicc_meaning.specs.InvalidExactly.{InvalidExactly};
+ghost use Rattle.slicc_meaning.specs.IsFront.{IsFront};
+ghost use Rattle.slicc_meaning.specs.IsOrdered.{IsWorldOrdered};
+ghost use Rattle.slicc_meaning.specs.IsOutcome.{IsOutcome};
+ghost use Rattle.slicc_meaning.specs.NextCycle.{IsNextCycle};
 ghost use Rattle.slicc_meaning.specs.Run.{IsRun};
+ghost use Rattle.slicc_meaning.specs.States.{state_at, with_state};
+ghost use Rattle.slicc_meaning.specs.Step.{step};
 ghost use Rattle.slicc_meaning.specs.Topology.{HasSeats, plain_of as plain_of_plan};
+ghost use Rattle.slicc_meaning.specs.Verdict.{next_cycle};
 ghost use Rattle.slicc_meaning.specs.WakesOnce.{WakesOnce};
 
 /// In a run each controller that must wake at a cycle ends its wake-up in it once, and no other controller does.
@@ -28,4 +44,44 @@ pub fn accounts_for_each_message()
     ensures accounted { (s : SettingRecord) (history : List EventRecord) (w : WorldRecord) (journal : List EntryRecord) → HasSeats s.topology → IsRun s history w journal → IsAccounted journal w }
     ensures adds_up { (s : SettingRecord) (history : List EventRecord) (w : WorldRecord) (journal : List EntryRecord) → HasSeats s.topology → IsRun s history w journal → let a = account journal w.places in a.sent ≡ a.consumed + a.queued + a.stalled + a.recycled }
     ensures plain_has_seats { (p : PlanRecord) → HasSeats (plain_of_plan p) }
+{}
+
+/// The next cycle is the least one above this at which a controller or the driver must act, and where nothing must act
+/// above this cycle there is none.
+pub fn next_cycle_is_the_least()
+    ensures { (now : ℕ) (next : Option ℕ) (places : List PlaceRecord) → IsNextCycle now next places (next_cycle now next places) }
+{}
+
+/// A turn ends the run with its least-numbered stopped controller, or, where none has stopped, goes on to the next cycle
+/// where that is within the bound, ends at the bound where it is beyond it, and else ends quietly.
+pub fn turns_go_to_the_next_cycle()
+    ensures { (s : SettingRecord) (w v : WorldRecord) (worker : ℕ) (entry : Option EntryRecord) → step s w (Turn worker) ≡ Some (record { world = v; entry = entry }) → IsOutcome s w v.now v.verdict }
+{}
+
+/// The front of a buffer at a cycle is a ready message of the inbox before which no other ready message of it comes, and
+/// where no message of the inbox is ready there is none.
+pub fn front_comes_first()
+    ensures { (inbox : List MessageRecord) (buffer now : ℕ) → IsFront inbox buffer now (front inbox buffer now) }
+{}
+
+/// Each controller and address that a transition fired for stands in the final states once, with the next state of the
+/// last such transition; nothing else stands there, and they ascend by controller and then address.
+pub fn finals_are_the_last_states()
+    ensures { (journal : List EntryRecord) → AreFinals journal (finals journal) }
+{}
+
+/// In each world of a run each controller's states ascend by their addresses, its messages by their numbers, and its
+/// marks, so that none of these is in its list twice.
+pub fn lists_ascend()
+    ensures { (s : SettingRecord) (history : List EventRecord) (w : WorldRecord) (journal : List EntryRecord) → IsRun s history w journal → IsWorldOrdered w }
+{}
+
+/// The lists that stand for sets and maps change as those do, at one cycle, message number or address and nowhere else:
+/// a mark more, the marks from a cycle on, a message more, a message less, and a state that is set.
+pub fn lists_change_at_one_key()
+    ensures mark_more { (marks : List ℕ) (cycle other : ℕ) → IsTrue (has_mark (with_mark marks cycle) other) ↔ ((cycle ≡ other) ⊎ IsTrue (has_mark marks other)) }
+    ensures marks_left { (marks : List ℕ) (cycle other : ℕ) → IsTrue (has_mark (marks_from cycle marks) other) ↔ ((cycle ≤ other) × IsTrue (has_mark marks other)) }
+    ensures message_more { (inbox : List MessageRecord) (m other : MessageRecord) → Contains (with_message inbox m) other ↔ ((m ≡ other) ⊎ (Contains inbox other × (other.number ≢ m.number))) }
+    ensures message_less { (inbox : List MessageRecord) (number : MsgNoRecord) (other : MessageRecord) → Contains (without_message inbox number) other ↔ (Contains inbox other × (other.number ≢ number)) }
+    ensures state_set { (default : ℕ) (states : List StateAtRecord) (address state other : ℕ) → state_at default (with_state states address state) other ≡ (if address == other then state else state_at default states other) }
 {}

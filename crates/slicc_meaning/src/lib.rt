@@ -27,7 +27,11 @@ pub use ascending::{has_mark, marks_from, with_mark};
 pub use controller::{Acted, Controller, Message, MsgNo, Scanned, StateAt};
 pub use finals::finals_of;
 pub use front::with_message;
-pub use laws::{accounts_for_each_message, invalid_comes_exactly, wakes_once};
+pub use laws::{
+    accounts_for_each_message, finals_are_the_last_states, front_comes_first,
+    invalid_comes_exactly, lists_ascend, lists_change_at_one_key, next_cycle_is_the_least,
+    turns_go_to_the_next_cycle, wakes_once,
+};
 pub use plan::{
     ActionPlan, Dequeue, If, MachinePlan, Peek, Plan, PortPlan, Trigger, WrittenTransition,
 };

@@ -1,0 +1,111 @@
+-- The front of a buffer is a ready message before which no other ready one comes.
+use Rattle.std.proofs.Common.{◌≡◌, ◌⊎◌, ℕ, zero, suc, Bool, true, false, ◌&&◌, ◌==◌, Option, None, Some, List, [], ◌∷◌, cond, nat_le, is_none, refl, sym, subst, ap, inl, inr, ⊎_elim, eq-eqb, le-leb, Contains, filter, arith}
+use Rattle.std.proofs.lemmas.Bool.{and_from}
+use Rattle.std.proofs.lemmas.Bool.Decides.{nat_tests}
+use Rattle.slicc_meaning.specs.declared.controller.Message.{Message}
+use Rattle.slicc_meaning.specs.declared.controller.MsgNo.{MsgNo}
+use Rattle.slicc_meaning.specs.Front.{number_before, is_ready, message_before, earlier_message, least_message, front}
+use Rattle.slicc_meaning.specs.IsFront.{IsReady, IsMessageBefore, IsFirstReady, IsFront}
+use Rattle.slicc_meaning.specs.IsNumberBefore.{IsNumberBefore}
+
+none_is : (o : Option ℕ) → is_none o ≡ true → o ≡ None
+none_is None is = refl
+none_is (Some x) is = absurd (cc is)
+
+ready : (buffer now : ℕ) (m : Message) → is_ready buffer now m ≡ true → IsReady buffer now m
+ready buffer now m is = record {
+  in_buffer = grind (arith, nat_tests, is);
+  arrived = grind (arith, nat_tests, is);
+  not_aside = none_is m.waiting (grind (arith, nat_tests, is));
+}
+
+passes : (buffer now : ℕ) (m : Message) → IsReady buffer now m → is_ready buffer now m ≡ true
+passes buffer now m is =
+    let here : (m.buffer == buffer) ≡ true = eq-eqb m.buffer buffer is.in_buffer in
+    let come : nat_le m.arrival now ≡ true = le-leb m.arrival now is.arrived in
+    let free : is_none m.waiting ≡ true = ap is_none is.not_aside in
+    and_from (m.buffer == buffer && nat_le m.arrival now) (is_none m.waiting) (and_from (m.buffer == buffer) (nat_le m.arrival now) here come) free
+
+pub number-comes : (a b : MsgNo) → number_before a b ≡ true → IsNumberBefore a b
+number-comes a b is = grind (arith, nat_tests, is)
+
+comes : (a b : Message) → message_before a b ≡ true → IsMessageBefore a b
+comes a b is = grind (arith, nat_tests, is)
+
+comes-not : (a b : Message) → message_before a b ≡ false → IsMessageBefore a b → ⊥
+comes-not a b is before = grind (arith, nat_tests, is, before)
+
+itself : (a : Message) → IsMessageBefore a a → ⊥
+itself a before = grind (arith, before)
+
+-- the later of two messages doesn't come before the earlier
+opposite : (a b : Message) → IsMessageBefore a b → IsMessageBefore b a → ⊥
+opposite a b before after = grind (arith, before, after)
+
+-- what comes before one of two messages that are in order comes before the later
+passing : (a b c : Message) → IsMessageBefore a c → (IsMessageBefore b c → ⊥) → IsMessageBefore a b
+passing a b c before not = grind (arith, before, not)
+
+in_rest : (x m : Message) (xs : List Message) → Contains (x ∷ xs) m → (x ≡ m) ⊎ Contains xs m
+in_rest x m xs (zero, within, is) = inl is
+in_rest x m xs (suc k, within, is) = inr (k, omega arith, is)
+
+in_more : (x m : Message) (xs : List Message) → Contains xs m → Contains (x ∷ xs) m
+in_more x m xs has = (suc has.0, omega (arith, has.1), has.2)
+
+-- a message that isn't ready changes nothing
+passed-over : (x : Message) (xs : List Message) (buffer now : ℕ) (o : Option Message) → (IsReady buffer now x → ⊥) → IsFront xs buffer now o → IsFront (x ∷ xs) buffer now o
+passed-over x xs buffer now None not is =
+    λ m has ready_m. ⊎_elim (λ same. not (subst (IsReady buffer now) (sym same) ready_m)) (λ there. is m there ready_m) (in_rest x m xs has)
+passed-over x xs buffer now (Some m) not is = record {
+  held = in_more x m xs is.held;
+  ready = is.ready;
+  first = λ other has ready_other before.
+      ⊎_elim
+      (λ same. not (subst (IsReady buffer now) (sym same) ready_other))
+      (λ there. is.first other there ready_other before)
+      (in_rest x other xs has);
+}
+
+-- of a ready message and the front of the rest the earlier is the front
+earlier-of : (x : Message) (xs : List Message) (buffer now : ℕ) (o : Message) (b : Bool) → message_before o x ≡ b → IsReady buffer now x → IsFirstReady xs buffer now o → IsFirstReady (x ∷ xs) buffer now (cond b o x)
+earlier-of x xs buffer now o true is ready_x front_is = record {
+  held = in_more x o xs front_is.held;
+  ready = front_is.ready;
+  first = λ other has ready_other before.
+      ⊎_elim
+      (λ same. opposite o x (comes o x is) (subst (λ (m : Message). IsMessageBefore m o) (sym same) before))
+      (λ there. front_is.first other there ready_other before)
+      (in_rest x other xs has);
+}
+earlier-of x xs buffer now o false is ready_x front_is = record {
+  held = (0, omega arith, refl);
+  ready = ready_x;
+  first = λ other has ready_other before.
+      ⊎_elim
+      (λ same. itself x (subst (λ (m : Message). IsMessageBefore m x) (sym same) before))
+      (λ there. front_is.first other there ready_other (passing other o x before (comes-not o x is)))
+      (in_rest x other xs has);
+}
+
+taken-in : (x : Message) (xs : List Message) (buffer now : ℕ) (o : Option Message) → IsReady buffer now x → IsFront xs buffer now o → IsFront (x ∷ xs) buffer now (Some (earlier_message x o))
+taken-in x xs buffer now None ready_x is = record {
+  held = (0, omega arith, refl);
+  ready = ready_x;
+  first = λ other has ready_other before.
+      ⊎_elim
+      (λ same. itself x (subst (λ (m : Message). IsMessageBefore m x) (sym same) before))
+      (λ there. is other there ready_other)
+      (in_rest x other xs has);
+}
+taken-in x xs buffer now (Some o) ready_x is = earlier-of x xs buffer now o (message_before o x) refl ready_x is
+
+front-by : (x : Message) (xs : List Message) (buffer now : ℕ) (b : Bool) → is_ready buffer now x ≡ b → IsFront xs buffer now (front xs buffer now)
+    → IsFront (x ∷ xs) buffer now (least_message (cond b (x ∷ filter (is_ready buffer now) xs) (filter (is_ready buffer now) xs)))
+front-by x xs buffer now true is front_is = taken-in x xs buffer now (front xs buffer now) (ready buffer now x is) front_is
+front-by x xs buffer now false is front_is =
+    passed-over x xs buffer now (front xs buffer now) (λ ready_x. let so : is_ready buffer now x ≡ true = passes buffer now x ready_x in cc) front_is
+
+pub front-is : (inbox : List Message) (buffer now : ℕ) → IsFront inbox buffer now (front inbox buffer now)
+front-is [] buffer now = λ m has ready_m. absurd (omega (arith, has.1))
+front-is (x ∷ xs) buffer now = front-by x xs buffer now (is_ready buffer now x) refl (front-is xs buffer now)

@@ -1,0 +1,103 @@
+-- The next cycle is the least one above this at which something must act.
+use Rattle.std.proofs.Common.{◌≡◌, ◌<◌, ◌≤◌, ◌⊎◌, ℕ, zero, suc, Bool, true, false, ◌||◌, ◌==◌, Option, None, Some, List, [], ◌∷◌, min, cond, nat_lt, refl, sym, subst, ap, inl, inr, ⊎_elim, IsTrue, eqb-true, eq-eqb, arith}
+use Rattle.std.proofs.lemmas.Bool.{cases_lt, or_right, or_left}
+use Rattle.std.proofs.lemmas.Bool.Decides.{nat_tests}
+use Rattle.slicc_meaning.specs.declared.world.Place.{Place}
+use Rattle.slicc_meaning.specs.Ascending.{has_mark}
+use Rattle.slicc_meaning.specs.NextCycle.{MustAct, IsLeastAboveIfAny, IsNextCycle}
+use Rattle.slicc_meaning.specs.Verdict.{earlier, above, least_above, later, next_cycle}
+
+-- two properties that hold of the same cycles
+like : (P Q : ℕ → Type 0) (now : ℕ) → ((m : ℕ) → P m → Q m) → ((m : ℕ) → Q m → P m) → (o : Option ℕ) → IsLeastAboveIfAny P now o → IsLeastAboveIfAny Q now o
+like P Q now to from None is = λ m q after. is m (from m q) after
+like P Q now to from (Some cycle) is = record {
+  has = to cycle is.has;
+  later = is.later;
+  least = λ other q after. is.least other (from other q) after;
+}
+
+-- the lesser of two answers answers for both properties
+either : (P Q : ℕ → Type 0) (now : ℕ) (a b : Option ℕ) → IsLeastAboveIfAny P now a → IsLeastAboveIfAny Q now b → IsLeastAboveIfAny (λ m. P m ⊎ Q m) now (earlier a b)
+either P Q now None None p q = λ m h after. ⊎_elim (λ x. p m x after) (λ x. q m x after) h
+either P Q now None (Some b) p q = record {
+  has = inr q.has;
+  later = q.later;
+  least = λ m h after. ⊎_elim (λ x. absurd (p m x after)) (λ x. q.least m x after) h;
+}
+either P Q now (Some a) None p q = record {
+  has = inl p.has;
+  later = p.later;
+  least = λ m h after. ⊎_elim (λ x. p.least m x after) (λ x. absurd (q m x after)) h;
+}
+either P Q now (Some a) (Some b) p q =
+    let is_a : a < b → a ≡ min a b = λ less. omega arith in
+    let is_b : b ≤ a → b ≡ min a b = λ less. omega arith in
+    let first : now < a = p.later in
+    let second : now < b = q.later in
+    record {
+      has = ⊎_elim (λ less. inl (subst P (is_a less) p.has)) (λ less. inr (subst Q (is_b less) q.has)) (cases_lt a b);
+      later = omega arith;
+      least = λ m h after.
+          ⊎_elim
+          (λ x. let least : a ≤ m = p.least m x after in omega arith)
+          (λ x. let least : b ≤ m = q.least m x after in omega arith)
+          h;
+    }
+
+above-by : (now mark : ℕ) (b : Bool) → nat_lt now mark ≡ b → IsLeastAboveIfAny (λ m. m ≡ mark) now (cond b (Some mark) None)
+above-by now mark true is = record {
+  has = refl;
+  later = grind (arith, nat_tests);
+  least = λ other same after. omega arith;
+}
+above-by now mark false is = λ m same after. grind (arith, nat_tests)
+
+above-is : (now mark : ℕ) → IsLeastAboveIfAny (λ m. m ≡ mark) now (above now mark)
+above-is now mark = above-by now mark (nat_lt now mark) refl
+
+or_cases : (a b : Bool) → (a || b) ≡ true → (a ≡ true) ⊎ (b ≡ true)
+or_cases true b h = inl refl
+or_cases false b h = inr h
+
+-- the marks of one controller
+marks-is : (now : ℕ) (marks : List ℕ) → IsLeastAboveIfAny (λ m. IsTrue (has_mark marks m)) now (least_above now marks)
+marks-is now [] = λ m none after. absurd (cc none)
+marks-is now (mark ∷ marks) =
+    like (λ m. (m ≡ mark) ⊎ IsTrue (has_mark marks m)) (λ m. IsTrue (has_mark (mark ∷ marks) m)) now
+    (λ m. ⊎_elim (λ same. or_left (mark == m) (has_mark marks m) (eq-eqb mark m (sym same))) (λ there. or_right (mark == m) (has_mark marks m) there))
+    (λ m there. ⊎_elim (λ same. inl (sym (eqb-true mark m same))) inr (or_cases (mark == m) (has_mark marks m) there))
+    (earlier (above now mark) (least_above now marks))
+    (either (λ m. m ≡ mark) (λ m. IsTrue (has_mark marks m)) now (above now mark) (least_above now marks) (above-is now mark) (marks-is now marks))
+
+driver-is : (now : ℕ) (next : Option ℕ) → IsLeastAboveIfAny (λ m. next ≡ Some m) now (later now next)
+driver-is now None = λ m is after. absurd (cc is)
+driver-is now (Some mark) =
+    like (λ m. m ≡ mark) (λ m. Some mark ≡ Some m) now (λ m same. ap Some (sym same)) (λ m same. cc same) (above now mark) (above-is now mark)
+
+without-places : (next : Option ℕ) (m : ℕ) → MustAct next [] m → next ≡ Some m
+without-places next m (inl is) = is
+without-places next m (inr (c, p, there, has)) = absurd (cc there)
+
+some_same : {A : Type 0} {x y : A} → Some x ≡ Some y → x ≡ y
+some_same h = cc h
+
+split-place : (next : Option ℕ) (p : Place) (places : List Place) (m : ℕ) → MustAct next (p ∷ places) m → IsTrue (has_mark p.controller.marks m) ⊎ MustAct next places m
+split-place next p places m (inl is) = inr (inl is)
+split-place next p places m (inr (zero, q, there, has)) =
+    inl (subst (λ (x : Place). IsTrue (has_mark x.controller.marks m)) (sym (some_same there)) has)
+split-place next p places m (inr (suc c, q, there, has)) = inr (inr (c, q, there, has))
+
+join-place : (next : Option ℕ) (p : Place) (places : List Place) (m : ℕ) → IsTrue (has_mark p.controller.marks m) ⊎ MustAct next places m → MustAct next (p ∷ places) m
+join-place next p places m (inl has) = inr (0, p, refl, has)
+join-place next p places m (inr (inl is)) = inl is
+join-place next p places m (inr (inr (c, q, there, has))) = inr (suc c, q, there, has)
+
+pub next_cycle-is : (now : ℕ) (next : Option ℕ) (places : List Place) → IsNextCycle now next places (next_cycle now next places)
+next_cycle-is now next [] =
+    like (λ m. next ≡ Some m) (MustAct next []) now (λ m is. inl is) (without-places next) (later now next) (driver-is now next)
+next_cycle-is now next (p ∷ places) =
+    like (λ m. IsTrue (has_mark p.controller.marks m) ⊎ MustAct next places m) (MustAct next (p ∷ places)) now
+    (join-place next p places) (split-place next p places)
+    (earlier (least_above now p.controller.marks) (next_cycle now next places))
+    (either (λ m. IsTrue (has_mark p.controller.marks m)) (MustAct next places) now (least_above now p.controller.marks) (next_cycle now next places)
+    (marks-is now p.controller.marks) (next_cycle-is now next places))

@@ -1,0 +1,5 @@
+use Rattle.slicc_meaning.proofs.Fronts.{front-is}
+use Rattle.slicc_meaning.proofs.laws.front_comes_first.Goals as goal
+
+pub returns : goal.returns
+returns c = front-is
