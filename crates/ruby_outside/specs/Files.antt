@@ -1,7 +1,10 @@
 -- The files of a library: a finite map from names to bytes, as a list of pairs in which the first pair with a name
 -- counts. `Reads` says which answers to a read are right where the library tells this map. When a read has to fail,
 -- or when memory is missing, is not said here.
-use Rattle.std.specs.Prelude.{◌≡◌, ◌≢◌, ◌↔◌, IsTrue, ℕ, ◌<◌, ◌≤◌, List, [], ◌∷◌, length, Option, Some, None, bytes_eq, if◌then◌else◌}
+use Rattle.std.specs.Prelude.{◌≡◌, ◌≢◌, ◌↔◌, IsTrue, ℕ, ◌<◌, ◌≤◌, List, [], ◌∷◌, length, Option, Some, None, Result, Ok, Err, bytes_eq, nat_lt, if◌then◌else◌}
+use Rattle.std.specs.IoError.{error_kind}
+use Rattle.std.specs.declared.io.Error.{Error}
+use Rattle.std.specs.declared.io.ErrorKind.TheVariants.{NotFound}
 use Rattle.ruby_outside.specs.Faults.{counted}
 use Rattle.ruby_outside.specs.Plan.{PlanState, after_call, is_planned}
 use Rattle.ruby_outside.specs.declared.library.Got.{Got}
@@ -43,6 +46,15 @@ IsReadOf bytes limit Absent = ⊥
 IsReadOf bytes limit TooLarge = limit < length bytes
 IsReadOf bytes limit Failed = Unit {0}
 IsReadOf bytes limit NoMemory = Unit {0}
+
+-- the answer to a read, of no more than so many bytes, that ended well with these bytes
+abbrev pub got_of : ℕ → List ℕ → Got
+got_of limit bytes = if nat_lt limit (length bytes) then TooLarge else Bytes bytes
+
+-- a file wasn't opened since the system has none of that name
+abbrev pub IsNotFound : {F : Type 0} → Result F Error → Type 0
+IsNotFound (Ok file) = ⊥
+IsNotFound (Err fault) = error_kind fault ≡ NotFound
 
 -- the count of faults of a library after it gave this answer
 abbrev pub count_after : Got → ℕ → ℕ
