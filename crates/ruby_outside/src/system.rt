@@ -1,7 +1,7 @@
-ghost use Rattle.std.specs.Prelude.{◌≡◌, ◌≢◌, ◌↔◌, ◌<◌, ◌≤◌, ℕ, List, Option, None, IfSome, IfOk, IfErr, OnOk, length};
+ghost use Rattle.std.specs.Prelude.{◌≡◌, ◌≢◌, ◌<◌, ◌≤◌, ℕ, List, Option, None, IfSome, IfOk, IfErr, OnOk, length};
 ghost use Rattle.std.specs.IoError.{error_kind};
 ghost use Rattle.ruby_outside.specs.Faults.{Rose};
-ghost use Rattle.ruby_outside.specs.Files.{IsCountedRead, IsNotFound, IsReadOf, IsWithin, got_of};
+ghost use Rattle.ruby_outside.specs.Files.{IsCountedRead, IsOpenedRead, IsReadOf, IsWithin, got_of};
 ghost use Rattle.ruby_outside.specs.Sink.{IsCountedWrite, bytes_taken, wrote_of};
 
 use crate::{Got, Library, Sink, Wrote};
@@ -47,11 +47,11 @@ impl<'a, R: Files> Library for FileLibrary<'a, R> {
 
     ghost faults = { λ count. count };
 
-    ghost reads = { λ before _ limit got after. IsCountedRead before limit got after };
+    ghost reads = { λ before _ limit got after. IsCountedRead R.File.remaining before limit got after };
 
     fn read(&mut self, name: &str, limit: u64) -> Got
         ensures counts { self.old ≤ self.new }
-        ensures read { IsCountedRead self.old limit result self.new }
+        ensures read { IsCountedRead R.File.remaining self.old limit result self.new }
         ensures failed { result ≡ Got.Failed → Rose self.old self.new }
     {
         let got = read_opened(self.alloc, fs::open(self.runtime, name), limit);
@@ -65,10 +65,8 @@ impl<'a, R: Files> Library for FileLibrary<'a, R> {
 /// The answer to a read of a file, by how its opening went. A name that isn't found is absent, and any other fault of
 /// opening is `Failed`. No opened file is absent.
 pub(crate) fn read_opened<F: Read + Drop>(alloc: Global, opened: io::Result<F>, limit: u64) -> Got
-    ensures absent { result ≡ Got.Absent ↔ IsNotFound opened }
-    ensures failed { IfErr opened (λ fault. error_kind fault ≢ ErrorKind.NotFound → result ≡ Got.Failed) }
     ensures within { IsWithin limit result }
-    ensures told { IfOk opened (λ file. IfSome (F.remaining file) (λ bytes. IsReadOf bytes limit result)) }
+    ensures opened { IsOpenedRead F.remaining opened limit result }
 {
     match opened {
         Ok(file) => read_whole(alloc, file, limit),
