@@ -1,7 +1,11 @@
 -- The files of a library: a finite map from names to bytes, as a list of pairs in which the first pair with a name
--- counts. `Reads` says which answers to a read are right where the library tells this map. When a read has to fail,
--- or when memory is missing, is not said here.
-use Rattle.std.specs.Prelude.{◌≡◌, ◌≢◌, ◌↔◌, IsTrue, ℕ, ◌<◌, ◌≤◌, List, [], ◌∷◌, length, Option, Some, None, bytes_eq, if◌then◌else◌}
+-- counts. `Reads` says which answers to a read are right where the library tells this map. `IsOpenedRead` says which
+-- are right for a file of the system, by how its opening went. When reading an opened file has to fail, or when memory
+-- is missing, is not said here. The rules are this project's own.
+use Rattle.std.specs.Prelude.{◌≡◌, ◌≢◌, ◌↔◌, IsTrue, ℕ, ◌<◌, ◌≤◌, List, [], ◌∷◌, length, Option, Some, None, Result, Ok, Err, IfSome, IfOk, IfErr, bytes_eq, nat_lt, if◌then◌else◌}
+use Rattle.std.specs.IoError.{error_kind}
+use Rattle.std.specs.declared.io.Error.{Error}
+use Rattle.std.specs.declared.io.ErrorKind.TheVariants.{NotFound}
 use Rattle.ruby_outside.specs.Faults.{counted}
 use Rattle.ruby_outside.specs.Plan.{PlanState, after_call, is_planned}
 use Rattle.ruby_outside.specs.declared.library.Got.{Got}
@@ -44,6 +48,22 @@ IsReadOf bytes limit TooLarge = limit < length bytes
 IsReadOf bytes limit Failed = Unit {0}
 IsReadOf bytes limit NoMemory = Unit {0}
 
+-- the answer to a read, of no more than so many bytes, that ended well with these bytes
+abbrev pub got_of : ℕ → List ℕ → Got
+got_of limit bytes = if nat_lt limit (length bytes) then TooLarge else Bytes bytes
+
+-- a file wasn't opened since the system has none of that name
+abbrev pub IsNotFound : {F : Type 0} → Result F Error → Type 0
+IsNotFound (Ok file) = ⊥
+IsNotFound (Err fault) = error_kind fault ≡ NotFound
+
+-- the answer to a read of a file, of no more than so many bytes, by how its opening went: the file or a fault. What a file
+-- has is said where its reader tells it.
+pub record IsOpenedRead {F : Type 0} (remaining : F → Option (List ℕ)) (opened : Result F Error) (limit : ℕ) (got : Got) : Type 0 where
+  pub absent : (got ≡ Absent) ↔ IsNotFound opened
+  pub failed : IfErr opened (λ fault. error_kind fault ≢ NotFound → got ≡ Failed)
+  pub told : IfOk opened (λ file. IfSome (remaining file) (λ bytes. IsReadOf bytes limit got))
+
 -- the count of faults of a library after it gave this answer
 abbrev pub count_after : Got → ℕ → ℕ
 count_after (Bytes bytes) faults = faults
@@ -71,7 +91,9 @@ pub record IsSureRead (before : Files) (name : List ℕ) (limit : ℕ) (got : Go
   pub never_failed : got ≢ Failed
   pub answer : Reads before name limit got
 
--- one read of a library that tells none of its files and is its count of faults
-pub record IsCountedRead (before limit : ℕ) (got : Got) (after : ℕ) : Type 0 where
+-- one read of a library that tells none of its files and is its count of faults: its answer is right for some outcome of
+-- opening a file, and that file's reader
+pub record IsCountedRead {F : Type 0} (remaining : F → Option (List ℕ)) (before limit : ℕ) (got : Got) (after : ℕ) : Type 0 where
   pub faults : after ≡ count_after got before
   pub within : IsWithin limit got
+  pub opened : (opened : Result F Error) × IsOpenedRead remaining opened limit got

@@ -1,7 +1,8 @@
 -- What a sink has taken. Where it tells its bytes, a call adds to their end; where it tells none, it still tells none.
 -- A piece that was cut off is there by a beginning of it that is not the whole. How many bytes a sink takes in one
 -- call is its own affair, but for the sink in memory, whose state stands here too.
-use Rattle.std.specs.Prelude.{◌≡◌, ℕ, ◌-◌, ◌<◌, ◌≤◌, ◌==◌, ◌&&◌, min, Bool, false, not, List, ◌++◌, length, take, Option, Some, None, if◌then◌else◌}
+use Rattle.std.specs.Prelude.{◌≡◌, ℕ, ◌-◌, ◌<◌, ◌≤◌, ◌==◌, ◌&&◌, min, Bool, false, not, List, ◌++◌, length, take, Option, Some, None, Result, Ok, Err, if◌then◌else◌}
+use Rattle.std.specs.declared.io.Error.{Error}
 use Rattle.ruby_outside.specs.Faults.{counted}
 use Rattle.ruby_outside.specs.Plan.{PlanState, is_planned, after_call, after_fault}
 use Rattle.ruby_outside.specs.declared.sink.Wrote.{Wrote}
@@ -11,6 +12,11 @@ use Rattle.ruby_outside.specs.declared.sink.Wrote.TheVariants.{Took, Failed}
 abbrev pub bytes_taken : Wrote → ℕ
 bytes_taken (Took count) = count
 bytes_taken Failed = 0
+
+-- what a write was that the system answered so: so many bytes taken, or a fault
+abbrev pub wrote_of : Result ℕ Error → Wrote
+wrote_of (Ok count) = Took count
+wrote_of (Err fault) = Failed
 
 -- what is told once these bytes have been added
 abbrev pub grown : Option (List ℕ) → List ℕ → Option (List ℕ)

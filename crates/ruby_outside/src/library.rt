@@ -27,7 +27,8 @@ pub trait Library {
     /// counts.
     ghost files: { Self → Option (List (List ℕ × List ℕ)) };
 
-    /// How many reads have failed. It stands still at 2^64 - 1.
+    /// A count of faults. It never falls, and it rose in each read that answers `Failed`. A count that stands at
+    /// 2^64 - 1 after a call rose in it too. By how much it rises is not said, nor that it rises at a fault alone.
     ghost faults: { Self → ℕ };
 
     /// What one read is, as far as the library says: the library before it, the name, the limit, the answer, and the

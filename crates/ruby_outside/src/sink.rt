@@ -19,7 +19,9 @@ pub trait Sink {
     /// All the bytes that were written, where the sink tells them.
     ghost written: { Self → Option (List ℕ) };
 
-    /// How many writes have failed or got stuck. It stands still at 2^64 - 1.
+    /// A count of faults. It never falls, and it rose in each write that answers `Failed` or takes none of a piece that
+    /// isn't empty. A count that stands at 2^64 - 1 after a call rose in it too. By how much it rises is not said, nor
+    /// that it rises at a fault alone.
     ghost faults: { Self → ℕ };
 
     /// What one write is, as far as the sink says: the sink before it, the piece, the answer, and the sink after it. So a

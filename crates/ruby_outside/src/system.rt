@@ -1,15 +1,16 @@
-ghost use Rattle.std.specs.Prelude.{◌≡◌, ◌<◌, ◌≤◌, ℕ, List, Option, None, IfSome, length};
+ghost use Rattle.std.specs.Prelude.{◌≡◌, ◌≢◌, ◌<◌, ◌≤◌, ℕ, List, Option, None, IfSome, IfOk, IfErr, OnOk, length};
+ghost use Rattle.std.specs.IoError.{error_kind};
 ghost use Rattle.ruby_outside.specs.Faults.{Rose};
-ghost use Rattle.ruby_outside.specs.Files.{IsCountedRead, IsReadOf, IsWithin};
-ghost use Rattle.ruby_outside.specs.Sink.{IsCountedWrite, bytes_taken};
+ghost use Rattle.ruby_outside.specs.Files.{IsCountedRead, IsOpenedRead, IsReadOf, IsWithin, got_of};
+ghost use Rattle.ruby_outside.specs.Sink.{IsCountedWrite, bytes_taken, wrote_of};
 
 use crate::{Got, Library, Sink, Wrote};
 use ruby_base::Seq;
 use std::alloc::Global;
-use std::fs;
 use std::io::{ErrorKind, Read};
 use std::marker::Model;
 use std::rt::Files;
+use std::{fs, io};
 
 /// The files of the system, by their paths. It tells none of them. A contract sees it as its count of faults, which
 /// stands still at 2^64 - 1.
@@ -46,14 +47,14 @@ impl<'a, R: Files> Library for FileLibrary<'a, R> {
 
     ghost faults = { λ count. count };
 
-    ghost reads = { λ before _ limit got after. IsCountedRead before limit got after };
+    ghost reads = { λ before _ limit got after. IsCountedRead R.File.remaining before limit got after };
 
     fn read(&mut self, name: &str, limit: u64) -> Got
         ensures counts { self.old ≤ self.new }
-        ensures read { IsCountedRead self.old limit result self.new }
+        ensures read { IsCountedRead R.File.remaining self.old limit result self.new }
         ensures failed { result ≡ Got.Failed → Rose self.old self.new }
     {
-        let got = read_file(self.alloc, self.runtime, name, limit);
+        let got = read_opened(self.alloc, fs::open(self.runtime, name), limit);
         if let Got::Failed = got {
             self.faults = self.faults.saturating_add(1);
         }
@@ -61,11 +62,13 @@ impl<'a, R: Files> Library for FileLibrary<'a, R> {
     }
 }
 
-/// Reads a file of the system. A name that isn't found is absent, and any other fault of the system is `Failed`.
-fn read_file<R: Files>(alloc: Global, runtime: &R, name: &str, limit: u64) -> Got
-    ensures { IsWithin limit result }
+/// The answer to a read of a file, by how its opening went. A name that isn't found is absent, and any other fault of
+/// opening is `Failed`. No opened file is absent.
+pub(crate) fn read_opened<F: Read + Drop>(alloc: Global, opened: io::Result<F>, limit: u64) -> Got
+    ensures within { IsWithin limit result }
+    ensures opened { IsOpenedRead F.remaining opened limit result }
 {
-    match fs::open(runtime, name) {
+    match opened {
         Ok(file) => read_whole(alloc, file, limit),
         Err(fault) if fault.kind() == ErrorKind::NotFound => Got::Absent,
         Err(_) => Got::Failed,
@@ -73,13 +76,23 @@ fn read_file<R: Files>(alloc: Global, runtime: &R, name: &str, limit: u64) -> Go
 }
 
 /// Reads what a reader has left, one byte past the limit at most.
-#[tactic(auto, using(crate::proofs::Whole::all_taken, crate::proofs::Whole::all_counted))]
 fn read_whole<F: Read + Drop>(alloc: Global, file: F, limit: u64) -> Got
+    ensures there { result ≢ Got.Absent }
     ensures within { IsWithin limit result }
     ensures told { IfSome (F.remaining file) (λ bytes. IsReadOf bytes limit result) }
 {
     let mut bytes = Vec::new(alloc);
-    match file.take(limit.saturating_add(1)).read_to_end(&mut bytes) {
+    let ended = file.take(limit.saturating_add(1)).read_to_end(&mut bytes);
+    got_of(ended, bytes, limit)
+}
+
+/// The answer to a read, by how it ended and the bytes that came. Want of memory is told by the kind of the fault.
+fn got_of(ended: io::Result<usize>, bytes: Vec<u8>, limit: u64) -> Got
+    ensures whole { OnOk ended (result ≡ got_of limit bytes.items) }
+    ensures memory { IfErr ended (λ fault. error_kind fault ≡ ErrorKind.OutOfMemory → result ≡ Got.NoMemory) }
+    ensures failed { IfErr ended (λ fault. error_kind fault ≢ ErrorKind.OutOfMemory → result ≡ Got.Failed) }
+{
+    match ended {
         Ok(_) if bytes.len() as u64 > limit => Got::TooLarge,
         Ok(_) => Got::Bytes(Seq::of(bytes)),
         Err(fault) if fault.kind() == ErrorKind::OutOfMemory => Got::NoMemory,
@@ -110,6 +123,24 @@ impl<'a, R> StdSink<'a, R> {
     {
         StdSink { runtime, faults: 0 }
     }
+
+    /// What one write of a piece was, by what the system answered to it. A fault is counted, and so is a write that
+    /// took none of a piece that isn't empty.
+    fn count(&mut self, answer: io::Result<usize>, piece: &[u8]) -> Wrote
+        requires { IfOk answer (λ count. count ≤ length piece.now) }
+        ensures answer { result ≡ wrote_of answer }
+        ensures write { IsCountedWrite self.old piece.now result self.new }
+        ensures counts { self.old ≤ self.new }
+    {
+        let (wrote, is_fault) = match answer {
+            Ok(count) => (Wrote::Took(count as u64), count == 0 && !piece.is_empty()),
+            Err(_) => (Wrote::Failed, true),
+        };
+        if is_fault {
+            self.faults = self.faults.saturating_add(1);
+        }
+        wrote
+    }
 }
 
 impl<'a, R: Print> Sink for StdSink<'a, R> {
@@ -125,13 +156,7 @@ impl<'a, R: Print> Sink for StdSink<'a, R> {
         ensures failed { result ≡ Wrote.Failed → Rose self.old self.new }
         ensures stuck { bytes_taken result ≡ 0 → 0 < length piece.now → Rose self.old self.new }
     {
-        let (wrote, is_fault) = match self.runtime.write_some(piece) {
-            Ok(count) => (Wrote::Took(count as u64), count == 0 && !piece.is_empty()),
-            Err(_) => (Wrote::Failed, true),
-        };
-        if is_fault {
-            self.faults = self.faults.saturating_add(1);
-        }
-        wrote
+        let answer = self.runtime.write_some(piece);
+        self.count(answer, piece)
     }
 }

@@ -6,9 +6,15 @@ ghost use Rattle.ruby_outside.specs.Files.{bytes_of};
 ghost use Rattle.ruby_outside.specs.Sink.{grown, IsCutOff};
 
 use super::*;
+use crate::system::read_opened;
 use std::alloc::Global;
+use std::cell::RefCell;
+use std::fmt::Display;
+use std::io::{ErrorKind, Read};
+use std::path::PathBuf;
+use std::rt::{Env, Files};
 use std::test::Fail;
-use std::{env, fs, process};
+use std::{env, fs, io, process};
 
 /// A caller that knows a library by its trait alone.
 fn is_absent<L: Library>(library: &mut L, name: &str) -> bool
@@ -108,23 +114,129 @@ fn the_sure_ones_never_fail(rt: HostRuntime) -> Result<(), Fail> {
     Ok(())
 }
 
+/// The path of a file of this run alone.
+fn own_path<R: Env + Files + AllocGlobal>(rt: &R, id: u32) -> Result<PathBuf, Fail> {
+    let name = format!(in rt.alloc(); "ruby_outside_{id}.sm")?;
+    Ok(env::temp_dir(rt)?.join(rt.alloc(), name.as_str())?)
+}
+
 #[test]
-fn a_real_file_is_read(rt: HostRuntime) -> Result<(), Fail> {
-    let own_name = format!(in rt.alloc(); "ruby_outside_{}.sm", process::id(rt.process()))?;
-    let path = env::temp_dir(&rt)?.join(rt.alloc(), own_name.as_str())?;
-    fs::write(&rt, &path, "machine")?;
+fn real_files_are_told_apart(rt: HostRuntime) -> Result<(), Fail> {
+    let path = own_path(&rt, process::id(rt.process()))?;
     let name = path.as_path().to_str().ok_or("a path that is no text")?;
+    let below = format!(in rt.alloc(); "{name}/x")?;
+    let full = vec![in rt.alloc(); b'x'; 1_048_576]?;
+    let over = vec![in rt.alloc(); b'x'; 1_048_577]?;
     let mut library = FileLibrary::new(rt.alloc(), &rt);
-    for (name, limit, want) in [
-        (name, 7, "machine"),
-        (name, 6, "(too large)"),
-        ("no/such/file", 9, "(absent)"),
-        ("/", 9, "(failed)"),
+    for (bytes, name, want) in [
+        (full.as_slice(), name, full.as_slice()),
+        (over.as_slice(), name, b"(too large)"),
+        (b"machine", name, b"machine"),
+        (b"", name, b""),
+        (b"", below.as_str(), b"(failed)"),
+        (b"", "/", b"(failed)"),
+        (b"", "no/such/file", b"(absent)"),
     ] {
-        let got = library.read(name, limit);
-        assert_eq!(rt; word(&got), want.as_bytes(), "{name} to {limit}");
+        fs::write(&rt, &path, bytes)?;
+        let got = library.read(name, 1_048_576);
+        let length = bytes.len();
+        assert!(rt; word(&got) == want, "{name}, {length} bytes");
     }
     fs::remove_file(&rt, &path)?;
+    Ok(())
+}
+
+/// A reader of some bytes that fails where they end.
+#[derive(Drop)]
+struct Torn<'a> {
+    bytes: &'a [u8],
+    fault: ErrorKind,
+}
+
+impl<'a> Read for Torn<'a> {
+    fn read(&mut self, buffer: &mut [u8]) -> io::Result<usize> {
+        if self.bytes.is_empty() {
+            return Err(io::Error::from(self.fault));
+        }
+        self.bytes.read(buffer)
+    }
+}
+
+#[test]
+fn faults_of_opening_and_reading_are_told_apart(rt: HostRuntime) -> Result<(), Fail> {
+    for (opens, fault, limit, want) in [
+        (true, ErrorKind::Other, 9, "(failed)"),
+        (true, ErrorKind::NotFound, 9, "(failed)"),
+        (true, ErrorKind::OutOfMemory, 9, "(no memory)"),
+        (true, ErrorKind::Other, 6, "(too large)"),
+        (false, ErrorKind::PermissionDenied, 9, "(failed)"),
+        (false, ErrorKind::NotFound, 9, "(absent)"),
+    ] {
+        let bytes = b"machine".as_slice();
+        let opened = if opens {
+            Ok(Torn { bytes, fault })
+        } else {
+            Err(io::Error::from(fault))
+        };
+        let got = read_opened(rt.alloc(), opened, limit);
+        assert_eq!(rt; word(&got), want.as_bytes(), "{opens}, {fault:?}");
+    }
+    Ok(())
+}
+
+/// An output that fails, or takes so many bytes of a piece at most and keeps them.
+#[derive(Drop)]
+struct Output {
+    most: Option<usize>,
+    taken: RefCell<Vec<u8>>,
+}
+
+impl Print for Output {
+    fn print<D: Display + Drop>(&self, _value: D) -> io::Result<()> {
+        Err(io::Error::from(ErrorKind::Unsupported))
+    }
+
+    fn println<D: Display + Drop>(&self, _value: D) -> io::Result<()> {
+        Err(io::Error::from(ErrorKind::Unsupported))
+    }
+
+    fn write_all(&self, _bytes: &[u8]) -> io::Result<()> {
+        Err(io::Error::from(ErrorKind::Unsupported))
+    }
+
+    fn write_some(&self, bytes: &[u8]) -> io::Result<usize> {
+        let Some(most) = self.most else {
+            return Err(io::Error::from(ErrorKind::StorageFull));
+        };
+        let count = most.min(bytes.len());
+        self.taken
+            .try_borrow_mut()?
+            .extend_from_slice(&bytes[..count])?;
+        Ok(count)
+    }
+}
+
+#[test]
+fn the_output_takes_what_the_system_does(rt: HostRuntime) -> Result<(), Fail> {
+    for (most, wrote, whole, taken) in [
+        (None, Wrote::Failed, false, ""),
+        (Some(0), Wrote::Took(0), false, ""),
+        (Some(1), Wrote::Took(1), true, "hyou"),
+        (Some(9), Wrote::Took(5), true, "helloyou"),
+    ] {
+        let output = Output {
+            most,
+            taken: RefCell::new(Vec::new(rt.alloc())),
+        };
+        let mut sink = StdSink::new(&output);
+        assert_eq!(rt; sink.write(b"hello"), wrote, "{most:?}");
+        assert_eq!(rt; put(&mut sink, b"you"), whole, "{most:?}");
+        assert_eq!(rt;
+            output.taken.try_borrow()?.as_slice(),
+            taken.as_bytes(),
+            "{most:?}"
+        );
+    }
     Ok(())
 }
 
