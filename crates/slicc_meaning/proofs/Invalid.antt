@@ -1,5 +1,5 @@
 -- A scan stops as invalid exactly where a port triggers a pair that has no written transition.
-use Rattle.std.proofs.Common.{◌≡◌, ◌≢◌, ◌<◌, ◌≤◌, ℕ, Bool, true, false, Option, None, Some, List, [], ◌∷◌, ◌++◌, nat_le, is_some, cond, fold, refl, sym, ap, ◌∙◌, subst, append_assoc, slice_get, arith}
+use Rattle.std.proofs.Common.{◌≡◌, ◌<◌, ℕ, Bool, true, false, Option, None, Some, List, [], ◌∷◌, ◌++◌, nat_le, is_some, cond, fold, refl, sym, ap, ◌∙◌, append_assoc, slice_get, arith}
 use Rattle.std.proofs.lemmas.Bool.Decides.{nat_tests}
 use Rattle.std.specs.List.{AllByRecursion}
 use Rattle.slicc_meaning.specs.declared.controller.Acted.{Acted}
@@ -20,7 +20,7 @@ use Rattle.slicc_meaning.specs.InvalidExactly.{IsPassing, IsTriggered, IsInvalid
 use Rattle.slicc_meaning.specs.Rows.{rows}
 use Rattle.slicc_meaning.specs.States.{line_of, state_at}
 use Rattle.slicc_meaning.specs.Statements.{dequeue, run_action, act, run_actions, front_of}
-use Rattle.slicc_meaning.specs.Try.{stop_at, settled, fire_first, try_event, peek_front, peek, if_ready}
+use Rattle.slicc_meaning.specs.Try.{settled, fire_first, peek_front, peek, if_ready}
 use Rattle.slicc_meaning.specs.Scan.{run_port, scan_ports, scan}
 
 -- the actions meet no fault `invalid`

@@ -1,5 +1,5 @@
 -- Over a run, each end of a wake-up says `invalid` exactly where its scan tried a pair without a transition.
-use Rattle.std.proofs.Common.{◌≡◌, ℕ, Bool, true, false, Option, None, Some, List, [], ◌∷◌, ◌++◌, cond, is_none, fold, refl, sym, ap, ◌∙◌, subst, append_assoc, slice_get}
+use Rattle.std.proofs.Common.{◌≡◌, ℕ, Bool, true, false, Option, None, Some, List, [], ◌∷◌, ◌++◌, cond, is_none, fold, refl, sym, ap, ◌∙◌, append_assoc, slice_get}
 use Rattle.std.proofs.lemmas.List.{append-nil}
 use Rattle.std.specs.Option.{option_to_list}
 use Rattle.slicc_meaning.specs.declared.controller.Controller.{Controller}
@@ -12,7 +12,6 @@ use Rattle.slicc_meaning.specs.declared.record.Entry.{Entry}
 use Rattle.slicc_meaning.specs.declared.record.Entry.TheVariants.{Ended}
 use Rattle.slicc_meaning.specs.declared.record.Event.{Event}
 use Rattle.slicc_meaning.specs.declared.record.Event.TheVariants.{Done, Fire}
-use Rattle.slicc_meaning.specs.declared.record.Fault.TheVariants.{Invalid}
 use Rattle.slicc_meaning.specs.declared.record.StopAt.{StopAt}
 use Rattle.slicc_meaning.specs.declared.world.Place.{Place}
 use Rattle.slicc_meaning.specs.declared.world.Setting.{Setting}

@@ -1,5 +1,5 @@
 -- No scan changes at which cycles its controller must wake, and no wake-up's end changes whether it must at this cycle.
-use Rattle.std.proofs.Common.{◌≡◌, ◌+◌, ℕ, Bool, true, false, Option, None, Some, List, [], ◌∷◌, is_some, cond, fold, refl, ap, ◌∙◌, slice_get, nat_lt, nat_le, ◌==◌, arith}
+use Rattle.std.proofs.Common.{◌≡◌, ◌+◌, ℕ, Bool, true, false, Option, None, Some, List, ◌∷◌, refl, ap, nat_lt, nat_le, ◌==◌, arith}
 use Rattle.std.specs.List.{filter, list_any}
 use Rattle.std.proofs.lemmas.List.Folds.{list_any-append}
 use Rattle.std.proofs.lemmas.Map.Views.{any-filter_same}

@@ -2,7 +2,7 @@
 -- A port triggers where no port before it has a ready message, and it has one: the event is the port's, the address is
 -- the line of its message, and the state is that line's. What is known of such a stop is all three. Where that is so the
 -- controller doesn't fire either.
-use Rattle.std.specs.Prelude.{◌≡◌, ◌<◌, ◌↔◌, ◌++◌, ℕ, Option, Some, false, true, List, [], ◌∷◌, slice_get, is_some}
+use Rattle.std.specs.Prelude.{◌≡◌, ◌<◌, ◌++◌, ℕ, Some, false, true, List, [], ◌∷◌, slice_get, is_some}
 use Rattle.std.specs.List.{AllByRecursion}
 use Rattle.slicc_meaning.specs.declared.controller.Controller.{Controller}
 use Rattle.slicc_meaning.specs.declared.controller.Message.{Message}
