@@ -10,13 +10,17 @@ use std::sync::Wait;
 use std::test::Fail;
 use std::thread::Threads;
 
-const TICK: &str = "machine(MachineType:Node, \"ticker\")
+/// The ticker up to where more states may be declared.
+const STATES: &str = "machine(MachineType:Node, \"ticker\")
   : MessageBuffer * mandatoryQueue;
 {
   state_declaration(State, desc=\"states\", default=\"Node_State_A\") {
     A, AccessPermission:Invalid, desc=\"a\";
     B, AccessPermission:Read_Write, desc=\"b\";
-  }
+";
+
+/// The ticker from there to its last transition.
+const REST: &str = "  }
   enumeration(Event, desc=\"events\") { Go, desc=\"go\"; }
   in_port(mandatory_in, RubyRequest, mandatoryQueue) {
     if (mandatory_in.isReady(clockEdge())) {
@@ -57,6 +61,8 @@ const REFUSED: &str = "refused tick.sm:1:1 U1\n";
 
 const TOO_LARGE: &str = "too large tick.sm\n";
 
+const FAULT: &str = "library fault tick.sm\n";
+
 const USAGE: &str =
     "usage: ruby run PROTOCOL TOPOLOGY, check PROTOCOL, table PROTOCOL, code PROTOCOL, gen N
 ";
@@ -72,13 +78,22 @@ enum File {
     Longest,
     /// The ticker and spaces behind it, one byte longer.
     TooLong,
+    /// The ticker with so many states that it has 256.
+    MostStates,
+    /// One state more.
+    TooManyStates,
     /// A text of another form.
     Comment,
 }
 
-/// The ticker with this as its last transition.
-fn ticker(alloc: Global, last: &str) -> Result<Text, NoMemory> {
-    let mut text = Text::copied(alloc, TICK.as_bytes())?;
+/// The ticker with so many states beyond its two, and with this as its last transition.
+fn ticker(alloc: Global, more: u64, last: &str) -> Result<Text, NoMemory> {
+    let mut text = Text::copied(alloc, STATES.as_bytes())?;
+    for i in 0..more {
+        let state = format!(in alloc; "    S{i}, AccessPermission:Busy, desc=\"s\";\n")?;
+        text.append(state.as_bytes())?;
+    }
+    text.append(REST.as_bytes())?;
     text.append(last.as_bytes())?;
     text.append(b"}\n")?;
     Ok(text)
@@ -86,7 +101,7 @@ fn ticker(alloc: Global, last: &str) -> Result<Text, NoMemory> {
 
 /// The ticker with spaces behind it, of so many bytes.
 fn padded(alloc: Global, length: usize) -> Result<Text, NoMemory> {
-    let mut text = ticker(alloc, BACK)?;
+    let mut text = ticker(alloc, 0, BACK)?;
     let room = length.saturating_sub(text.len());
     let spaces = vec![in alloc; b' '; room]?;
     text.append(&spaces)?;
@@ -95,10 +110,12 @@ fn padded(alloc: Global, length: usize) -> Result<Text, NoMemory> {
 
 fn bytes_of(alloc: Global, file: File) -> Result<Text, NoMemory> {
     match file {
-        File::Ticker => ticker(alloc, BACK),
-        File::WithoutBack => ticker(alloc, ""),
+        File::Ticker => ticker(alloc, 0, BACK),
+        File::WithoutBack => ticker(alloc, 0, ""),
         File::Longest => padded(alloc, 1_048_576),
         File::TooLong => padded(alloc, 1_048_577),
+        File::MostStates => ticker(alloc, 254, BACK),
+        File::TooManyStates => ticker(alloc, 255, BACK),
         File::Comment => Text::copied(alloc, b"// a comment"),
     }
 }
@@ -123,6 +140,18 @@ fn call<R: Threads + Wait + Sync, L: Library, S: Sink>(
     (done.status, done.kept.is_some())
 }
 
+/// The same over a library of this file and a sink that never fail. This sink tells nothing of what it takes.
+fn sure_call<R: Threads + Wait + Sync>(
+    rt: &R,
+    alloc: Global,
+    asked: &[String],
+    file: File,
+) -> Result<(u8, bool), NoMemory> {
+    let mut library = SureLibrary::new(alloc, files(alloc, file)?);
+    let mut sink = SureSink::new();
+    Ok(call(rt, alloc, asked, &mut library, &mut sink))
+}
+
 fn words(alloc: Global, words: &[&str]) -> Result<Vec<String>, NoMemory> {
     let mut all = Vec::new(alloc);
     for word in words {
@@ -134,29 +163,56 @@ fn words(alloc: Global, words: &[&str]) -> Result<Vec<String>, NoMemory> {
 #[test]
 fn answers_each_kind_of_call(rt: HostRuntime) -> Result<(), Fail> {
     let alloc = rt.alloc();
-    let rows: [(&[&str], File, u8, &str); 13] = [
-        (&["run", "tick.sm", "3"], File::Ticker, 0, THREE),
-        (&["run", "tick.sm", "003"], File::Ticker, 0, THREE),
-        (&["run", "tick.sm", "0"], File::Ticker, 0, NONE),
-        (&["run", "tick.sm", "2"], File::WithoutBack, 1, STOPPED),
-        (&["run", "gone.sm", "3"], File::Ticker, 6, ABSENT),
-        (&["run", "tick.sm"], File::Ticker, 2, USAGE),
-        (&["walk", "tick.sm", "3"], File::Ticker, 2, USAGE),
-        (&["run", "tick.sm", "100001"], File::Ticker, 2, USAGE),
-        (&["run", "tick.sm", "3a"], File::Ticker, 2, USAGE),
-        (&["run", "tick.sm", "3", "4"], File::Ticker, 2, USAGE),
-        (&["run", "tick.sm", "2"], File::Comment, 3, REFUSED),
-        (&["run", "tick.sm", "3"], File::Longest, 0, THREE),
-        (&["run", "tick.sm", "3"], File::TooLong, 9, TOO_LARGE),
+    // The words, the file, the status, whether a record is kept, and what is written.
+    let rows: [(&[&str], File, u8, bool, &str); 15] = [
+        (&["run", "tick.sm", "3"], File::Ticker, 0, true, THREE),
+        (&["run", "tick.sm", "003"], File::Ticker, 0, true, THREE),
+        (&["run", "tick.sm", "0"], File::Ticker, 0, true, NONE),
+        (
+            &["run", "tick.sm", "2"],
+            File::WithoutBack,
+            1,
+            true,
+            STOPPED,
+        ),
+        (&["run", "gone.sm", "3"], File::Ticker, 6, false, ABSENT),
+        (&["run", "tick.sm"], File::Ticker, 2, false, USAGE),
+        (&["walk", "tick.sm", "3"], File::Ticker, 2, false, USAGE),
+        (&["run", "tick.sm", "100001"], File::Ticker, 2, false, USAGE),
+        (&["run", "tick.sm", "3a"], File::Ticker, 2, false, USAGE),
+        (&["run", "tick.sm", "3", "4"], File::Ticker, 2, false, USAGE),
+        (&["run", "tick.sm", "2"], File::Comment, 3, false, REFUSED),
+        (&["run", "tick.sm", "3"], File::Longest, 0, true, THREE),
+        (&["run", "tick.sm", "3"], File::TooLong, 9, false, TOO_LARGE),
+        (&["run", "tick.sm", "3"], File::MostStates, 0, true, THREE),
+        (
+            &["run", "tick.sm", "3"],
+            File::TooManyStates,
+            3,
+            false,
+            REFUSED,
+        ),
     ];
-    for (asked, file, status, expected) in rows {
+    for (asked, file, status, is_kept, expected) in rows {
         let mut library = MemLibrary::new(alloc, files(alloc, file)?, Seq::new(alloc));
         let mut sink = MemSink::new(alloc, Seq::new(alloc), 4096, 4096)?;
         let asked = words(alloc, asked)?;
-        let (answered, _) = call(&rt, alloc, asked.as_slice(), &mut library, &mut sink);
+        let answered = call(&rt, alloc, asked.as_slice(), &mut library, &mut sink);
         assert_eq!(rt; sink.bytes(), expected.as_bytes());
-        assert_eq!(rt; answered, status);
+        assert_eq!(rt; answered, (status, is_kept));
+        let answered = sure_call(&rt, alloc, asked.as_slice(), file)?;
+        assert_eq!(rt; answered, (status, is_kept));
     }
+    Ok(())
+}
+
+/// The most requests that may be asked for, whose text is too long for a table.
+#[test]
+fn runs_as_many_requests_as_may_be_asked_for(rt: HostRuntime) -> Result<(), Fail> {
+    let alloc = rt.alloc();
+    let asked = words(alloc, &["run", "tick.sm", "100000"])?;
+    let answered = sure_call(&rt, alloc, asked.as_slice(), File::Ticker)?;
+    assert_eq!(rt; answered, (0, true));
     Ok(())
 }
 
@@ -181,82 +237,31 @@ fn one(alloc: Global, call: u64) -> Result<Seq<u64>, NoMemory> {
     Ok(calls)
 }
 
-/// The status of the call over a library of this file and a sink that never fail. This sink tells nothing of what it
-/// takes.
-fn sure_status<R: Threads + Wait + Sync>(
-    rt: &R,
-    alloc: Global,
-    asked: &[String],
-    file: File,
-) -> Result<u8, NoMemory> {
-    let mut library = SureLibrary::new(alloc, files(alloc, file)?);
-    let mut sink = SureSink::new();
-    let (answered, _) = call(rt, alloc, asked, &mut library, &mut sink);
-    Ok(answered)
-}
-
 #[test]
 fn answers_each_kind_of_fault(rt: HostRuntime) -> Result<(), Fail> {
     let alloc = rt.alloc();
     let asked = words(alloc, &["run", "tick.sm", "3"])?;
-    // The file, the failing write, the most bytes that a write takes, the failing read, the status, what is written, and
-    // the status over objects that never fail.
-    let rows: [(File, u64, u64, u64, u8, &[u8], u8); 14] = [
-        (File::Ticker, 1, 4096, 9, 7, b"", 0),
-        (File::Ticker, 2, 4096, 9, 7, first_lines(THREE, 1), 0),
-        (File::Ticker, 3, 4096, 9, 7, first_lines(THREE, 2), 0),
-        (File::Ticker, 4, 4096, 9, 7, first_lines(THREE, 3), 0),
-        (File::Ticker, 5, 4096, 9, 7, first_lines(THREE, 4), 0),
-        (File::Ticker, 6, 4096, 9, 7, first_lines(THREE, 5), 0),
-        (File::Ticker, 9999, 1, 9, 0, THREE.as_bytes(), 0),
-        (File::Ticker, 9999, 0, 9, 7, b"", 0),
-        (
-            File::Ticker,
-            9999,
-            4096,
-            1,
-            5,
-            b"library fault tick.sm\n",
-            0,
-        ),
-        (File::TooLong, 9999, 4096, 9, 9, TOO_LARGE.as_bytes(), 9),
-        (File::Longest, 9999, 4096, 9, 0, THREE.as_bytes(), 0),
-        (File::WithoutBack, 9999, 4096, 9, 1, STOPPED.as_bytes(), 1),
-        (File::Comment, 9999, 4096, 9, 3, REFUSED.as_bytes(), 3),
-        (File::Comment, 1, 4096, 9, 7, b"", 3),
+    // The file, the failing write, the most bytes that a write takes, the failing read, the status, whether a record is
+    // kept, and what is written.
+    let rows: [(File, u64, u64, u64, u8, bool, &[u8]); 11] = [
+        (File::Ticker, 1, 4096, 9, 7, true, b""),
+        (File::Ticker, 2, 4096, 9, 7, true, first_lines(THREE, 1)),
+        (File::Ticker, 3, 4096, 9, 7, true, first_lines(THREE, 2)),
+        (File::Ticker, 4, 4096, 9, 7, true, first_lines(THREE, 3)),
+        (File::Ticker, 5, 4096, 9, 7, true, first_lines(THREE, 4)),
+        (File::Ticker, 6, 4096, 9, 7, true, first_lines(THREE, 5)),
+        (File::Ticker, 9999, 1, 9, 0, true, THREE.as_bytes()),
+        (File::Ticker, 9999, 0, 9, 7, true, b""),
+        (File::Ticker, 9999, 4096, 1, 5, false, FAULT.as_bytes()),
+        (File::Ticker, 1, 4096, 1, 7, false, b""),
+        (File::Comment, 1, 4096, 9, 7, false, b""),
     ];
-    for (file, write, most, read, status, expected, sure) in rows {
+    for (file, write, most, read, status, is_kept, expected) in rows {
         let mut library = MemLibrary::new(alloc, files(alloc, file)?, one(alloc, read)?);
         let mut sink = MemSink::new(alloc, one(alloc, write)?, most, 4096)?;
-        let (answered, _) = call(&rt, alloc, asked.as_slice(), &mut library, &mut sink);
+        let answered = call(&rt, alloc, asked.as_slice(), &mut library, &mut sink);
         assert_eq!(rt; sink.bytes(), expected);
-        assert_eq!(rt; answered, status);
-        assert_eq!(rt; sure_status(&rt, alloc, asked.as_slice(), file)?, sure);
-    }
-    Ok(())
-}
-
-/// This sink tells nothing of what it takes, so the rows have the status, and whether a record is kept.
-#[test]
-fn answers_over_objects_that_never_fail(rt: HostRuntime) -> Result<(), Fail> {
-    let alloc = rt.alloc();
-    let rows: [(&[&str], File, u8, bool); 8] = [
-        (&["run", "tick.sm", "3"], File::Ticker, 0, true),
-        (&["run", "tick.sm", "0"], File::Ticker, 0, true),
-        (&["run", "tick.sm", "2"], File::WithoutBack, 1, true),
-        (&["run", "tick.sm"], File::Ticker, 2, false),
-        (&["run", "tick.sm", "2"], File::Comment, 3, false),
-        (&["run", "gone.sm", "3"], File::Ticker, 6, false),
-        (&["run", "tick.sm", "3"], File::Longest, 0, true),
-        (&["run", "tick.sm", "3"], File::TooLong, 9, false),
-    ];
-    for (asked, file, status, is_kept) in rows {
-        let mut library = SureLibrary::new(alloc, files(alloc, file)?);
-        let mut sink = SureSink::new();
-        let asked = words(alloc, asked)?;
-        let (answered, kept) = call(&rt, alloc, asked.as_slice(), &mut library, &mut sink);
-        assert_eq!(rt; answered, status);
-        assert_eq!(rt; kept, is_kept);
+        assert_eq!(rt; answered, (status, is_kept));
     }
     Ok(())
 }

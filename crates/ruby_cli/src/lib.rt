@@ -3,12 +3,14 @@
 #![tactic(auto)]
 
 mod answers;
+mod exit;
 mod program;
 mod reply;
 mod top;
 mod words;
 
 pub use answers::{absent_line, fault_line, refused_line, too_large_line, usage_line};
+pub use exit::exit_code;
 pub use program::ruby;
 pub use top::{Done, ruby_alone};
 
