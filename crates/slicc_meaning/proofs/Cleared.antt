@@ -67,12 +67,12 @@ turn_by-cleared s w None nobody =
     cycle_end-cleared v s.cycles (next_cycle v.now v.next v.places)
     (issue_all-held s.topology.seats (length w.places) w.issued w.now w.places acted.issued ∙ nobody)
 
-turn-cleared : (s : Setting) (w : World) → AfterStep IsCleared (turn s w)
+pub turn-cleared : (s : Setting) (w : World) → AfterStep IsCleared (turn s w)
 turn-cleared s w =
     where_false IsCleared (list_any (is_busy w.now) w.places) _
     (λ idle. turn_by-cleared s w (least_stopped 0 w.places) (idle-nobody w.now w.places idle))
 
-step-cleared : (s : Setting) (w : World) (e : Event) → IsTrue (is_turn e) → AfterStep IsCleared (step s w e)
+pub step-cleared : (s : Setting) (w : World) (e : Event) → IsTrue (is_turn e) → AfterStep IsCleared (step s w e)
 step-cleared s w (Take worker c) is = absurd (cc is)
 step-cleared s w (Fire worker c) is = absurd (cc is)
 step-cleared s w (Done worker c) is = absurd (cc is)

@@ -22,3 +22,4 @@ pub mod Lasting
 pub mod Ordered
 pub mod OneKey
 pub mod Outcomes
+pub mod OneRun

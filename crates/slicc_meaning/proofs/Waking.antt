@@ -38,7 +38,7 @@ pub record IsWakingAt (cycle : ℕ) (must : Bool) (c n : ℕ) (w : World) : Type
   pub now : w.now ≡ cycle
   pub place : AtPlace cycle must n (slice_get w.places c)
 
-set-at : {X : Type 0} (P : Option X → Type 0) (xs : List X) (d c : ℕ) (x y : X) → slice_get xs d ≡ Some x
+pub set-at : {X : Type 0} (P : Option X → Type 0) (xs : List X) (d c : ℕ) (x y : X) → slice_get xs d ≡ Some x
     → (d ≡ c → P (Some y)) → (d ≢ c → P (slice_get xs c)) → P (slice_get (slice_set xs d y) c)
 set-at P [] d c x y there same other = absurd (cc there)
 set-at P (z ∷ xs) zero zero x y there same other = same refl

@@ -37,11 +37,11 @@ cycle-keeps s now must c n o (e ∷ es) are at =
     (cycle-keeps s now must c (n + k) (go_on s o e) es parts.1 (go_on-keeps s now must c n o e parts.0 at))
 
 -- a test of the place with a number
-abbrev at_place : (Place → Bool) → Option Place → Bool
+abbrev pub at_place : (Place → Bool) → Option Place → Bool
 at_place f None = false
 at_place f (Some p) = f p
 
-none-at : (f : Place → Bool) (places : List Place) (c : ℕ) → list_any f places ≡ false → at_place f (slice_get places c) ≡ false
+pub none-at : (f : Place → Bool) (places : List Place) (c : ℕ) → list_any f places ≡ false → at_place f (slice_get places c) ≡ false
 none-at f [] c none = refl
 none-at f (p ∷ places) zero none = let parts = or_false (f p) (list_any f places) none in parts.0
 none-at f (p ∷ places) (suc c) none = let parts = or_false (f p) (list_any f places) none in none-at f places c parts.1
@@ -77,7 +77,7 @@ lawful : (verdict : Option Verdict) (o : Option Stepped) (journal : List Entry) 
 lawful None o journal r is = refl
 lawful (Some v) o journal r is = absurd (cc is)
 
-turn-idle : (running busy : Bool) (st : Stepped) (journal : List Entry) (r : Ran) → ran_on (cond running (cond busy None (Some st)) None) journal ≡ Some r → busy ≡ false
+pub turn-idle : (running busy : Bool) (st : Stepped) (journal : List Entry) (r : Ran) → ran_on (cond running (cond busy None (Some st)) None) journal ≡ Some r → busy ≡ false
 turn-idle true true st journal r is = absurd (cc is)
 turn-idle true false st journal r is = refl
 turn-idle false busy st journal r is = absurd (cc is)
@@ -87,16 +87,16 @@ fold-none s [] = refl
 fold-none s (e ∷ es) = fold-none s es
 
 -- events go on only where those before them were lawful
-some-before : (s : Setting) (o : Option Ran) (es : List Event) (last : Ran) → fold (go_on s) o es ≡ Some last → (r : Ran) × (o ≡ Some r)
+pub some-before : (s : Setting) (o : Option Ran) (es : List Event) (last : Ran) → fold (go_on s) o es ≡ Some last → (r : Ran) × (o ≡ Some r)
 some-before s None es last is = absurd (cc (fold-none s es, is))
 some-before s (Some r) es last is = (r, refl)
 
 -- a run that goes on after these events
-split-run : (s : Setting) (o : Option Ran) (before rest : List Event) (r : Ran) → fold (go_on s) o before ≡ Some r → fold (go_on s) o (before ++ rest) ≡ fold (go_on s) (Some r) rest
+pub split-run : (s : Setting) (o : Option Ran) (before rest : List Event) (r : Ran) → fold (go_on s) o before ≡ Some r → fold (go_on s) o (before ++ rest) ≡ fold (go_on s) (Some r) rest
 split-run s o before rest r is = fold-append (go_on s) o before rest ∙ ap (λ (x : Option Ran). fold (go_on s) x rest) is
 
 -- no verdict stands where an event follows
-runs-on : (s : Setting) (r : Ran) (e : Event) (es : List Event) (last : Ran) → fold (go_on s) (Some r) (e ∷ es) ≡ Some last → r.world.verdict ≡ None
+pub runs-on : (s : Setting) (r : Ran) (e : Event) (es : List Event) (last : Ran) → fold (go_on s) (Some r) (e ∷ es) ≡ Some last → r.world.verdict ≡ None
 runs-on s r e es last is =
     let (next, goes) = some-before s (go_on s (Some r) e) es last is in
     lawful r.world.verdict (step_lawfully s r.world e) r.journal next goes

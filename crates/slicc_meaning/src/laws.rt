@@ -7,10 +7,12 @@ ghost use Rattle.slicc_meaning.specs.declared.plan.Plan.{Plan as PlanRecord};
 ghost use Rattle.slicc_meaning.specs.declared.record.Entry.{Entry as EntryRecord};
 ghost use Rattle.slicc_meaning.specs.declared.record.Event.{Event as EventRecord};
 ghost use Rattle.slicc_meaning.specs.declared.record.Event.TheVariants.{Turn};
+ghost use Rattle.slicc_meaning.specs.declared.record.RunRecord.{RunRecord};
 ghost use Rattle.slicc_meaning.specs.declared.world.Place.{Place as PlaceRecord};
 ghost use Rattle.slicc_meaning.specs.declared.world.Setting.{Setting as SettingRecord};
 ghost use Rattle.slicc_meaning.specs.declared.world.World.{World as WorldRecord};
 ghost use Rattle.slicc_meaning.specs.Account.{IsAccounted, account};
+ghost use Rattle.slicc_meaning.specs.Alone.{IsAlone};
 ghost use Rattle.slicc_meaning.specs.AreFinals.{AreFinals};
 ghost use Rattle.slicc_meaning.specs.Ascending.{has_mark, marks_from, with_mark};
 ghost use Rattle.slicc_meaning.specs.Finals.{finals};
@@ -20,7 +22,8 @@ ghost use Rattle.slicc_meaning.specs.IsFront.{IsFront};
 ghost use Rattle.slicc_meaning.specs.IsOrdered.{IsWorldOrdered};
 ghost use Rattle.slicc_meaning.specs.IsOutcome.{IsOutcome};
 ghost use Rattle.slicc_meaning.specs.NextCycle.{IsNextCycle};
-ghost use Rattle.slicc_meaning.specs.Run.{IsRun};
+ghost use Rattle.slicc_meaning.specs.Record.{IsWholeRun, setting};
+ghost use Rattle.slicc_meaning.specs.Run.{HasEnded, IsRun};
 ghost use Rattle.slicc_meaning.specs.States.{state_at, with_state};
 ghost use Rattle.slicc_meaning.specs.Step.{step};
 ghost use Rattle.slicc_meaning.specs.Topology.{HasSeats, plain_of as plain_of_plan};
@@ -44,6 +47,12 @@ pub fn accounts_for_each_message()
     ensures accounted { (s : SettingRecord) (history : List EventRecord) (w : WorldRecord) (journal : List EntryRecord) → HasSeats s.topology → IsRun s history w journal → IsAccounted journal w }
     ensures adds_up { (s : SettingRecord) (history : List EventRecord) (w : WorldRecord) (journal : List EntryRecord) → HasSeats s.topology → IsRun s history w journal → let a = account journal w.places in a.sent ≡ a.consumed + a.queued + a.stalled + a.recycled }
     ensures plain_has_seats { (p : PlanRecord) → HasSeats (plain_of_plan p) }
+{}
+
+/// One worker makes one run of a setting, so a record of it is determined by the plan, the topology and the options.
+pub fn one_worker_makes_one_run()
+    ensures history { (s : SettingRecord) (history other : List EventRecord) (w v : WorldRecord) (journal told : List EntryRecord) → IsRun s history w journal → HasEnded w → IsAlone s history → IsRun s other v told → HasEnded v → IsAlone s other → history ≡ other }
+    ensures record { (r q : RunRecord) → IsWholeRun r → IsAlone (setting r) r.history → IsWholeRun q → IsAlone (setting q) q.history → r.plan ≡ q.plan → r.topology ≡ q.topology → r.options ≡ q.options → r ≡ q }
 {}
 
 /// The next cycle is the least one above this at which a controller or the driver must act, and where nothing must act
