@@ -91,7 +91,7 @@ lexed_more bytes done rest token behind lexed found = record {
 pub lexed_all : (bytes : List ℕ) (done : List Token) (rest : List ℕ) → Lexed bytes done rest → ahead rest ≡ [] → AreTokensOf bytes done
 lexed_all bytes done rest lexed none = subst (λ ts. AreTokensOf bytes ts) (append-nil done) (lexed.sound [] (blanks_of_ahead rest none))
 
-only_end : (done : List Token) (rest : List ℕ) → ahead rest ≡ [] → (more : List Token) → AreTokensOf rest more → done ++ more ≡ done
+pub only_end : (done : List Token) (rest : List ℕ) → ahead rest ≡ [] → (more : List Token) → AreTokensOf rest more → done ++ more ≡ done
 only_end done rest none [] is = append-nil done
 only_end done rest none (t ∷ ts) is =
     let first = front_of_tokens rest t ts is in

@@ -6,4 +6,5 @@ pub mod Listed
 pub mod Machines
 pub mod Parts
 pub mod Patterns
+pub mod Trees
 pub mod Written

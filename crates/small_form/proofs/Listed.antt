@@ -17,7 +17,7 @@ pub record Listed {X : Type 0} (spell : X → List Token) (tokens : List Token) 
 pub listed_none : {X : Type 0} (spell : X → List Token) (tokens : List Token) → Listed spell tokens [] tokens
 listed_none spell tokens = record { spelled = refl; only = λ all behind are. (all, refl, are) }
 
-more_tokens : {X : Type 0} (spell : X → List Token) (part : X) (parts : List X) (behind : List Token) → list_tokens spell (part ∷ parts) ++ behind ≡ spell part ++ (list_tokens spell parts ++ behind)
+pub more_tokens : {X : Type 0} (spell : X → List Token) (part : X) (parts : List X) (behind : List Token) → list_tokens spell (part ∷ parts) ++ behind ≡ spell part ++ (list_tokens spell parts ++ behind)
 more_tokens spell part parts behind =
     ap (λ ts. ts ++ behind) (append_assoc (spell part) (flat_map spell parts) (Sign CloseBrace ∷ []))
     ∙ append_assoc (spell part) (list_tokens spell parts) behind

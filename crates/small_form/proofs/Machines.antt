@@ -64,7 +64,7 @@ no_machine {pattern} {tokens} differs fit m are =
 pub to_states : {pattern : List Piece} {tokens rest : List Token} → Begins pattern tokens rest → ((m : Machine) (rest : List Token) → drop (length pattern) (opening m rest) ≡ rest) → (m : Machine) → tokens ≡ machine_tokens m → rest ≡ from_states m
 to_states {pattern} begins cut m are = begins.cut ∙ ap (drop (length pattern)) (are ∙ machine_spelled m) ∙ cut m (from_states m)
 
-machine_made : (m : Machine) (name title : List ℕ) (states : States) (events : Events) (port : InPort) (action : Action) (transitions : List Transition) → name ≡ m.name → title ≡ m.title → states ≡ m.states → events ≡ m.events → port ≡ m.port → action ≡ m.action → transitions ≡ m.transitions → machine_of name title states events port action transitions ≡ m
+pub machine_made : (m : Machine) (name title : List ℕ) (states : States) (events : Events) (port : InPort) (action : Action) (transitions : List Transition) → name ≡ m.name → title ≡ m.title → states ≡ m.states → events ≡ m.events → port ≡ m.port → action ≡ m.action → transitions ≡ m.transitions → machine_of name title states events port action transitions ≡ m
 machine_made m name title states events port action transitions n t s e p a r =
     ap (λ x. machine_of x title states events port action transitions) n
     ∙ ap (λ x. machine_of m.name x states events port action transitions) t

@@ -11,12 +11,14 @@ mod bytes;
 mod checker;
 mod grammar;
 mod items;
+mod laws;
 mod lexer;
 mod parser;
 mod pattern;
 mod words;
 
 use checker::is_well_formed;
+pub use laws::trees_are_one;
 use lexer::tokens;
 use parser::machine;
 use ruby_base::NoMemory;
