@@ -1,5 +1,5 @@
 -- What a call did with the library and the sink, from the reply that it found.
-use Rattle.std.proofs.Common.{◌≡◌, ◌⊎◌, inl, inr, ℕ, Bool, None, List, refl, sym, ◌∙◌, ap, subst}
+use Rattle.std.proofs.Common.{◌≡◌, inl, inr, ℕ, Bool, None, List, refl, sym, ◌∙◌, ap, subst}
 use Rattle.ruby_outside.specs.declared.library.Got.{Got}
 use Rattle.ruby_outside.specs.declared.library.Got.TheVariants as got
 use Rattle.ruby_outside.specs.declared.sink.Wrote.{Wrote}
@@ -9,9 +9,8 @@ use Rattle.run_text.specs.Pieces.{IsPutInPieces}
 use Rattle.ruby_cli.specs.declared.top.Done.{Done}
 use Rattle.ruby_cli.specs.declared.reply.Reply.{Reply}
 use Rattle.ruby_cli.specs.declared.reply.Reply.TheVariants as reply
-use Rattle.ruby_cli.specs.Answered.{IsAnswered, IsTold, IsUntold}
+use Rattle.ruby_cli.specs.Answered.{IsAnswered, IsTold}
 use Rattle.ruby_cli.specs.Reply.{IsReplyBy, IsReplyTo, reply_text, reply_status, reply_kept, done_with}
-use Rattle.ruby_cli.specs.Top.{whole_text}
 
 -- the reply to the bytes of a file
 pub by_bytes : (o : Options) (bytes : List ℕ) (r : Reply) → IsReplyTo bytes o r → IsReplyBy o (got.Bytes bytes) r

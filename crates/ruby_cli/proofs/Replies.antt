@@ -1,18 +1,15 @@
 -- Each clause of the top call, from the reply that it found and whether its text was written whole.
-use Rattle.std.proofs.Common.{◌≡◌, ◌≢◌, ◌<◌, ◌≤◌, ◌⊎◌, inl, inr, ℕ, Bool, true, false, Option, None, Some, List, [], ◌∷◌, length, refl, sym, ◌∙◌, ap, subst, arith, IfSome, IsSome, ◌+◌, rules}
+use Rattle.std.proofs.Common.{◌≡◌, ◌≢◌, ◌<◌, inl, inr, ℕ, Bool, true, false, Option, None, Some, List, [], ◌∷◌, refl, sym, ◌∙◌, ap, subst, arith, IfSome, IsSome, ◌+◌, rules}
 use Rattle.std.specs.Prelude.{sum}
-use Rattle.std.specs.Option.{ForSome}
 use Rattle.std.specs.Bool.{OnTrue, OnFalse}
 use Rattle.ruby_outside.specs.Sink.{grown, IsCutOff}
 use Rattle.ruby_cli.specs.declared.top.Done.{Done}
-use Rattle.ruby_outside.specs.Files.{Files, bytes_of}
-use Rattle.slicc_ast.specs.declared.machine.Machine.{Machine}
-use Rattle.slicc_ast.specs.SmallForm.{IsSmallForm}
+use Rattle.ruby_outside.specs.Files.{Files}
 use Rattle.slicc_meaning.specs.declared.record.Options.{Options}
 use Rattle.slicc_meaning.specs.declared.record.RunRecord.{RunRecord}
 use Rattle.slicc_meaning.specs.declared.record.Verdict.{Verdict}
 use Rattle.slicc_meaning.specs.declared.record.Verdict.TheVariants.{Stop, Quiet, Cycles}
-use Rattle.slicc_meaning.specs.Answer.{Answer, Runs, Refused, Absent, TooLarge, IsAnswer, file_limit}
+use Rattle.slicc_meaning.specs.Answer.{Runs, Refused, Absent, TooLarge, IsAnswer}
 use Rattle.slicc_meaning.specs.Record.{IsWholeRun, setting}
 use Rattle.slicc_meaning.specs.declared.plan.Plan.{Plan}
 use Rattle.slicc_meaning.specs.declared.record.Account.{Account}
@@ -20,41 +17,11 @@ use Rattle.slicc_meaning.specs.Topology.{HasSeats, plain_of}
 use Rattle.slicc_meaning.proofs.Accounting.{kept, accounted, adds_up}
 use Rattle.slicc_meaning.proofs.InvalidRuns.{invalid_exactly}
 use Rattle.slicc_meaning.proofs.WokenOnce.{wakes_once}
+use Rattle.ruby_cli.proofs.OneAnswer.{refused_runs, absent_runs, long_runs, absent_refused, long_refused, absent_long}
 use Rattle.ruby_cli.specs.declared.reply.Reply.{Reply}
 use Rattle.ruby_cli.specs.declared.reply.Reply.TheVariants as reply
 use Rattle.ruby_cli.specs.Reply.{IsReply, reply_text, reply_status, reply_kept, done_with}
-use Rattle.ruby_cli.specs.Top.{IsWokenOnce, IsMessageAccount, IsInvalidExactly, IsTallied, IsAsAsked, IsVerdictStatus, IsStatusOf, IsOneOf, IsRightText, IsBegun, KeepsRun, IsComplete, whole_text, verdict_status}
-
-same_bytes : (files : Files) (o : Options) (a b : List ℕ) → bytes_of files o.protocol ≡ Some a → bytes_of files o.protocol ≡ Some b → a ≡ b
-same_bytes files o a b is_a is_b = cc
-
--- no two answers are right
-refused_runs : (files : Files) (o : Options) (r : RunRecord) → IsAnswer files o Refused → IsAnswer files o (Runs r.plan r.topology) → ⊥
-refused_runs files o r (a, read_a, none) (b, m, read_b, form, plan, topology) =
-    none m (subst (λ (x : List ℕ). IsSmallForm x m) (same_bytes files o b a read_b.0 read_a.0) form)
-
-absent_read : (files : Files) (o : Options) (a : List ℕ) → bytes_of files o.protocol ≡ None → bytes_of files o.protocol ≡ Some a → ⊥
-absent_read files o a none some = absurd (cc (none, some))
-
-long_read : (files : Files) (o : Options) (a b : List ℕ) → bytes_of files o.protocol ≡ Some a → bytes_of files o.protocol ≡ Some b → length a ≤ file_limit → file_limit < length b → ⊥
-long_read files o a b is_a is_b short long =
-    let same : length a ≡ length b = ap (λ (x : List ℕ). length x) (same_bytes files o a b is_a is_b) in
-    absurd (omega (arith, same, short, long))
-
-absent_runs : (files : Files) (o : Options) (r : RunRecord) → IsAnswer files o Absent → IsAnswer files o (Runs r.plan r.topology) → ⊥
-absent_runs files o r none (b, m, read_b, form, plan, topology) = absent_read files o b none read_b.0
-
-long_runs : (files : Files) (o : Options) (r : RunRecord) → IsAnswer files o TooLarge → IsAnswer files o (Runs r.plan r.topology) → ⊥
-long_runs files o r (a, there, long) (b, m, read_b, form, plan, topology) = long_read files o b a read_b.0 there read_b.1 long
-
-absent_refused : (files : Files) (o : Options) → IsAnswer files o Absent → IsAnswer files o Refused → ⊥
-absent_refused files o none (a, read_a, other) = absent_read files o a none read_a.0
-
-long_refused : (files : Files) (o : Options) → IsAnswer files o TooLarge → IsAnswer files o Refused → ⊥
-long_refused files o (a, there, long) (b, read_b, other) = long_read files o b a read_b.0 there read_b.1 long
-
-absent_long : (files : Files) (o : Options) → IsAnswer files o Absent → IsAnswer files o TooLarge → ⊥
-absent_long files o none (a, there, long) = absent_read files o a none there
+use Rattle.ruby_cli.specs.Top.{IsWokenOnce, IsMessageAccount, IsInvalidExactly, IsTallied, IsAsAsked, IsStatusOf, IsOneOf, IsRightText, IsBegun, KeepsRun, IsComplete, whole_text, verdict_status}
 
 -- a run's status is 0 or 1
 verdict_low : (v : Verdict) → IsOneOf (0 ∷ 1 ∷ []) (verdict_status v)
@@ -212,9 +179,9 @@ module _ (rose : Type 0) (o : Options) where
   ran : (files : Option Files) (r : Reply) (told : Files) (run : RunRecord)
       → IsReply files rose o r → files ≡ Some told → IsAnswer told o (Runs run.plan run.topology) → (rose → ⊥) → IsSome (reply_kept r)
   ran files (reply.Ran r) told run is tells right still = refl
-  ran files (reply.Refused name) told run is tells right still = absurd (refused_runs told o run (is.1 told tells) right)
-  ran files (reply.Absent name) told run is tells right still = absurd (absent_runs told o run (is.1 told tells) right)
-  ran files (reply.TooLarge name) told run is tells right still = absurd (long_runs told o run (is.1 told tells) right)
+  ran files (reply.Refused name) told run is tells right still = absurd (refused_runs told o run.plan run.topology (is.1 told tells) right)
+  ran files (reply.Absent name) told run is tells right still = absurd (absent_runs told o run.plan run.topology (is.1 told tells) right)
+  ran files (reply.TooLarge name) told run is tells right still = absurd (long_runs told o run.plan run.topology (is.1 told tells) right)
   ran files (reply.Faulted name) told run is tells right still = absurd (still is.1)
 
   pub keeps-clause : (files : Option Files) (r : Reply) (written : Bool) (d : Done)
@@ -249,7 +216,7 @@ module _ (rose : Type 0) (o : Options) where
   -- the status of a refusal comes exactly so
   refused_true : (files : Option Files) (r : Reply) (told : Files) → files ≡ Some told → IsReply files rose o r
       → ((done_with r true).status ≡ 3 → IsAnswer told o Refused) × (IsAnswer told o Refused → IsOneOf (3 ∷ 5 ∷ 7 ∷ 8 ∷ []) (done_with r true).status)
-  refused_true files (reply.Ran r) told tells is = (λ e. absurd (verdict_not r.verdict 3 (omega arith) e), λ right. absurd (refused_runs told o r right (is.1.1 told tells)))
+  refused_true files (reply.Ran r) told tells is = (λ e. absurd (verdict_not r.verdict 3 (omega arith) e), λ right. absurd (refused_runs told o r.plan r.topology right (is.1.1 told tells)))
   refused_true files (reply.Refused name) told tells is = (λ e. is.1 told tells, λ right. inl refl)
   refused_true files (reply.Absent name) told tells is = (λ e. absurd (omega (arith, e)), λ right. absurd (absent_refused told o (is.1 told tells) right))
   refused_true files (reply.TooLarge name) told tells is = (λ e. absurd (omega (arith, e)), λ right. absurd (long_refused told o (is.1 told tells) right))
@@ -265,7 +232,7 @@ module _ (rose : Type 0) (o : Options) where
   -- the status of an absent file comes exactly so
   absent_true : (files : Option Files) (r : Reply) (told : Files) → files ≡ Some told → IsReply files rose o r
       → ((done_with r true).status ≡ 6 → IsAnswer told o Absent) × (IsAnswer told o Absent → IsOneOf (6 ∷ 5 ∷ 7 ∷ 8 ∷ []) (done_with r true).status)
-  absent_true files (reply.Ran r) told tells is = (λ e. absurd (verdict_not r.verdict 6 (omega arith) e), λ right. absurd (absent_runs told o r right (is.1.1 told tells)))
+  absent_true files (reply.Ran r) told tells is = (λ e. absurd (verdict_not r.verdict 6 (omega arith) e), λ right. absurd (absent_runs told o r.plan r.topology right (is.1.1 told tells)))
   absent_true files (reply.Refused name) told tells is = (λ e. absurd (omega (arith, e)), λ right. absurd (absent_refused told o right (is.1 told tells)))
   absent_true files (reply.Absent name) told tells is = (λ e. is.1 told tells, λ right. inl refl)
   absent_true files (reply.TooLarge name) told tells is = (λ e. absurd (omega (arith, e)), λ right. absurd (absent_long told o right (is.1 told tells)))
@@ -281,7 +248,7 @@ module _ (rose : Type 0) (o : Options) where
   -- the status of a file that is too large comes exactly so
   too_large_true : (files : Option Files) (r : Reply) (told : Files) → files ≡ Some told → IsReply files rose o r
       → ((done_with r true).status ≡ 9 → IsAnswer told o TooLarge) × (IsAnswer told o TooLarge → IsOneOf (9 ∷ 5 ∷ 7 ∷ 8 ∷ []) (done_with r true).status)
-  too_large_true files (reply.Ran r) told tells is = (λ e. absurd (verdict_not r.verdict 9 (omega arith) e), λ right. absurd (long_runs told o r right (is.1.1 told tells)))
+  too_large_true files (reply.Ran r) told tells is = (λ e. absurd (verdict_not r.verdict 9 (omega arith) e), λ right. absurd (long_runs told o r.plan r.topology right (is.1.1 told tells)))
   too_large_true files (reply.Refused name) told tells is = (λ e. absurd (omega (arith, e)), λ right. absurd (long_refused told o right (is.1 told tells)))
   too_large_true files (reply.Absent name) told tells is = (λ e. absurd (omega (arith, e)), λ right. absurd (absent_long told o (is.1 told tells) right))
   too_large_true files (reply.TooLarge name) told tells is = (λ e. is.1 told tells, λ right. inl refl)

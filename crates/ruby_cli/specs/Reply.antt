@@ -7,7 +7,7 @@ use Rattle.slicc_ast.specs.declared.machine.Machine.{Machine}
 use Rattle.slicc_ast.specs.SmallForm.{IsSmallForm}
 use Rattle.slicc_meaning.specs.declared.record.Options.{Options}
 use Rattle.slicc_meaning.specs.declared.record.RunRecord.{RunRecord}
-use Rattle.slicc_meaning.specs.Answer.{Runs, Refused, Absent, TooLarge, IsAnswer, file_limit}
+use Rattle.slicc_meaning.specs.Answer.{Refused, Absent, TooLarge, IsAnswer, file_limit}
 use Rattle.slicc_meaning.specs.Record.{IsWholeRun}
 use Rattle.slicc_meaning.specs.Text.{text}
 use Rattle.slicc_meaning.specs.Topology.{plain_of}

@@ -4,6 +4,7 @@
 
 mod answers;
 mod exit;
+mod laws;
 mod program;
 mod reply;
 mod top;
@@ -11,6 +12,7 @@ mod words;
 
 pub use answers::{absent_line, fault_line, refused_line, too_large_line, usage_line};
 pub use exit::exit_code;
+pub use laws::answers_are_one;
 pub use program::ruby;
 pub use top::{Done, ruby_alone};
 

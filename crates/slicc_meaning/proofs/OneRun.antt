@@ -11,20 +11,19 @@ use Rattle.slicc_meaning.specs.declared.record.End.{End}
 use Rattle.slicc_meaning.specs.declared.record.Entry.{Entry}
 use Rattle.slicc_meaning.specs.declared.record.Event.{Event}
 use Rattle.slicc_meaning.specs.declared.record.Event.TheVariants.{Take, Fire, Done, Release, Turn}
-use Rattle.slicc_meaning.specs.declared.record.Verdict.{Verdict}
 use Rattle.slicc_meaning.specs.declared.record.RunRecord.{RunRecord}
 use Rattle.slicc_meaning.specs.declared.world.Place.{Place}
 use Rattle.slicc_meaning.specs.declared.world.Setting.{Setting}
 use Rattle.slicc_meaning.specs.declared.world.World.{World}
-use Rattle.slicc_meaning.specs.Alone.{IsNextTake, IsAloneEvent, IsAlone}
+use Rattle.slicc_meaning.specs.Alone.{IsAloneEvent, IsAlone}
 use Rattle.slicc_meaning.specs.Account.{account}
 use Rattle.slicc_meaning.specs.Finals.{finals}
 use Rattle.slicc_meaning.specs.Record.{IsWholeRun, setting}
 use Rattle.slicc_meaning.specs.Tally.{tally}
-use Rattle.slicc_meaning.specs.Run.{Ran, ran_on, go_on, run, IsRun, HasEnded}
+use Rattle.slicc_meaning.specs.Run.{Ran, ran_on, go_on, IsRun, HasEnded}
 use Rattle.slicc_meaning.specs.Step.{Stepped, with_place, take, is_holder, fired_by, ended_by, given_back, scan_at, fire, done, is_busy, turn_by, turn, step, step_lawfully}
 use Rattle.slicc_meaning.specs.Verdict.{least_stopped}
-use Rattle.slicc_meaning.specs.World.{is_due, is_free, is_held, opening_place, opening}
+use Rattle.slicc_meaning.specs.World.{is_free, is_held, opening_place, opening}
 use Rattle.slicc_meaning.proofs.Cleared.{is_touched, AfterStep, AfterEvents, IsCleared, after-ran, where_true, turn-cleared, opening-cleared}
 use Rattle.slicc_meaning.proofs.Places.{or_false, idle-nobody}
 use Rattle.slicc_meaning.proofs.Waking.{set-at}
