@@ -70,7 +70,7 @@ AllHold P w = All (λ (p : Place). P p.controller) w.places
 some_same : {A : Type 0} {x y : A} → Some x ≡ Some y → x ≡ y
 some_same h = cc h
 
-at-get : {X : Type 0} (P : X → Type 0) (xs : List X) (c : ℕ) (x : X) → slice_get xs c ≡ Some x → All P xs → P x
+pub at-get : {X : Type 0} (P : X → Type 0) (xs : List X) (c : ℕ) (x : X) → slice_get xs c ≡ Some x → All P xs → P x
 at-get P [] c x there all = absurd (cc there)
 at-get P (y ∷ ys) zero x there all = subst P (some_same there) (All-head P y ys all)
 at-get P (y ∷ ys) (suc c) x there all = at-get P ys c x there (All-tail P y ys all)

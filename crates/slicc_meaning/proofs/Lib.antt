@@ -23,3 +23,6 @@ pub mod Ordered
 pub mod OneKey
 pub mod Outcomes
 pub mod OneRun
+pub mod FedScans
+pub mod ShortRuns
+pub mod ShortTurns

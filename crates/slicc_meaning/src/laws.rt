@@ -1,5 +1,6 @@
 // What holds of every run, and of what a run is made of. These functions do nothing: their contracts are the laws.
-ghost use Rattle.std.specs.Prelude.{◌≡◌, ◌≢◌, ◌≤◌, ◌⊎◌, ◌↔◌, ◌==◌, ◌+◌, ℕ, List, Option, Some, Contains, IsTrue, if◌then◌else◌};
+ghost use Rattle.std.specs.Prelude.{◌≡◌, ◌≢◌, ◌≤◌, ◌⊎◌, ◌↔◌, ◌==◌, ◌+◌, ◌*◌, ℕ, List, Option, Some, length, Contains, IsTrue, if◌then◌else◌};
+ghost use Rattle.slicc_ast.specs.declared.machine.Machine.{Machine as MachineRecord};
 ghost use Rattle.slicc_meaning.specs.declared.controller.Message.{Message as MessageRecord};
 ghost use Rattle.slicc_meaning.specs.declared.controller.MsgNo.{MsgNo as MsgNoRecord};
 ghost use Rattle.slicc_meaning.specs.declared.controller.StateAt.{StateAt as StateAtRecord};
@@ -11,7 +12,7 @@ ghost use Rattle.slicc_meaning.specs.declared.record.RunRecord.{RunRecord};
 ghost use Rattle.slicc_meaning.specs.declared.world.Place.{Place as PlaceRecord};
 ghost use Rattle.slicc_meaning.specs.declared.world.Setting.{Setting as SettingRecord};
 ghost use Rattle.slicc_meaning.specs.declared.world.World.{World as WorldRecord};
-ghost use Rattle.slicc_meaning.specs.Account.{IsAccounted, account};
+ghost use Rattle.slicc_meaning.specs.Account.{IsAccounted, account, held_messages};
 ghost use Rattle.slicc_meaning.specs.Alone.{IsAlone};
 ghost use Rattle.slicc_meaning.specs.AreFinals.{AreFinals};
 ghost use Rattle.slicc_meaning.specs.Ascending.{has_mark, marks_from, with_mark};
@@ -22,6 +23,7 @@ ghost use Rattle.slicc_meaning.specs.IsFront.{IsFront};
 ghost use Rattle.slicc_meaning.specs.IsOrdered.{IsWorldOrdered};
 ghost use Rattle.slicc_meaning.specs.IsOutcome.{IsOutcome};
 ghost use Rattle.slicc_meaning.specs.NextCycle.{IsNextCycle};
+ghost use Rattle.slicc_meaning.specs.Plan.{plan_of as plan_of_machine};
 ghost use Rattle.slicc_meaning.specs.Record.{IsWholeRun, setting};
 ghost use Rattle.slicc_meaning.specs.Run.{HasEnded, IsRun};
 ghost use Rattle.slicc_meaning.specs.States.{state_at, with_state};
@@ -53,6 +55,15 @@ pub fn accounts_for_each_message()
 pub fn one_worker_makes_one_run()
     ensures history { (s : SettingRecord) (history other : List EventRecord) (w v : WorldRecord) (journal told : List EntryRecord) → IsRun s history w journal → HasEnded w → IsAlone s history → IsRun s other v told → HasEnded v → IsAlone s other → history ≡ other }
     ensures record { (r q : RunRecord) → IsWholeRun r → IsAlone (setting r) r.history → IsWholeRun q → IsAlone (setting q) q.history → r.plan ≡ q.plan → r.topology ≡ q.topology → r.options ≡ q.options → r ≡ q }
+{}
+
+/// A plain run of a machine has at most five entries for each request and three more, comes to no cycle beyond twice the
+/// number of requests, and has no more messages in its inboxes than requests. So one of at most 100,000 requests stays
+/// within 1,000,000 entries, 1,000,000 cycles and 500,000 messages, beyond which the full language ends a run.
+pub fn plain_runs_are_short()
+    ensures journal { (m : MachineRecord) (s : SettingRecord) (history : List EventRecord) (w : WorldRecord) (journal : List EntryRecord) → s.plan ≡ plan_of_machine m → s.topology ≡ plain_of_plan s.plan → 1 ≤ s.limit → IsRun s history w journal → length journal ≤ 5 * s.driver.requests + 3 }
+    ensures cycles { (m : MachineRecord) (s : SettingRecord) (history : List EventRecord) (w : WorldRecord) (journal : List EntryRecord) → s.plan ≡ plan_of_machine m → s.topology ≡ plain_of_plan s.plan → 1 ≤ s.limit → IsRun s history w journal → w.now ≤ 2 * s.driver.requests }
+    ensures mail { (m : MachineRecord) (s : SettingRecord) (history : List EventRecord) (w : WorldRecord) (journal : List EntryRecord) → s.plan ≡ plan_of_machine m → s.topology ≡ plain_of_plan s.plan → 1 ≤ s.limit → IsRun s history w journal → length (held_messages w.places) ≤ s.driver.requests }
 {}
 
 /// The next cycle is the least one above this at which a controller or the driver must act, and where nothing must act

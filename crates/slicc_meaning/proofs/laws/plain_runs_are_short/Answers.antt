@@ -1,0 +1,20 @@
+use Rattle.slicc_meaning.proofs.ShortTurns.{journal-short}
+use Rattle.slicc_meaning.proofs.laws.plain_runs_are_short.Goals as goal
+
+pub returns-clause-journal : goal.returns-clause-journal
+returns-clause-journal c =
+    λ m s history w journal planned placed some is.
+    let short = journal-short m s history w journal planned placed some is in
+    short.0
+
+pub returns-clause-cycles : goal.returns-clause-cycles
+returns-clause-cycles c =
+    λ m s history w journal planned placed some is.
+    let short = journal-short m s history w journal planned placed some is in
+    short.2
+
+pub returns-clause-mail : goal.returns-clause-mail
+returns-clause-mail c =
+    λ m s history w journal planned placed some is.
+    let short = journal-short m s history w journal planned placed some is in
+    short.1
