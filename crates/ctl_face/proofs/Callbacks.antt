@@ -52,7 +52,7 @@ is_request true r line asked is fits = (let Q : Option Asked → Type 0 = λ o. 
 is_request false r line asked is fits = absurd fits
 
 -- the sequencer with other requests
-with_requests_fits : (v : LocalView) (requests : Option Requests) → FitsSequencer v.setup.has_sequencer requests → IsLawful v → IsLawful (record v { ctl = record v.ctl { sequencer = requests } })
+pub with_requests_fits : (v : LocalView) (requests : Option Requests) → FitsSequencer v.setup.has_sequencer requests → IsLawful v → IsLawful (record v { ctl = record v.ctl { sequencer = requests } })
 with_requests_fits v requests here lawful = record {
   setup = lawful.setup;
   now = lawful.now;

@@ -1,6 +1,8 @@
 // Two generic uses of a local, which nothing calls: a call after another one is proved from the contracts alone.
 ghost use Rattle.std.specs.Prelude.{◌≡◌, ◌≢◌, IsTrue, IfOk, IfErr, OnOk, Ok, true, false};
+ghost use Rattle.ctl_face.specs.Again.{again};
 ghost use Rattle.ctl_face.specs.Fits.{IsLawful, IsLine};
+ghost use Rattle.ctl_face.specs.LocalView.{LocalView};
 ghost use Rattle.ctl_face.specs.Pop.{pop};
 ghost use Rattle.ctl_face.specs.Ready.{ready};
 ghost use Rattle.ctl_face.specs.Served.{Receives};
@@ -27,6 +29,7 @@ fn pop_two<L: Local>(local: &mut L, a: u16, b: u16) -> Result<(), Trouble>
     requires first { Receives (L.view local.old) a }
     requires second { Receives (L.view local.old) b }
     requires lawful { IsLawful (L.view local.old) }
+    ensures done { OnOk result ((v : LocalView) × (u : LocalView) × (pop (L.view local.old) a ≡ Ok v) × (pop v b ≡ Ok u) × (L.view local.new ≡ again u)) }
     ensures lawful { IsLawful (L.view local.new) }
     ensures setup { (L.view local.new).setup ≡ (L.view local.old).setup }
 {

@@ -13,6 +13,7 @@ use Rattle.ctl_face.specs.HasKinds.{has_kinds}
 use Rattle.ctl_face.specs.LocalView.{LocalView}
 use Rattle.ctl_face.specs.Send.{copy_limit, delivered}
 use Rattle.ctl_face.specs.Served.{receives, Receives, TakesMessage}
+use Rattle.ctl_face.proofs.Callbacks.{with_requests_fits}
 use Rattle.ctl_face.proofs.Inboxes.{ascend-with, all-with}
 use Rattle.ctl_face.proofs.Maps.{insert_keeps}
 use Rattle.ctl_face.proofs.Marks.{IsStrictlyIncreasing-with_mark}
@@ -63,22 +64,8 @@ requested false (Some r) asked is fits = absurd fits
 requested true None asked is fits = absurd fits
 
 pub requested_lawful : (v : LocalView) (asked : Asked) → IsRequest asked → IsLawful v → IsLawful (record v { ctl = with_request v.ctl asked })
-requested_lawful v asked is lawful = record {
-  setup = lawful.setup;
-  now = lawful.now;
-  fits = record {
-    tables = lawful.fits.tables;
-    states = lawful.fits.states;
-    inbox_ascends = lawful.fits.inbox_ascends;
-    messages = lawful.fits.messages;
-    marks_ascend = lawful.fits.marks_ascend;
-    sequencer = requested v.setup.has_sequencer v.ctl.sequencer asked is lawful.fits.sequencer;
-    networks = lawful.fits.networks;
-    copies = lawful.fits.copies;
-    sent = lawful.fits.sent;
-    drawn = lawful.fits.drawn;
-  };
-}
+requested_lawful v asked is lawful =
+    with_requests_fits v (with_request v.ctl asked).sequencer (requested v.setup.has_sequencer v.ctl.sequencer asked is lawful.fits.sequencer) lawful
 
 more : (n old new copies : ℕ) → n ≤ copy_limit * old + copies → copies ≤ copy_limit → old < new → n ≤ copy_limit * new + 0
 more n old new copies first second third = omega arith

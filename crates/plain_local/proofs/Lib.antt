@@ -1,5 +1,4 @@
 pub mod Between
-pub mod Entries
 pub mod Mails
 pub mod NoLast
 pub mod Outcomes

@@ -26,7 +26,8 @@ impl<'a, R: Env> Env for BehindName<'a, R> {
     }
 }
 
-/// The words after the program's name. A word that isn't UTF-8 is an error, `InvalidData`.
+/// The words after the program's name. A word that isn't UTF-8 is an error, `InvalidData`, and want of memory is one,
+/// `OutOfMemory`.
 pub(crate) fn words<R: Env>(rt: &R, alloc: Global) -> io::Result<Vec<String>> {
     let mut words = Vec::new(alloc);
     for word in env::args(&(BehindName { rt }, alloc))? {

@@ -1,4 +1,4 @@
 pub mod CacheEdits
 pub mod CacheSets
-mod Entries
+pub mod Entries
 mod Members

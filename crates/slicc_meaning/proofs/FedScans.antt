@@ -27,7 +27,7 @@ use Rattle.slicc_meaning.specs.World.{scan_of}
 use Rattle.slicc_meaning.proofs.Lasting.{at-get}
 use Rattle.slicc_meaning.proofs.ScansKeep.{pick_scanned}
 
-abbrev ActsOnce : WrittenTransition → Type 0
+abbrev pub ActsOnce : WrittenTransition → Type 0
 ActsOnce t = t.actions ≡ 0 ∷ []
 
 -- there is an action, and each written transition has just this one

@@ -26,3 +26,8 @@ pub mod OneRun
 pub mod FedScans
 pub mod ShortRuns
 pub mod ShortTurns
+pub mod AlongRuns
+pub mod PlainScans
+pub mod PlainFaults
+pub mod Prompt
+pub mod NeverFull

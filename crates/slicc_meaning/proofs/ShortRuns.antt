@@ -169,7 +169,7 @@ pub length-each : (numbers : List MsgNo) → tally each (numbers ++ []) ≡ leng
 length-each [] = refl
 length-each (n ∷ numbers) = omega (arith, length-each numbers)
 
-keeps_fired : (s : Setting) (o : Option MachinePlan) (c : Controller) (now : ℕ) → Keeps (λ (d : Controller). d.fired) c (scan_of s o c now)
+pub keeps_fired : (s : Setting) (o : Option MachinePlan) (c : Controller) (now : ℕ) → Keeps (λ (d : Controller). d.fired) c (scan_of s o c now)
 keeps_fired s None c now = refl
 keeps_fired s (Some m) c now =
     let fired = λ (d : Controller). d.fired in

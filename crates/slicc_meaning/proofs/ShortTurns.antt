@@ -55,25 +55,25 @@ pub record IsDriven (n now : ℕ) (p : Place) (v : World) (numbers : List MsgNo)
 abbrev IsAhead : ℕ → ℕ → World → Type 0
 IsAhead n now v = (x : ℕ) → v.next ≡ Some x → (x ≡ now + 1) × (now < n)
 
-next-of : (now n x : ℕ) (b : Bool) → nat_lt (now + 1) n ≡ b → cond b (Some (now + 1)) None ≡ Some x → (x ≡ now + 1) × (now < n)
+pub next-of : (now n x : ℕ) (b : Bool) → nat_lt (now + 1) n ≡ b → cond b (Some (now + 1)) None ≡ Some x → (x ≡ now + 1) × (now < n)
 next-of now n x true below is = (sym (some_same is), grind (arith, nat_tests, below))
 next-of now n x false below is = absurd (cc is)
 
-abbrev the_request : Request
+abbrev pub the_request : Request
 the_request = record { seat = 0; line_address = 0 }
 
 module _ (s : Setting) (seats : s.topology.seats ≡ record { controller = 0 } ∷ []) (some : 1 ≤ s.limit) where
   abbrev n : ℕ
   n = s.driver.requests
 
-  abbrev turn_with : World → Bool → DriverTurn
+  abbrev pub turn_with : World → Bool → DriverTurn
   turn_with w b = record {
     state = w.driver;
     issued = cond b (the_request ∷ []) [];
     next = cond (nat_lt (w.now + 1) w.driver.requests) (Some (w.now + 1)) None;
   }
 
-  arrived : (w : World) (p : Place) → w.places ≡ p ∷ []
+  pub arrived : (w : World) (p : Place) → w.places ≡ p ∷ []
       → issue_all s.topology.seats (length w.places) w.issued w.now w.places (the_request ∷ [])
       ≡ arrive (request_message (record { sender = length w.places; count = w.issued }) w.now the_request) p ∷ []
   arrived w p only =

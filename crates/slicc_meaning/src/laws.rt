@@ -1,14 +1,19 @@
 // What holds of every run, and of what a run is made of. These functions do nothing: their contracts are the laws.
-ghost use Rattle.std.specs.Prelude.{◌≡◌, ◌≢◌, ◌≤◌, ◌⊎◌, ◌↔◌, ◌==◌, ◌+◌, ◌*◌, ℕ, List, Option, Some, length, Contains, IsTrue, if◌then◌else◌};
+ghost use Rattle.std.specs.Prelude.{◌≡◌, ◌≢◌, ◌<◌, ◌≤◌, ◌⊎◌, ◌↔◌, ◌==◌, ◌+◌, ◌*◌, ℕ, List, Option, Some, length, Contains, IsTrue, if◌then◌else◌};
 ghost use Rattle.slicc_ast.specs.declared.machine.Machine.{Machine as MachineRecord};
 ghost use Rattle.slicc_meaning.specs.declared.controller.Message.{Message as MessageRecord};
 ghost use Rattle.slicc_meaning.specs.declared.controller.MsgNo.{MsgNo as MsgNoRecord};
 ghost use Rattle.slicc_meaning.specs.declared.controller.StateAt.{StateAt as StateAtRecord};
 ghost use Rattle.slicc_meaning.specs.declared.plan.Plan.{Plan as PlanRecord};
+ghost use Rattle.slicc_meaning.specs.declared.record.End.TheVariants.{Full, Stop};
 ghost use Rattle.slicc_meaning.specs.declared.record.Entry.{Entry as EntryRecord};
+ghost use Rattle.slicc_meaning.specs.declared.record.Entry.TheVariants.{Ended};
 ghost use Rattle.slicc_meaning.specs.declared.record.Event.{Event as EventRecord};
 ghost use Rattle.slicc_meaning.specs.declared.record.Event.TheVariants.{Turn};
+ghost use Rattle.slicc_meaning.specs.declared.record.Fault.TheVariants.{Invalid};
 ghost use Rattle.slicc_meaning.specs.declared.record.RunRecord.{RunRecord};
+ghost use Rattle.slicc_meaning.specs.declared.record.StopAt.{StopAt as StopAtRecord};
+ghost use Rattle.slicc_meaning.specs.declared.record.Verdict.TheVariants.{Cycles};
 ghost use Rattle.slicc_meaning.specs.declared.world.Place.{Place as PlaceRecord};
 ghost use Rattle.slicc_meaning.specs.declared.world.Setting.{Setting as SettingRecord};
 ghost use Rattle.slicc_meaning.specs.declared.world.World.{World as WorldRecord};
@@ -59,11 +64,20 @@ pub fn one_worker_makes_one_run()
 
 /// A plain run of a machine has at most five entries for each request and three more, comes to no cycle beyond twice the
 /// number of requests, and has no more messages in its inboxes than requests. So one of at most 100,000 requests stays
-/// within 1,000,000 entries, 1,000,000 cycles and 500,000 messages, beyond which the full language ends a run.
+/// within 1,000,000 entries, 1,000,000 cycles and 500,000 messages, beyond which the full language ends a run. Where the
+/// limit of fired transitions is 2 or more, it ends at the bound on cycles only if it has more requests than that bound.
 pub fn plain_runs_are_short()
     ensures journal { (m : MachineRecord) (s : SettingRecord) (history : List EventRecord) (w : WorldRecord) (journal : List EntryRecord) → s.plan ≡ plan_of_machine m → s.topology ≡ plain_of_plan s.plan → 1 ≤ s.limit → IsRun s history w journal → length journal ≤ 5 * s.driver.requests + 3 }
     ensures cycles { (m : MachineRecord) (s : SettingRecord) (history : List EventRecord) (w : WorldRecord) (journal : List EntryRecord) → s.plan ≡ plan_of_machine m → s.topology ≡ plain_of_plan s.plan → 1 ≤ s.limit → IsRun s history w journal → w.now ≤ 2 * s.driver.requests }
     ensures mail { (m : MachineRecord) (s : SettingRecord) (history : List EventRecord) (w : WorldRecord) (journal : List EntryRecord) → s.plan ≡ plan_of_machine m → s.topology ≡ plain_of_plan s.plan → 1 ≤ s.limit → IsRun s history w journal → length (held_messages w.places) ≤ s.driver.requests }
+    ensures bound { (m : MachineRecord) (s : SettingRecord) (history : List EventRecord) (w : WorldRecord) (journal : List EntryRecord) → s.plan ≡ plan_of_machine m → s.topology ≡ plain_of_plan s.plan → 2 ≤ s.limit → IsRun s history w journal → (cycle : ℕ) → w.verdict ≡ Some (Cycles cycle) → s.cycles < s.driver.requests }
+{}
+
+/// In a run by the plan of a machine of the small form the one fault is `invalid`: no `peek` or `dequeue` is without a
+/// message. And in a plain run no controller comes to the limit of fired transitions, where that is 2 or more.
+pub fn plain_wake_ups_end_idle_or_invalid()
+    ensures faults { (m : MachineRecord) (s : SettingRecord) (history : List EventRecord) (w : WorldRecord) (journal : List EntryRecord) → s.plan ≡ plan_of_machine m → IsRun s history w journal → (cycle c : ℕ) (at : StopAtRecord) → Contains journal (Ended cycle c (Stop at)) → at.fault ≡ Invalid }
+    ensures never_full { (m : MachineRecord) (s : SettingRecord) (history : List EventRecord) (w : WorldRecord) (journal : List EntryRecord) → s.plan ≡ plan_of_machine m → s.topology ≡ plain_of_plan s.plan → 2 ≤ s.limit → IsRun s history w journal → (cycle c : ℕ) → Contains journal (Ended cycle c Full) → ⊥ }
 {}
 
 /// The next cycle is the least one above this at which a controller or the driver must act, and where nothing must act

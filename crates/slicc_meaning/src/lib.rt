@@ -30,7 +30,8 @@ pub use front::with_message;
 pub use laws::{
     accounts_for_each_message, finals_are_the_last_states, front_comes_first,
     invalid_comes_exactly, lists_ascend, lists_change_at_one_key, next_cycle_is_the_least,
-    one_worker_makes_one_run, plain_runs_are_short, turns_go_to_the_next_cycle, wakes_once,
+    one_worker_makes_one_run, plain_runs_are_short, plain_wake_ups_end_idle_or_invalid,
+    turns_go_to_the_next_cycle, wakes_once,
 };
 pub use plan::{
     ActionPlan, Dequeue, If, MachinePlan, Peek, Plan, PortPlan, Trigger, WrittenTransition,

@@ -1,3 +1,4 @@
+use Rattle.slicc_meaning.proofs.NeverFull.{ends-at-bound}
 use Rattle.slicc_meaning.proofs.ShortTurns.{journal-short}
 use Rattle.slicc_meaning.proofs.laws.plain_runs_are_short.Goals as goal
 
@@ -18,3 +19,6 @@ returns-clause-mail c =
     λ m s history w journal planned placed some is.
     let short = journal-short m s history w journal planned placed some is in
     short.1
+
+pub returns-clause-bound : goal.returns-clause-bound
+returns-clause-bound c = λ m s history w journal planned placed two is. ends-at-bound m s planned placed two history w journal is

@@ -1,5 +1,5 @@
 use Rattle.std.proofs.Common.{rules}
-use Rattle.plain_local.proofs.Entries.{get_entries}
+use Rattle.ruby_value.proofs.Entries.{get_entries}
 use Rattle.plain_local.proofs.lasts.LastArrivals.at.Goals as goal
 
 pub returns : goal.returns

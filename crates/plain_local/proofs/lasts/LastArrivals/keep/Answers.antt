@@ -1,4 +1,4 @@
-use Rattle.plain_local.proofs.Entries.{inserted}
+use Rattle.ruby_value.proofs.Entries.{inserted}
 use Rattle.plain_local.proofs.lasts.LastArrivals.keep.Goals as goal
 use Rattle.plain_local.proofs.lasts.LastArrivals.keep.Goals.{in-Ok, in-Err}
 
