@@ -1,7 +1,8 @@
 // Two generic uses of a local, which nothing calls: a call after another one is proved from the contracts alone.
-ghost use Rattle.std.specs.Prelude.{◌≡◌, ◌≢◌, IsTrue, IfOk, IfErr, OnOk, Ok, true, false};
+ghost use Rattle.std.specs.Prelude.{◌≡◌, ◌⊎◌, IsTrue, IfOk, IfErr, OnOk, OnErr, Ok, false};
 ghost use Rattle.ctl_face.specs.Again.{again};
-ghost use Rattle.ctl_face.specs.Fits.{IsLawful, IsLine};
+ghost use Rattle.ctl_face.specs.FaultsAs.{FaultsAs};
+ghost use Rattle.ctl_face.specs.Fits.{IsLawful};
 ghost use Rattle.ctl_face.specs.LocalView.{LocalView};
 ghost use Rattle.ctl_face.specs.Pop.{pop};
 ghost use Rattle.ctl_face.specs.Ready.{ready};
@@ -16,6 +17,7 @@ fn pop_if_ready<L: Local>(local: &mut L, buffer: u16) -> Result<bool, Trouble>
     ensures popped { IfOk result (λ popped. IsTrue popped → pop (L.view local.old) buffer ≡ Ok (L.view local.new)) }
     ensures left { IfOk result (λ popped. popped ≡ false → L.view local.new ≡ L.view local.old) }
     ensures no_fault { IfErr result (λ trouble. trouble ≡ Trouble.NoMemory) }
+    ensures refused { OnErr result (L.view local.new ≡ L.view local.old) }
     ensures lawful { IsLawful (L.view local.new) }
 {
     if !local.ready(buffer) {
@@ -25,11 +27,13 @@ fn pop_if_ready<L: Local>(local: &mut L, buffer: u16) -> Result<bool, Trouble>
     Ok(true)
 }
 
-fn pop_two<L: Local>(local: &mut L, a: u16, b: u16) -> Result<(), Trouble>
+fn pop_two_and_wake<L: Local>(local: &mut L, a: u16, b: u16) -> Result<(), Trouble>
     requires first { Receives (L.view local.old) a }
     requires second { Receives (L.view local.old) b }
     requires lawful { IsLawful (L.view local.old) }
     ensures done { OnOk result ((v : LocalView) × (u : LocalView) × (pop (L.view local.old) a ≡ Ok v) × (pop v b ≡ Ok u) × (L.view local.new ≡ again u)) }
+    ensures fault { IfErr result (λ trouble. FaultsAs (pop (L.view local.old) a) trouble ⊎ ((v : LocalView) × (pop (L.view local.old) a ≡ Ok v) × FaultsAs (pop v b) trouble)) }
+    ensures left { OnErr result ((L.view local.new ≡ L.view local.old) ⊎ ((v : LocalView) × (pop (L.view local.old) a ≡ Ok v) × ((L.view local.new ≡ v) ⊎ (pop v b ≡ Ok (L.view local.new))))) }
     ensures lawful { IsLawful (L.view local.new) }
     ensures setup { (L.view local.new).setup ≡ (L.view local.old).setup }
 {

@@ -56,7 +56,8 @@ fn open(alloc: Global, setting: &Setting) -> Result<Book, NoMemory>
 }
 
 /// Runs a plan with one controller by the plain driver, from the opening to a verdict, and keeps the record. The driver
-/// issues at most 100,000 requests, since the definition of verdicts is that of such runs.
+/// issues at most 100,000 requests: where the plan is a machine's, on its plain topology, and the limit of fired transitions
+/// is 1 or more, no such run comes to the bounds for which there is no verdict yet.
 pub fn run_plain(
     alloc: Global,
     options: Options,

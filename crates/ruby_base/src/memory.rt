@@ -1,6 +1,7 @@
 use std::alloc::{AllocError, AllocFailed};
 
-/// There was no memory for what the call had to keep. It is the one answer that no contract ties to an input.
+/// There was no memory for what the call had to keep. No contract says when memory is there; a few say for which inputs a
+/// call needs none.
 #[derive(Clone, Copy, Debug, PartialEq, Eq)]
 pub struct NoMemory;
 

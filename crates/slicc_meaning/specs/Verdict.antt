@@ -1,8 +1,9 @@
 -- How a run ends, decided at a turn. Where a controller has stopped, the least-numbered one is the verdict and the
 -- driver doesn't act. Else, after the driver: quiet where no mark is above this cycle, and beyond the bound where the
 -- least such mark is. The verdicts for a journal of more than 1,000,000 entries and for more than 500,000 messages in
--- inboxes aren't there yet, and so this is the definition for plain runs of at most 100,000 requests, none of which comes
--- to one of these: that is the law `plain_runs_are_short`. These rules are this project's own.
+-- inboxes aren't there yet, and so this is the definition for plain runs of a machine with at most 100,000 requests and a
+-- limit of at least one transition, none of which comes to one of these: that is the law `plain_runs_are_short`. These
+-- rules are this project's own.
 use Rattle.std.specs.Prelude.{ℕ, Option, None, Some, List, [], ◌∷◌, ◌+◌, nat_lt, min, if◌then◌else◌}
 use Rattle.slicc_meaning.specs.declared.record.Verdict.{Verdict}
 use Rattle.slicc_meaning.specs.declared.record.Verdict.TheVariants.{Quiet, Cycles}

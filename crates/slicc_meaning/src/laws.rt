@@ -62,10 +62,11 @@ pub fn one_worker_makes_one_run()
     ensures record { (r q : RunRecord) → IsWholeRun r → IsAlone (setting r) r.history → IsWholeRun q → IsAlone (setting q) q.history → r.plan ≡ q.plan → r.topology ≡ q.topology → r.options ≡ q.options → r ≡ q }
 {}
 
-/// A plain run of a machine has at most five entries for each request and three more, comes to no cycle beyond twice the
-/// number of requests, and has no more messages in its inboxes than requests. So one of at most 100,000 requests stays
-/// within 1,000,000 entries, 1,000,000 cycles and 500,000 messages, beyond which the full language ends a run. Where the
-/// limit of fired transitions is 2 or more, it ends at the bound on cycles only if it has more requests than that bound.
+/// A plain run of a machine in which a controller may fire, where the limit of fired transitions is 1 or more, has at most
+/// five entries for each request and three more, comes to no cycle beyond twice the number of requests, and has no more
+/// messages in its inboxes than requests. So one of at most 100,000 requests stays within the 1,000,000 entries and 500,000
+/// messages beyond which the full language ends a run, and within 200,000 cycles. Where the limit is 2 or more, it ends at
+/// the bound on cycles only if it has more requests than that bound.
 pub fn plain_runs_are_short()
     ensures journal { (m : MachineRecord) (s : SettingRecord) (history : List EventRecord) (w : WorldRecord) (journal : List EntryRecord) → s.plan ≡ plan_of_machine m → s.topology ≡ plain_of_plan s.plan → 1 ≤ s.limit → IsRun s history w journal → length journal ≤ 5 * s.driver.requests + 3 }
     ensures cycles { (m : MachineRecord) (s : SettingRecord) (history : List EventRecord) (w : WorldRecord) (journal : List EntryRecord) → s.plan ≡ plan_of_machine m → s.topology ≡ plain_of_plan s.plan → 1 ≤ s.limit → IsRun s history w journal → w.now ≤ 2 * s.driver.requests }
