@@ -32,8 +32,7 @@ fn pop_two_and_wake<L: Local>(local: &mut L, a: u16, b: u16) -> Result<(), Troub
     requires second { Receives (L.view local.old) b }
     requires lawful { IsLawful (L.view local.old) }
     ensures done { OnOk result ((v : LocalView) × (u : LocalView) × (pop (L.view local.old) a ≡ Ok v) × (pop v b ≡ Ok u) × (L.view local.new ≡ again u)) }
-    ensures fault { IfErr result (λ trouble. FaultsAs (pop (L.view local.old) a) trouble ⊎ ((v : LocalView) × (pop (L.view local.old) a ≡ Ok v) × FaultsAs (pop v b) trouble)) }
-    ensures left { OnErr result ((L.view local.new ≡ L.view local.old) ⊎ ((v : LocalView) × (pop (L.view local.old) a ≡ Ok v) × ((L.view local.new ≡ v) ⊎ (pop v b ≡ Ok (L.view local.new))))) }
+    ensures stopped { IfErr result (λ trouble. ((L.view local.new ≡ L.view local.old) × FaultsAs (pop (L.view local.old) a) trouble) ⊎ ((v : LocalView) × (pop (L.view local.old) a ≡ Ok v) × (((L.view local.new ≡ v) × FaultsAs (pop v b) trouble) ⊎ ((pop v b ≡ Ok (L.view local.new)) × (trouble ≡ Trouble.NoMemory))))) }
     ensures lawful { IsLawful (L.view local.new) }
     ensures setup { (L.view local.new).setup ≡ (L.view local.old).setup }
 {

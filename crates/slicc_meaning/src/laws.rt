@@ -1,4 +1,4 @@
-// What holds of every run, and of what a run is made of. These functions do nothing: their contracts are the laws.
+// What holds of runs, and of what they are made of. These functions do nothing: their contracts are the laws.
 ghost use Rattle.std.specs.Prelude.{◌≡◌, ◌≢◌, ◌<◌, ◌≤◌, ◌⊎◌, ◌↔◌, ◌==◌, ◌+◌, ◌*◌, ℕ, List, Option, Some, length, Contains, IsTrue, if◌then◌else◌};
 ghost use Rattle.slicc_ast.specs.declared.machine.Machine.{Machine as MachineRecord};
 ghost use Rattle.slicc_meaning.specs.declared.controller.Message.{Message as MessageRecord};
@@ -75,7 +75,7 @@ pub fn plain_runs_are_short()
 {}
 
 /// In a run by the plan of a machine of the small form the one fault is `invalid`: no `peek` or `dequeue` is without a
-/// message. And in a plain run no controller comes to the limit of fired transitions, where that is 2 or more.
+/// message. And in a plain run of a machine no controller comes to the limit of fired transitions, where that is 2 or more.
 pub fn plain_wake_ups_end_idle_or_invalid()
     ensures faults { (m : MachineRecord) (s : SettingRecord) (history : List EventRecord) (w : WorldRecord) (journal : List EntryRecord) → s.plan ≡ plan_of_machine m → IsRun s history w journal → (cycle c : ℕ) (at : StopAtRecord) → Contains journal (Ended cycle c (Stop at)) → at.fault ≡ Invalid }
     ensures never_full { (m : MachineRecord) (s : SettingRecord) (history : List EventRecord) (w : WorldRecord) (journal : List EntryRecord) → s.plan ≡ plan_of_machine m → s.topology ≡ plain_of_plan s.plan → 2 ≤ s.limit → IsRun s history w journal → (cycle c : ℕ) → Contains journal (Ended cycle c Full) → ⊥ }
