@@ -14,16 +14,16 @@ use Rattle.ctl_face.specs.Again.{again}
 use Rattle.ctl_face.specs.Ascending.{with_mark}
 use Rattle.ctl_face.specs.Ctl.{Ctl}
 use Rattle.ctl_face.specs.Enqueue.{after_sending, enqueue}
-use Rattle.ctl_face.specs.Lasts.{last_at, lasts_on}
+use Rattle.ctl_face.specs.Lasts.{last_at}
 use Rattle.ctl_face.specs.Latency.{is_latency}
 use Rattle.ctl_face.specs.LocalView.{LocalView}
 use Rattle.ctl_face.specs.MarksAhead.{MarksAhead}
 use Rattle.ctl_face.specs.OfMachine.{buffer_place}
 use Rattle.ctl_face.specs.Ready.{front_now}
 use Rattle.ctl_face.specs.Recycle.{recycle, recycled_until}
-use Rattle.ctl_face.specs.Routing.{receiving_buffer, path_to, is_ordered}
-use Rattle.ctl_face.specs.Send.{Sending, copy_limit, delivered, local_arrival, local_copy, network_arrival, next_copy, next_jitter, receivers_of, send, sent_from, with_network_copy}
-use Rattle.ctl_face.proofs.Arrivals.{positive, raised}
+use Rattle.ctl_face.specs.Routing.{receiving_buffer}
+use Rattle.ctl_face.specs.Send.{Sending, copy_limit, delivered, local_arrival, local_copy, network_arrival, next_copy, receivers_of, send, sent_from, with_network_copy}
+use Rattle.ctl_face.proofs.Arrivals.{copy_later, positive, raised}
 use Rattle.ctl_face.proofs.Cases.{Good, good_ok, good_err, good_cond, good_unless}
 
 module _ (before : List ℕ) (now : ℕ) where
@@ -42,14 +42,10 @@ module _ (before : List ℕ) (now : ℕ) where
   ahead_each : (setup : Setup) (network latency : ℕ) (fields : List Value) → 0 < latency → (members : List ℕ) (s : Sending) → SenderAhead s → SenderAhead (fold (with_network_copy setup network latency fields now) s members)
   ahead_each setup network latency fields some [] s ahead = ahead
   ahead_each setup network latency fields some (receiver ∷ members) s ahead =
-      let sum = now + latency + path_to setup.routes setup.me receiver + next_jitter setup s.sender in
-      let last = last_at (lasts_on s.sender.network_last network) receiver in
-      let in_time : now < sum = omega arith in
       let arrival = network_arrival setup s.sender network latency now receiver in
-      let above : now < arrival = raised (is_ordered setup.routes network) sum last now in_time in
       let copy = next_copy setup s.sender receiver (unwrap_or (receiving_buffer setup.routes receiver network) 0) arrival fields in
       ahead_each setup network latency fields some members (with_network_copy setup network latency fields now s receiver)
-      (ahead_delivered _ s.sender copy.message above ahead)
+      (ahead_delivered _ s.sender copy.message (copy_later setup s.sender network latency now receiver some) ahead)
 
   ahead_sent : (p : Option BufferPlace) (setup : Setup) (ctl : Ctl) (buffer latency : ℕ) (fields : List Value) → 0 < latency → MarksAhead before now ctl.marks → Good SenderAhead (sent_from p setup ctl buffer latency fields now)
   ahead_sent None setup ctl buffer latency fields some ahead = good_ok SenderAhead (record { sender = ctl; copies = [] }) ahead

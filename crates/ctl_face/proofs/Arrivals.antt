@@ -31,17 +31,21 @@ IsLater now c = now < c.message.arrival
 abbrev Later : ℕ → Sending → Type 0
 Later now s = All (IsLater now) s.copies
 
+-- a copy on a network arrives after the cycle of the send
+pub copy_later : (setup : Setup) (ctl : Ctl) (network latency now receiver : ℕ) → 0 < latency → now < network_arrival setup ctl network latency now receiver
+copy_later setup ctl network latency now receiver some =
+    let sum = now + latency + path_to setup.routes setup.me receiver + next_jitter setup ctl in
+    let last = last_at (lasts_on ctl.network_last network) receiver in
+    let in_time : now < sum = omega arith in
+    raised (is_ordered setup.routes network) sum last now in_time
+
 each_later : (setup : Setup) (network latency now : ℕ) (fields : List Value) → 0 < latency → (members : List ℕ) (s : Sending) → Later now s → Later now (fold (with_network_copy setup network latency fields now) s members)
 each_later setup network latency now fields some [] s later = later
 each_later setup network latency now fields some (receiver ∷ members) s later =
-    let sum = now + latency + path_to setup.routes setup.me receiver + next_jitter setup s.sender in
-    let last = last_at (lasts_on s.sender.network_last network) receiver in
-    let in_time : now < sum = omega arith in
     let arrival = network_arrival setup s.sender network latency now receiver in
-    let above : now < arrival = raised (is_ordered setup.routes network) sum last now in_time in
     let copy = next_copy setup s.sender receiver (unwrap_or (receiving_buffer setup.routes receiver network) 0) arrival fields in
     each_later setup network latency now fields some members (with_network_copy setup network latency fields now s receiver)
-    (All-push (IsLater now) s.copies copy later above)
+    (All-push (IsLater now) s.copies copy later (copy_later setup s.sender network latency now receiver some))
 
 one_later : (setup : Setup) (ordered : Bool) (ctl : Ctl) (buffer latency : ℕ) (fields : List Value) (now : ℕ) → 0 < latency → Later now (local_copy setup ordered ctl buffer latency fields now)
 one_later setup ordered ctl buffer latency fields now some =

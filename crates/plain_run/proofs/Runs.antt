@@ -45,14 +45,11 @@ so_far-silent s b after e so_far is_step next history journal =
       alone = subst A (sym history) (alone_more s b.history e b.world b.journal so_far.run so_far.alone next);
     }
 
--- the same with an entry
-pub so_far-told : (s : Setting) (b after : Book) (e : Event) (entry : Entry) → IsRunSoFar s b → step s b.world e ≡ Some (record { world = after.world; entry = Some entry }) → IsAloneEvent b.world e
-    → after.history ≡ b.history ++ e ∷ [] → after.journal ≡ b.journal ++ entry ∷ [] → IsRunSoFar s after
-so_far-told s b after e entry so_far is_step next history journal =
-    let H : List Event → Type 0 = λ h. IsRun s h after.world after.journal in
-    let J : List Entry → Type 0 = λ j. IsRun s (b.history ++ e ∷ []) after.world j in
-    let A : List Event → Type 0 = λ h. IsAlone s h in
-    record {
-      run = subst H (sym history) (subst J (sym journal) (goes_on-told s b.history e b.world after.world b.journal entry so_far.run is_step));
-      alone = subst A (sym history) (alone_more s b.history e b.world b.journal so_far.run so_far.alone next);
-    }
+-- the same with an entry, of a book that is made of the world, the history and the journal
+pub so_far-made : (s : Setting) (b after : Book) (e : Event) (entry : Entry) {w : World} → IsRunSoFar s b → step s b.world e ≡ Some (record { world = w; entry = Some entry }) → IsAloneEvent b.world e
+    → after ≡ record { world = w; history = b.history ++ e ∷ []; journal = b.journal ++ entry ∷ [] } → IsRunSoFar s after
+so_far-made s b after e entry {w = w} so_far is_step next is =
+    subst (λ (x : Book). IsRunSoFar s x) (sym is) (record {
+      run = goes_on-told s b.history e b.world w b.journal entry so_far.run is_step;
+      alone = alone_more s b.history e b.world b.journal so_far.run so_far.alone next;
+    })

@@ -1,5 +1,5 @@
 // A run so far: its world, its history and its journal, and each event as one more step of it.
-ghost use Rattle.std.specs.Prelude.{◌≡◌, ◌<◌, ◌≤◌, ◌+◌, ◌-◌, ◌^◌, IfOk, IsTrue, None, Some, true, false, length, slice_get, slice_set};
+ghost use Rattle.std.specs.Prelude.{◌≡◌, ◌<◌, ◌≤◌, ◌+◌, ◌-◌, ◌^◌, ◌++◌, [], ◌∷◌, IfOk, IsTrue, None, Some, true, false, length, slice_get, slice_set};
 ghost use Rattle.std.specs.List.{list_any};
 ghost use Rattle.std.specs.Option.{IsSomeAnd};
 ghost use Rattle.slicc_meaning.specs.declared.controller.Scanned.TheVariants.{Fired};
@@ -18,6 +18,25 @@ pub struct Book {
     pub world: World,
     pub history: Seq<Event>,
     pub journal: Seq<Entry>,
+}
+
+/// The run with one event more, which led to this world and wrote this entry.
+pub fn with_step(
+    world: World,
+    mut history: Seq<Event>,
+    mut journal: Seq<Entry>,
+    event: Event,
+    entry: Entry,
+) -> Result<Book, NoMemory>
+    ensures { IfOk result (λ book. book ≡ record { world = world; history = history ++ event ∷ []; journal = journal ++ entry ∷ [] }) }
+{
+    history.push(event)?;
+    journal.push(entry)?;
+    Ok(Book {
+        world,
+        history,
+        journal,
+    })
 }
 
 /// The one worker takes the least controller that is due, while it holds none.
@@ -66,20 +85,15 @@ pub fn fire_one(
 {
     let Book {
         world,
-        mut history,
-        mut journal,
-    } = book;
-    let (world, entry) = fire(setting, world, worker, c, note, consumed, after);
-    history.push(Event::Fire {
-        worker,
-        controller: c,
-    })?;
-    journal.push(entry)?;
-    Ok(Book {
-        world,
         history,
         journal,
-    })
+    } = book;
+    let (world, entry) = fire(setting, world, worker, c, note, consumed, after);
+    let event = Event::Fire {
+        worker,
+        controller: c,
+    };
+    with_step(world, history, journal, event, entry)
 }
 
 /// The wake-up of the controller that the worker holds ended.
@@ -100,18 +114,13 @@ pub fn finish_one(
 {
     let Book {
         world,
-        mut history,
-        mut journal,
-    } = book;
-    let (world, entry) = done(setting, world, worker, c, after, end);
-    history.push(Event::Done {
-        worker,
-        controller: c,
-    })?;
-    journal.push(entry)?;
-    Ok(Book {
-        world,
         history,
         journal,
-    })
+    } = book;
+    let (world, entry) = done(setting, world, worker, c, after, end);
+    let event = Event::Done {
+        worker,
+        controller: c,
+    };
+    with_step(world, history, journal, event, entry)
 }

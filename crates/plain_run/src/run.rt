@@ -8,7 +8,7 @@ ghost use Rattle.slicc_meaning.specs.Step.{is_busy};
 ghost use Rattle.plain_run.specs.Book.{IsRunSoFar};
 ghost use Rattle.plain_run.specs.Cycle.{IsBetween};
 
-use crate::book::Book;
+use crate::book::{Book, with_step};
 use crate::turn::turn;
 use crate::waking::wake;
 use ruby_base::{NoMemory, Seq};
@@ -70,17 +70,17 @@ fn turn_one(alloc: Global, setting: &Setting, book: Book) -> Result<Book, NoMemo
 {
     let Book {
         world,
-        mut history,
-        mut journal,
+        history,
+        journal,
     } = book;
     let (world, entry) = turn(alloc, setting, world)?;
-    history.push(Event::Turn { worker: WORKER })?;
-    journal.push(entry)?;
-    Ok(Book {
+    with_step(
         world,
         history,
         journal,
-    })
+        Event::Turn { worker: WORKER },
+        entry,
+    )
 }
 
 /// Runs a setting from its opening to a verdict.

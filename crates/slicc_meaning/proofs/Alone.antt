@@ -1,11 +1,12 @@
 -- A run by one worker goes on by one event.
-use Rattle.std.proofs.Common.{◌≡◌, Some, List, [], ◌∷◌, ◌++◌, refl, sym, ap, ◌∙◌, subst}
+use Rattle.std.proofs.Common.{◌≡◌, List, [], ◌∷◌, ◌++◌, refl, sym, ap, ◌∙◌, subst}
 use Rattle.slicc_meaning.specs.declared.record.Entry.{Entry}
 use Rattle.slicc_meaning.specs.declared.record.Event.{Event}
 use Rattle.slicc_meaning.specs.declared.world.Setting.{Setting}
 use Rattle.slicc_meaning.specs.declared.world.World.{World}
 use Rattle.slicc_meaning.specs.Alone.{IsAlone, IsAloneEvent}
 use Rattle.slicc_meaning.specs.Run.{Ran, IsRun}
+use Rattle.slicc_meaning.proofs.Optional.{some_same}
 
 -- a list with one more at its end, parted at one of its elements: that is the last one, or an earlier one
 data Parted {A : Type 0} (xs before after : List A) (x y : A) : Type 0 where
@@ -31,9 +32,6 @@ parted (z ∷ xs) (b ∷ before) after x y same =
       | Last is last ↦ Last (ap (λ e. e ∷ xs) (head-same same) ∙ ap (λ es. b ∷ es) is) last
       | Earlier rest is ↦ Earlier rest (ap (λ e. e ∷ xs) (head-same same) ∙ ap (λ es. b ∷ es) is)
     ]
-
-some_same : {A : Type 0} {x y : A} → Some x ≡ Some y → x ≡ y
-some_same h = cc h
 
 -- the history determines the world
 same_world : (s : Setting) (history : List Event) (w v : World) (journal told : List Entry) → IsRun s history w journal → IsRun s history v told → w ≡ v

@@ -11,6 +11,10 @@ use Rattle.slicc_meaning.specs.Run.{Ran, ran_on, go_on, IsRun}
 use Rattle.slicc_meaning.specs.Step.{Stepped, step, step_lawfully}
 use Rattle.slicc_meaning.specs.World.{opening}
 
+pub runs-none : (verdict : Option Verdict) → is_none verdict ≡ true → verdict ≡ None
+runs-none None is = refl
+runs-none (Some v) is = absurd (cc is)
+
 module _ (Holds : World → Type 0) (IsGood : Entry → Type 0) where
   -- after a step, where there is one
   abbrev pub IsKept : Option Stepped → Type 0
@@ -24,10 +28,6 @@ module _ (Holds : World → Type 0) (IsGood : Entry → Type 0) where
   pub kept-where : (b : Bool) (o : Option Stepped) → (b ≡ true → IsKept o) → IsKept (cond b o None)
   kept-where true o holds = holds refl
   kept-where false o holds = tt
-
-  runs-none : (verdict : Option Verdict) → is_none verdict ≡ true → verdict ≡ None
-  runs-none None is = refl
-  runs-none (Some v) is = absurd (cc is)
 
   module _ (s : Setting) (lawful : (w : World) (e : Event) → w.verdict ≡ None → Holds w → IsKept (step_lawfully s w e)) where
     step-keeps : (w : World) (e : Event) → Holds w → IsKept (step s w e)

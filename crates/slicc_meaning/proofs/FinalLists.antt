@@ -10,6 +10,7 @@ use Rattle.slicc_meaning.specs.AreFinals.{IsFinalBefore, AreFinals}
 use Rattle.slicc_meaning.specs.Finals.{final_before, with_final, after_entry, finals}
 use Rattle.slicc_meaning.specs.LastState.{next_state}
 use Rattle.slicc_meaning.proofs.Orders.{nothing-there, head_or_rest, at-head, in-rest, in-filter, from-filter, put-between}
+use Rattle.slicc_meaning.proofs.Optional.{some_same}
 
 before : (a b : Final) → final_before a b ≡ true → IsFinalBefore a b
 before a b is = grind (arith, nat_tests, is)
@@ -53,9 +54,6 @@ one-controller f c a is = grind (arith, nat_tests, is)
 
 one-address : (f : Final) (c a : ℕ) → is_key f c a ≡ true → f.address ≡ a
 one-address f c a is = grind (arith, nat_tests, is)
-
-some_same : {A : Type 0} {x y : A} → Some x ≡ Some y → x ≡ y
-some_same h = cc h
 
 module _ (old : ℕ → ℕ → Option ℕ) (all : List Final) (f : Final) (is : IsListOf old all) where
   stays : (g : Final) → Contains all g → is_key f g.controller g.address ≡ false → with_key old f g.controller g.address ≡ Some g.state

@@ -22,6 +22,7 @@ use Rattle.slicc_meaning.specs.Scan.{scan}
 use Rattle.slicc_meaning.specs.Step.{Stepped, step, is_holder, fired_by, fire, ended_by, given_back, done, scan_at}
 use Rattle.slicc_meaning.specs.World.{machine_plan, scan_of, opening}
 use Rattle.slicc_meaning.proofs.Invalid.{invalid-caused, invalid-comes}
+use Rattle.slicc_meaning.proofs.Optional.{some_same}
 
 -- a run that broke off stays so
 broken : (s : Setting) (es : List Event) → fold (go_on s) None es ≡ None
@@ -32,9 +33,6 @@ broken s (e ∷ es) = broken s es
 pub record Extends (before after : List Entry) : Type 0 where
   pub later : List Entry
   pub is : after ≡ before ++ later
-
-some_inj : {X : Type 0} {x y : X} → Some x ≡ Some y → x ≡ y
-some_inj h = cc h
 
 extends_by : (s : Setting) (e : Event) (es : List Event) (r r' : Ran) → fold (go_on s) (Some r) (e ∷ es) ≡ Some r'
     → ((next : Ran) → fold (go_on s) (Some next) es ≡ Some r' → Extends next.journal r'.journal)
@@ -47,7 +45,7 @@ extends_by s e es r r' same rest (Some st) is =
     record { later = option_to_list st.entry ++ more.later; is = more.is ∙ append_assoc r.journal (option_to_list st.entry) more.later }
 
 extends : (s : Setting) (es : List Event) (r r' : Ran) → fold (go_on s) (Some r) es ≡ Some r' → Extends r.journal r'.journal
-extends s [] r r' same = record { later = []; is = ap (λ (x : Ran). x.journal) (sym (some_inj same)) ∙ sym (append-nil r.journal) }
+extends s [] r r' same = record { later = []; is = ap (λ (x : Ran). x.journal) (sym (some_same same)) ∙ sym (append-nil r.journal) }
 extends s (e ∷ es) r r' same = extends_by s e es r r' same (λ next more. extends s es next r' more) (step s r.world e) refl
 
 fold-append : {A B : Type 0} (f : B → A → B) (b : B) (xs ys : List A) → fold f b (xs ++ ys) ≡ fold f (fold f b xs) ys
@@ -57,14 +55,14 @@ fold-append f b (x ∷ xs) ys = fold-append f (f b x) xs ys
 -- the end of a wake-up is exact, from the scan that it came of
 exact : (m : MachinePlan) (c after : Controller) (now limit : ℕ) (e : End) (s : Scanned) → scan m c now limit ≡ s → ended_by now c s ≡ Some (after, e) → IsExact m c now limit e
 exact m c after now limit e scanned.Full is ended =
-    let full : e ≡ end.Full = ap (λ (x : Controller × End). x.1) (some_inj (sym ended)) in
+    let full : e ≡ end.Full = ap (λ (x : Controller × End). x.1) (some_same (sym ended)) in
     record {
       caused = λ at stop invalid. absurd (cc (full, stop));
       comes = λ address state event cause. absurd (cc (sym is ∙ invalid-comes m c now limit address state event cause));
     }
 exact m c after now limit e (scanned.Fired note consumed d) is ended = absurd (cc ended)
 exact m c after now limit e (scanned.Stop at) is ended =
-    let stopped : e ≡ end.Stop at = ap (λ (x : Controller × End). x.1) (some_inj (sym ended)) in
+    let stopped : e ≡ end.Stop at = ap (λ (x : Controller × End). x.1) (some_same (sym ended)) in
     record {
       caused = λ at' stop invalid.
           let same : at ≡ at' = cc (stopped, stop) in
@@ -74,7 +72,7 @@ exact m c after now limit e (scanned.Stop at) is ended =
           stopped ∙ ap (λ (a : StopAt). end.Stop a) here;
     }
 exact m c after now limit e (scanned.Idle d) is ended =
-    let idle : e ≡ end.Idle = ap (λ (x : Controller × End). x.1) (some_inj (sym ended)) in
+    let idle : e ≡ end.Idle = ap (λ (x : Controller × End). x.1) (some_same (sym ended)) in
     record {
       caused = λ at stop invalid. absurd (cc (idle, stop));
       comes = λ address state event cause. absurd (cc (sym is ∙ invalid-comes m c now limit address state event cause));
@@ -90,7 +88,7 @@ given : (s : Setting) (w : World) (c : ℕ) (p : Place) (m : MachinePlan) (st : 
     → (o : Option (Controller × End)) → ended_by w.now p.controller scan_is ≡ o → given_back w c o ≡ Some st → IsDone s w c p m st
 given s w c p m st scan_is is None ended back = absurd (cc back)
 given s w c p m st scan_is is (Some (after, e)) ended back =
-    let entry : st.entry ≡ Some (Ended w.now c e) = ap (λ (x : Stepped). x.entry) (sym (some_inj back)) in
+    let entry : st.entry ≡ Some (Ended w.now c e) = ap (λ (x : Stepped). x.entry) (sym (some_same back)) in
     record { «end» = e; entry = entry; exact = exact m p.controller after w.now s.limit e scan_is is ended }
 
 cond_some : {X : Type 0} (b : Bool) (x : Option X) (y : X) → cond b x None ≡ Some y → x ≡ Some y

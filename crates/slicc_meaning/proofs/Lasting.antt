@@ -1,5 +1,5 @@
 -- What each change of a controller keeps holds of every controller of a run.
-use Rattle.std.proofs.Common.{◌≡◌, ◌+◌, ℕ, zero, suc, Bool, true, false, Option, None, Some, List, [], ◌∷◌, is_some, is_none, cond, fold, length, refl, subst, All, slice_get, slice_set, replicate, nat_le}
+use Rattle.std.proofs.Common.{◌≡◌, ◌+◌, ℕ, zero, suc, true, Option, None, Some, List, [], ◌∷◌, is_some, is_none, fold, length, refl, subst, All, slice_get, slice_set, replicate, nat_le}
 use Rattle.std.specs.List.{list_any}
 use Rattle.std.proofs.lemmas.List.Elements.{All-head, All-tail, All-nil, All-append, All-replicate, All-set, All-map, All-weaker}
 use Rattle.slicc_meaning.specs.declared.controller.Acted.{Acted}
@@ -38,7 +38,8 @@ use Rattle.slicc_meaning.specs.Try.{settled, fire_first, peek_front, if_ready}
 use Rattle.slicc_meaning.specs.Verdict.{next_cycle, least_stopped, end_of_cycle}
 use Rattle.slicc_meaning.specs.World.{is_free, machine_plan, scan_of, opening_place, opening_places, opening}
 use Rattle.slicc_meaning.proofs.Cleared.{AfterStep, AfterEvents, after-ran, where_true, where_false}
-use Rattle.slicc_meaning.proofs.ScansKeep.{pick_scanned}
+use Rattle.slicc_meaning.proofs.ScansKeep.{pick, pick_scanned}
+use Rattle.slicc_meaning.proofs.Optional.{some_same}
 
 -- a fact of controllers that holds at the opening and that each change of a controller keeps
 pub record IsLasting (P : Controller → Type 0) : Type 0 where
@@ -67,17 +68,10 @@ AfterEnd P (Some ended) = P ended.0
 abbrev pub AllHold : (Controller → Type 0) → World → Type 0
 AllHold P w = All (λ (p : Place). P p.controller) w.places
 
-some_same : {A : Type 0} {x y : A} → Some x ≡ Some y → x ≡ y
-some_same h = cc h
-
 pub at-get : {X : Type 0} (P : X → Type 0) (xs : List X) (c : ℕ) (x : X) → slice_get xs c ≡ Some x → All P xs → P x
 at-get P [] c x there all = absurd (cc there)
 at-get P (y ∷ ys) zero x there all = subst P (some_same there) (All-head P y ys all)
 at-get P (y ∷ ys) (suc c) x there all = at-get P ys c x there (All-tail P y ys all)
-
-pick : (P : Acted → Type 0) (b : Bool) (x y : Acted) → P x → P y → P (cond b x y)
-pick P true x y px py = px
-pick P false x y px py = py
 
 module _ (P : Controller → Type 0) (lasts : IsLasting P) where
   -- one scan

@@ -1,3 +1,4 @@
+pub mod Optional
 mod ScansKeep
 pub mod FiredCounts
 pub mod Invalid

@@ -6,6 +6,7 @@ use Rattle.slicc_meaning.specs.declared.world.Place.{Place}
 use Rattle.slicc_meaning.specs.Ascending.{has_mark}
 use Rattle.slicc_meaning.specs.NextCycle.{MustAct, IsLeastAboveIfAny, IsNextCycle}
 use Rattle.slicc_meaning.specs.Verdict.{earlier, above, least_above, later, next_cycle}
+use Rattle.slicc_meaning.proofs.Optional.{some_same}
 
 -- two properties that hold of the same cycles
 like : (P Q : ℕ → Type 0) (now : ℕ) → ((m : ℕ) → P m → Q m) → ((m : ℕ) → Q m → P m) → (o : Option ℕ) → IsLeastAboveIfAny P now o → IsLeastAboveIfAny Q now o
@@ -77,9 +78,6 @@ driver-is now (Some mark) =
 without-places : (next : Option ℕ) (m : ℕ) → MustAct next [] m → next ≡ Some m
 without-places next m (inl is) = is
 without-places next m (inr (c, p, there, has)) = absurd (cc there)
-
-some_same : {A : Type 0} {x y : A} → Some x ≡ Some y → x ≡ y
-some_same h = cc h
 
 split-place : (next : Option ℕ) (p : Place) (places : List Place) (m : ℕ) → MustAct next (p ∷ places) m → IsTrue (has_mark p.controller.marks m) ⊎ MustAct next places m
 split-place next p places m (inl is) = inr (inl is)

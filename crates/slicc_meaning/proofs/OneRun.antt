@@ -28,6 +28,7 @@ use Rattle.slicc_meaning.proofs.Cleared.{is_touched, AfterStep, AfterEvents, IsC
 use Rattle.slicc_meaning.proofs.Places.{or_false, idle-nobody}
 use Rattle.slicc_meaning.proofs.Waking.{set-at}
 use Rattle.slicc_meaning.proofs.WokenOnce.{at_place, none-at, some-before, split-run, runs-on}
+use Rattle.slicc_meaning.proofs.Optional.{some_same}
 
 abbrev held_at : World → ℕ → Bool
 held_at w c = at_place is_held (slice_get w.places c)
@@ -205,9 +206,6 @@ stepped : (running : Bool) (o : Option Stepped) (journal : List Entry) (r : Ran)
 stepped true None journal r is = absurd (cc is)
 stepped true (Some st) journal r is = (st, refl)
 stepped false o journal r is = absurd (cc is)
-
-some_same : {A : Type 0} {x y : A} → Some x ≡ Some y → x ≡ y
-some_same h = cc h
 
 ended-not : (w : World) → HasEnded w → w.verdict ≡ None → ⊥
 ended-not w ended running = absurd (cc (ended, running))

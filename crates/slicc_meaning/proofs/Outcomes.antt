@@ -15,6 +15,7 @@ use Rattle.slicc_meaning.specs.Step.{is_busy, next_world, driven, turn_by, turn,
 use Rattle.slicc_meaning.specs.Verdict.{next_cycle, least_stopped, end_of_cycle}
 use Rattle.slicc_meaning.proofs.Cleared.{AfterStep, where_true, where_false}
 use Rattle.slicc_meaning.proofs.NextCycles.{next_cycle-is}
+use Rattle.slicc_meaning.proofs.Optional.{some_same}
 
 abbrev StoppedAt : List Place → ℕ → Type 0
 StoppedAt places k = (p : Place) × (slice_get places k ≡ Some p) × (p.controller.stopped ≡ true)
@@ -28,9 +29,6 @@ record IsLeastFrom (c : ℕ) (places : List Place) (n : ℕ) : Type 0 where
 abbrev StoppedFrom : ℕ → List Place → Option ℕ → Type 0
 StoppedFrom c places None = (k : ℕ) → StoppedAt places k → ⊥
 StoppedFrom c places (Some n) = IsLeastFrom c places n
-
-some_same : {A : Type 0} {x y : A} → Some x ≡ Some y → x ≡ y
-some_same h = cc h
 
 head-not : (p : Place) (places : List Place) → p.controller.stopped ≡ false → StoppedAt (p ∷ places) 0 → ⊥
 head-not p places going (q, there, stopped) =

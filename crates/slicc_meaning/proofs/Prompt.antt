@@ -25,7 +25,8 @@ use Rattle.slicc_meaning.proofs.AlongRuns.{IsKept, kept-where}
 use Rattle.slicc_meaning.proofs.KeptMarks.{KeepsMarks}
 use Rattle.slicc_meaning.proofs.PlainScans.{IsPlainScan}
 use Rattle.slicc_meaning.proofs.ScansKeep.{Keeps}
-use Rattle.slicc_meaning.proofs.ShortRuns.{only-there, some_same}
+use Rattle.slicc_meaning.proofs.ShortRuns.{only-there}
+use Rattle.slicc_meaning.proofs.Optional.{some_same}
 
 abbrev pub IsNotFullEnd : End → Type 0
 IsNotFullEnd end.Idle = Unit {0}

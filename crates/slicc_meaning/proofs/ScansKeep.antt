@@ -27,7 +27,7 @@ Keeps part c (Fired note consumed after) = part after ≡ part c
 Keeps part c (Stop at) = Unit {0}
 Keeps part c (Idle after) = part after ≡ part c
 
-pick : (P : Acted → Type 0) (b : Bool) (x y : Acted) → P x → P y → P (cond b x y)
+pub pick : (P : Acted → Type 0) (b : Bool) (x y : Acted) → P x → P y → P (cond b x y)
 pick P true x y px py = px
 pick P false x y px py = py
 

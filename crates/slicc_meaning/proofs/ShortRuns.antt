@@ -26,6 +26,7 @@ use Rattle.slicc_meaning.proofs.KeptMarks.{KeepsMarks, scan-keeps}
 use Rattle.slicc_meaning.proofs.OneKey.{with_mark-has}
 use Rattle.slicc_meaning.proofs.ScansKeep.{Keeps, pick_scanned, ports-keep}
 use Rattle.slicc_meaning.proofs.Tallies.{one, tally, tally-append, tally-more}
+use Rattle.slicc_meaning.proofs.Optional.{some_same}
 
 abbrev pub is_fired : Entry → Bool
 is_fired (entry.Fired cycle c note consumed) = true
@@ -78,9 +79,6 @@ abbrev pub IsShortAfter : Setting → List Entry → Option Stepped → Type 0
 IsShortAfter s journal None = Unit {0}
 IsShortAfter s journal (Some st) = IsShort s st.world (journal ++ option_to_list st.entry)
 
-pub some_same : {A : Type 0} {x y : A} → Some x ≡ Some y → x ≡ y
-some_same h = cc h
-
 pub only-there : (p q : Place) (c : ℕ) → slice_get (p ∷ []) c ≡ Some q → (c ≡ 0) × (p ≡ q)
 only-there p q zero there = (refl, some_same there)
 only-there p q (suc c) there = absurd (cc there)
@@ -112,41 +110,35 @@ pub where_true-short : (s : Setting) (journal : List Entry) (b : Bool) (o : Opti
 where_true-short s journal true o holds = holds refl
 where_true-short s journal false o holds = tt
 
+-- the place changes its holder and nothing else, and nothing is written
+held-by : (n limit now : ℕ) (p : Place) (holder : Option ℕ) (journal : List Entry) → (is_some holder ≡ true → p.finished ≡ false)
+    → IsShortAt n limit now true p journal → IsShortAt n limit now true (record p { holder = holder }) (journal ++ [])
+held-by n limit now p holder journal unfinished at = silent n limit now (record p { holder = holder }) journal (record {
+  fed = at.fed;
+  ended = at.ended;
+  turned = at.turned;
+  went = at.went;
+  few = at.few;
+  early = at.early;
+  held = unfinished;
+  near = at.near;
+})
+
 pub take-short : (s : Setting) (w : World) (journal : List Entry) (worker c : ℕ) (o : Option Place) → w.verdict ≡ None → slice_get w.places c ≡ o → IsShort s w journal
     → IsShortAfter s journal (take w worker c o)
 take-short s w journal worker c None running there is = tt
 take-short s w journal worker c (Some p) running there is =
-    let q : Place = record p { holder = Some worker } in
     where_true-short s journal (is_free w.now p) _ (λ free.
-    put-short s w journal c p q None running there is (λ at.
-    silent s.driver.requests s.limit w.now q journal (record {
-      fed = at.fed;
-      ended = at.ended;
-      turned = at.turned;
-      went = at.went;
-      few = at.few;
-      early = at.early;
-      held = λ held. grind (arith, free);
-      near = at.near;
-    })))
+    put-short s w journal c p (record p { holder = Some worker }) None running there is
+    (held-by s.driver.requests s.limit w.now p (Some worker) journal (λ held. grind (arith, free))))
 
 pub release-short : (s : Setting) (w : World) (journal : List Entry) (worker c : ℕ) (o : Option Place) → w.verdict ≡ None → slice_get w.places c ≡ o → IsShort s w journal
     → IsShortAfter s journal (release w worker c o)
 release-short s w journal worker c None running there is = tt
 release-short s w journal worker c (Some p) running there is =
-    let q : Place = record p { holder = None } in
     where_true-short s journal (is_holder worker p.holder) _ (λ holds.
-    put-short s w journal c p q None running there is (λ at.
-    silent s.driver.requests s.limit w.now q journal (record {
-      fed = at.fed;
-      ended = at.ended;
-      turned = at.turned;
-      went = at.went;
-      few = at.few;
-      early = at.early;
-      held = λ held. absurd (cc held);
-      near = at.near;
-    })))
+    put-short s w journal c p (record p { holder = None }) None running there is
+    (held-by s.driver.requests s.limit w.now p None journal (λ held. absurd (cc held))))
 
 -- the counts of a journal with one entry more
 module _ (journal : List Entry) (e : Entry) where

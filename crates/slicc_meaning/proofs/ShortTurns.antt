@@ -35,8 +35,10 @@ use Rattle.slicc_meaning.proofs.Accounting.{kept}
 use Rattle.slicc_meaning.proofs.Kept.{held, one-le}
 use Rattle.slicc_meaning.proofs.NextCycles.{next_cycle-is}
 use Rattle.slicc_meaning.proofs.OneKey.{with_mark-has, marks_from-has}
-use Rattle.slicc_meaning.proofs.ShortRuns.{is_fired, each, sent, IsShortAt, IsShort, IsShortAfter, some_same, only-there, fired-more, ended-more, turned-more, sent-more, eaten-more, length-each, where_true-short, take-short, release-short, fire-short, done-short, three-kinds}
+use Rattle.slicc_meaning.proofs.ShortRuns.{is_fired, each, sent, IsShortAt, IsShort, IsShortAfter, only-there, fired-more, ended-more, turned-more, sent-more, eaten-more, length-each, where_true-short, take-short, release-short, fire-short, done-short, three-kinds}
 use Rattle.slicc_meaning.proofs.Tallies.{one, tally, tally-true}
+use Rattle.slicc_meaning.proofs.Optional.{some_same}
+use Rattle.slicc_meaning.proofs.AlongRuns.{runs-none}
 
 -- the world after the driver has acted: its one place may have a message more, which must be seen in the next cycle
 pub record IsDriven (n now : ℕ) (p : Place) (v : World) (numbers : List MsgNo) : Type 0 where
@@ -80,6 +82,21 @@ module _ (s : Setting) (seats : s.topology.seats ≡ record { controller = 0 } �
       let m : Message = request_message (record { sender = length w.places; count = w.issued }) w.now the_request in
       ap (λ (all : List Seat). arrive_at_seat w.places m (slice_get all 0)) seats ∙ ap (λ (ps : List Place). arrive_at ps 0 m (slice_get ps 0)) only
 
+  -- no request is issued
+  undriven : (now : ℕ) (p : Place) (v : World) → v.places ≡ p ∷ [] → v.now ≡ now → v.driver.requests ≡ n → v.verdict ≡ None → IsDriven n now p v []
+  undriven now p v only now_is requests running = record {
+    place = p;
+    only = only;
+    fired = refl;
+    finished = refl;
+    holder = refl;
+    marks = λ k has. inl has;
+    count = inl refl;
+    now_is = now_is;
+    requests = requests;
+    running = running;
+  }
+
   driven-is : (w : World) (p : Place) (b : Bool) → nat_lt w.now w.driver.requests ≡ b → w.places ≡ p ∷ [] → w.driver.requests ≡ n → w.verdict ≡ None
       → IsDriven n w.now p (driven s w (turn_with w b)) (issued_numbers (length w.places) w.issued (cond b (the_request ∷ []) []))
   driven-is w p true below only requests running =
@@ -102,18 +119,7 @@ module _ (s : Setting) (seats : s.topology.seats ≡ record { controller = 0 } �
         requests = requests;
         running = running;
       }
-  driven-is w p false below only requests running = record {
-    place = p;
-    only = only;
-    fired = refl;
-    finished = refl;
-    holder = refl;
-    marks = λ k has. inl has;
-    count = inl refl;
-    now_is = refl;
-    requests = requests;
-    running = running;
-  }
+  driven-is w p false below only requests running = undriven w.now p (driven s w (turn_with w false)) only refl requests running
 
   driven-ahead : (w : World) (b : Bool) → w.driver.requests ≡ n → IsAhead n w.now (driven s w (turn_with w b))
   driven-ahead w b requests x is =
@@ -242,18 +248,7 @@ module _ (s : Setting) (seats : s.topology.seats ≡ record { controller = 0 } �
       → IsShort s (turn_by s w stopped).world (journal ++ option_to_list (turn_by s w stopped).entry)
   turn_by-short w journal (Some c) running is =
       let p = is.place in
-      let as_it_is : IsDriven n w.now p w [] = record {
-        place = p;
-        only = is.only;
-        fired = refl;
-        finished = refl;
-        holder = refl;
-        marks = λ k has. inl has;
-        count = inl refl;
-        now_is = refl;
-        requests = is.driver;
-        running = running;
-      } in
+      let as_it_is : IsDriven n w.now p w [] = undriven w.now p w is.only refl is.driver running in
       closing w p journal w.now [] (Stop w.now c) as_it_is (short-at w journal p is running is.only)
   turn_by-short w journal None running is =
       let p = is.place in
@@ -277,10 +272,6 @@ module _ (s : Setting) (seats : s.topology.seats ≡ record { controller = 0 } �
     lawful-short w journal (Done worker c) running is = done-short s feeds w journal worker c (slice_get w.places c) running refl is
     lawful-short w journal (Release worker c) running is = release-short s w journal worker c (slice_get w.places c) running refl is
     lawful-short w journal (Turn worker) running is = turn-short w journal running is
-
-    runs-none : (verdict : Option Verdict) → is_none verdict ≡ true → verdict ≡ None
-    runs-none None is = refl
-    runs-none (Some v) is = absurd (cc is)
 
     step-short : (w : World) (journal : List Entry) (e : Event) → IsShort s w journal → IsShortAfter s journal (step s w e)
     step-short w journal e is =

@@ -1,4 +1,4 @@
-use Rattle.std.proofs.Common.{arith, rules}
+use Rattle.std.proofs.Common.{rules}
 use Rattle.slicc_meaning.specs.World.{is_free}
 use Rattle.plain_run.proofs.Positions.{position_here}
 use Rattle.plain_run.proofs.run.first_free.Goals as goal
