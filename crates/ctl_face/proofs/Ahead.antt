@@ -11,7 +11,7 @@ use Rattle.ctl_face.specs.declared.setup.BufferPlace.{BufferPlace}
 use Rattle.ctl_face.specs.declared.setup.BufferPlace.TheVariants as place
 use Rattle.ctl_face.specs.declared.setup.Setup.{Setup}
 use Rattle.ctl_face.specs.Again.{again}
-use Rattle.ctl_face.specs.Ascending.{with_mark}
+use Rattle.ruby_value.specs.Ascending.{with_mark}
 use Rattle.ctl_face.specs.Ctl.{Ctl}
 use Rattle.ctl_face.specs.Enqueue.{after_sending, enqueue}
 use Rattle.ctl_face.specs.Lasts.{last_at}

@@ -7,7 +7,8 @@ use Rattle.std.specs.List.{filter}
 use Rattle.ruby_value.specs.declared.message.MsgNo.{MsgNo}
 use Rattle.ctl_face.specs.Ctl.{InboxMessage}
 use Rattle.ctl_face.specs.Fits.{NumbersAscend}
-use Rattle.ctl_face.specs.Inbox.{number_before, same_number, with_message, without_message}
+use Rattle.ruby_value.specs.NumberBefore.{number_before, same_number}
+use Rattle.ctl_face.specs.Inbox.{with_message, without_message}
 use Rattle.ctl_face.proofs.Ordered.{AllPairs-insert, AllPairs-map}
 
 pub number_before_trans : (a b c : MsgNo) → IsTrue (number_before a b) → IsTrue (number_before b c) → IsTrue (number_before a c)

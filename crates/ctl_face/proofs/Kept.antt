@@ -4,10 +4,11 @@ use Rattle.ruby_value.specs.declared.fault.Fault.TheVariants.{Front, Latency}
 use Rattle.ruby_value.specs.declared.message.Message.{Message}
 use Rattle.ctl_face.specs.declared.setup.Setup.{Setup}
 use Rattle.ctl_face.specs.Again.{again}
-use Rattle.ctl_face.specs.Ascending.{with_mark}
+use Rattle.ruby_value.specs.Ascending.{with_mark}
 use Rattle.ctl_face.specs.Ctl.{Ctl, InboxMessage}
 use Rattle.ctl_face.specs.Fits.{Fits, FitsMessage, NumbersAscend, IsLawful, IsLine}
-use Rattle.ctl_face.specs.Inbox.{same_number, without_message, changed_message}
+use Rattle.ruby_value.specs.NumberBefore.{same_number}
+use Rattle.ctl_face.specs.Inbox.{without_message, changed_message}
 use Rattle.ctl_face.specs.Latency.{is_latency}
 use Rattle.ctl_face.specs.LocalView.{LocalView}
 use Rattle.ctl_face.specs.Pop.{pop, consumed}

@@ -3,7 +3,7 @@ use Rattle.std.proofs.Common.{◌≡◌, ℕ, ◌<◌, true, List, arith}
 use Rattle.std.proofs.lemmas.List.Kept.{AllPairs-from_increasing}
 use Rattle.std.specs.Bool.{nat_lt}
 use Rattle.std.specs.List.Sorted.{IsStrictlyIncreasing}
-use Rattle.ctl_face.specs.Ascending.{with_mark}
+use Rattle.ruby_value.specs.Ascending.{with_mark}
 use Rattle.ctl_face.proofs.Ordered.{AllPairs-insert, increasing_from_AllPairs}
 
 below : (m x : ℕ) → nat_lt x m ≡ true → x < m

@@ -16,7 +16,7 @@ use Rattle.ctl_face.specs.declared.setup.TableSize.TheVariants as size
 use Rattle.ctl_face.specs.Ctl.{InboxMessage}
 use Rattle.ctl_face.specs.Fits.{Fits, FitsLine, FitsLines, FitsMessage, FitsSequencer, FitsTableAt, IsLine, IsOfSize, IsRequest}
 use Rattle.ctl_face.specs.HasKinds.{has_kinds}
-use Rattle.ctl_face.specs.Inbox.{number_before}
+use Rattle.ruby_value.specs.NumberBefore.{number_before}
 use Rattle.ctl_face.specs.IsSetup.{HasPlaces, IsSetup, IsTableSetup, network_count}
 use Rattle.ctl_face.specs.Opening.{opening_table, no_requests, opening_ctl}
 use Rattle.ctl_face.proofs.Ordered.{AllPairs-nil}

@@ -1,6 +1,6 @@
 -- A controller that will wake in the next cycle, as one whose scan has stalled, and the acts tell so. The mark is this project's own.
 use Rattle.std.specs.Prelude.{true, ◌+◌}
-use Rattle.ctl_face.specs.Ascending.{with_mark}
+use Rattle.ruby_value.specs.Ascending.{with_mark}
 use Rattle.ctl_face.specs.LocalView.{LocalView}
 
 abbrev pub again : LocalView → LocalView

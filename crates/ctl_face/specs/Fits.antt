@@ -16,7 +16,7 @@ use Rattle.ruby_value.specs.IsCache.{IsCache}
 use Rattle.ctl_face.specs.Ctl.{Ctl, InboxMessage, Requests}
 use Rattle.ctl_face.specs.HasKinds.{has_kinds}
 use Rattle.ctl_face.specs.HoldsKind.{line_limit}
-use Rattle.ctl_face.specs.Inbox.{number_before}
+use Rattle.ruby_value.specs.NumberBefore.{number_before}
 use Rattle.ctl_face.specs.IsSetup.{IsSetup, network_count}
 use Rattle.ctl_face.specs.LocalView.{LocalView}
 use Rattle.ctl_face.specs.Send.{copy_limit}

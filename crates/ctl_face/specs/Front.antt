@@ -4,7 +4,7 @@ use Rattle.std.specs.Prelude.{ℕ, Bool, Option, None, Some, List, [], ◌∷◌
 use Rattle.std.specs.List.{filter}
 use Rattle.ruby_value.specs.declared.message.Message.{Message}
 use Rattle.ctl_face.specs.Ctl.{Ctl, InboxMessage}
-use Rattle.ctl_face.specs.Inbox.{number_before}
+use Rattle.ruby_value.specs.NumberBefore.{number_before}
 
 -- the message is in the buffer, has arrived, and wasn't taken aside
 abbrev pub is_ready : ℕ → ℕ → InboxMessage → Bool

@@ -1,15 +1,10 @@
 -- The messages of a controller. An inbox is a finite map from message numbers to messages, as the list of its messages
--- with ascending numbers. Numbers are compared by sender, then by count, which is this project's own order.
-use Rattle.std.specs.Prelude.{Bool, List, ◌∷◌, ◌++◌, ◌==◌, ◌&&◌, ◌||◌, not, map, nat_lt, if◌then◌else◌}
+-- with ascending numbers, which is this project's own.
+use Rattle.std.specs.Prelude.{List, ◌∷◌, ◌++◌, not, map, if◌then◌else◌}
 use Rattle.std.specs.List.{filter}
 use Rattle.ruby_value.specs.declared.message.MsgNo.{MsgNo}
+use Rattle.ruby_value.specs.NumberBefore.{number_before, same_number}
 use Rattle.ctl_face.specs.Ctl.{InboxMessage}
-
-abbrev pub number_before : MsgNo → MsgNo → Bool
-number_before a b = nat_lt a.sender b.sender || (a.sender == b.sender && nat_lt a.count b.count)
-
-abbrev pub same_number : MsgNo → MsgNo → Bool
-same_number a b = a.sender == b.sender && a.count == b.count
 
 -- the inbox with a message that wasn't in it
 abbrev pub with_message : List InboxMessage → InboxMessage → List InboxMessage

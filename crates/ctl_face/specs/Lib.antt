@@ -1,7 +1,6 @@
 pub mod Acts
 pub mod Again
 pub mod Allocate
-pub mod Ascending
 pub mod Avail
 pub mod Callback
 pub mod Ctl

@@ -5,7 +5,7 @@ use Rattle.std.specs.Prelude.{ℕ, ℤ, true, Option, None, Some, [], ◌∷◌,
 use Rattle.ruby_value.specs.declared.fault.Fault.{Fault}
 use Rattle.ruby_value.specs.declared.fault.Fault.TheVariants.{Front, Latency}
 use Rattle.ruby_value.specs.declared.message.Message.{Message}
-use Rattle.ctl_face.specs.Ascending.{with_mark}
+use Rattle.ruby_value.specs.Ascending.{with_mark}
 use Rattle.ctl_face.specs.Ctl.{InboxMessage}
 use Rattle.ctl_face.specs.Inbox.{changed_message}
 use Rattle.ctl_face.specs.Latency.{is_latency}

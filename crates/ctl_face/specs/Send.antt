@@ -12,7 +12,7 @@ use Rattle.ruby_value.specs.declared.message.Message.{Message}
 use Rattle.ruby_value.specs.declared.value.Value.{Value}
 use Rattle.ruby_value.specs.declared.value.Value.TheVariants.{Dest}
 use Rattle.ctl_face.specs.Acts.{Copy}
-use Rattle.ctl_face.specs.Ascending.{with_mark}
+use Rattle.ruby_value.specs.Ascending.{with_mark}
 use Rattle.ctl_face.specs.Ctl.{Ctl}
 use Rattle.ctl_face.specs.Inbox.{with_message}
 use Rattle.ctl_face.specs.Lasts.{last_at, lasts_on, with_last}

@@ -4,7 +4,8 @@ use Rattle.std.proofs.lemmas.List.{take_all}
 use Rattle.std.specs.List.{filter}
 use Rattle.ruby_value.specs.declared.message.MsgNo.{MsgNo}
 use Rattle.ctl_face.specs.Ctl.{InboxMessage}
-use Rattle.ctl_face.specs.Inbox.{number_before, with_message}
+use Rattle.ruby_value.specs.NumberBefore.{number_before}
+use Rattle.ctl_face.specs.Inbox.{with_message}
 
 pub with_parts : (inbox : List InboxMessage) (m : InboxMessage) (number : MsgNo) (i : ℕ) (all : List InboxMessage)
     → all ≡ filter (λ (o : InboxMessage). number_before o.message.number number) inbox ++ m ∷ filter (λ (o : InboxMessage). number_before number o.message.number) (take i inbox)

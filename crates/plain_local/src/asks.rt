@@ -3,7 +3,6 @@ ghost use Rattle.std.specs.Prelude.{◌≡◌, ◌∷◌, ◌++◌, IfOk, filter
 ghost use Rattle.ctl_face.specs.Callback.{with_answer as with_answer_of, stored_block};
 ghost use Rattle.ruby_value.specs.declared.asked.Answer.{Answer as AnswerRecord};
 
-use crate::marks::between;
 use crate::{NoMemory, Seq};
 use ruby_value::{Answer, Asked, Block, LineMap};
 use std::alloc::Global;
@@ -49,7 +48,7 @@ pub(crate) fn with_answer(
 {
     let low = up_to(alloc, answers, a.asked.line)?;
     let high = above(alloc, answers, a.asked.line)?;
-    between(low, a, &high)
+    Seq::between(low, a, &high)
 }
 
 // The block with the byte of a store in it.

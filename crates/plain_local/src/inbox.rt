@@ -3,24 +3,18 @@ ghost use Rattle.std.specs.Prelude.{◌≡◌, ◌∷◌, ◌++◌, None, Some, 
 ghost use Rattle.std.specs.Option.{option_copied};
 ghost use Rattle.ctl_face.specs.Ctl.{InboxMessage};
 ghost use Rattle.ctl_face.specs.Front.{is_ready, message_before as message_before_of, earlier_message as earlier_message_of, least_message};
-ghost use Rattle.ctl_face.specs.Inbox.{number_before as number_before_of, with_message as with_message_of, without_message as without_message_of, changed_message};
+ghost use Rattle.ruby_value.specs.NumberBefore.{number_before};
+ghost use Rattle.ctl_face.specs.Inbox.{with_message as with_message_of, without_message as without_message_of, changed_message};
 ghost use Rattle.plain_local.specs.Wakes.{wakes};
 
 use crate::{NoMemory, Seq, Waiting};
 use ruby_value::{Message, MsgNo};
 use std::alloc::Global;
 
-// Whether the first number is the lesser, by sender and then by count.
-fn number_before(a: MsgNo, b: MsgNo) -> bool
-    ensures { result ≡ number_before_of a b }
-{
-    a.sender < b.sender || (a.sender == b.sender && a.count < b.count)
-}
-
 fn message_before(a: &Message, b: &Message) -> bool
     ensures { result ≡ message_before_of a.now b.now }
 {
-    a.arrival < b.arrival || (a.arrival == b.arrival && number_before(a.number, b.number))
+    a.arrival < b.arrival || (a.arrival == b.arrival && a.number.is_before(b.number))
 }
 
 fn earlier<'a>(m: &'a Message, least: Option<&'a Message>) -> &'a Message
@@ -48,11 +42,11 @@ pub(crate) fn front(inbox: &[Waiting], buffer: u16, now: u64) -> Option<&Message
 }
 
 fn below(alloc: Global, inbox: &[Waiting], number: MsgNo) -> Result<Vec<Waiting>, NoMemory>
-    ensures { IfOk result (λ part. part.items ≡ filter (λ (o : InboxMessage). number_before_of o.message.number number) inbox.now) }
+    ensures { IfOk result (λ part. part.items ≡ filter (λ (o : InboxMessage). number_before o.message.number number) inbox.now) }
 {
     let mut part = Vec::new(alloc);
     for w in inbox {
-        if number_before(w.number(), number) {
+        if w.number().is_before(number) {
             part.push(w.clone()?)?;
         }
     }
@@ -71,7 +65,7 @@ pub(crate) fn with_message(
     let mut all = below(alloc, inbox, number)?;
     all.push(m)?;
     for w in inbox {
-        if number_before(number, w.number()) {
+        if number.is_before(w.number()) {
             all.push(w.clone()?)?;
         }
     }

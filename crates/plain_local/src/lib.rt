@@ -9,7 +9,6 @@ mod fields;
 mod inbox;
 mod lasts;
 mod local;
-mod marks;
 mod messages;
 mod opening;
 mod sending;

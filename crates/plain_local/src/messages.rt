@@ -14,10 +14,9 @@ ghost use Rattle.plain_local.specs.View.{view_of};
 ghost use Rattle.plain_local.specs.Wakes.{wakes};
 
 use crate::local::PlainLocal;
-use crate::marks::with_mark;
 use crate::{NoMemory, inbox};
 use ctl_face::Trouble;
-use ruby_value::{Fault, Message};
+use ruby_value::{Fault, Message, with_mark};
 
 // A latency of 1 to 1,000,000 cycles.
 pub(crate) fn latency_of(latency: i64) -> Option<u64>

@@ -19,11 +19,10 @@ use crate::asks::PlainRequests;
 use crate::inbox::with_message;
 use crate::lasts::LastArrivals;
 use crate::local::{Done, PlainLocal, Post};
-use crate::marks::with_mark;
 use crate::table::PlainTable;
 use crate::{NoMemory, SentCopy, Seq, Waiting};
 use ctl_face::Setup;
-use ruby_value::{Answer, Asked, LineMap, Message, MsgNo};
+use ruby_value::{Answer, Asked, LineMap, Message, MsgNo, with_mark};
 use std::alloc::Global;
 
 fn opening_tables(alloc: Global, setup: &Setup) -> Result<Vec<PlainTable>, NoMemory>

@@ -17,12 +17,11 @@ use crate::fields::receivers;
 use crate::inbox::with_message;
 use crate::lasts::LastArrivals;
 use crate::local::{PlainLocal, Post};
-use crate::marks::with_mark;
 use crate::messages::latency_of;
 use crate::{NoMemory, SentCopy, Seq, Waiting, inbox};
 use ctl_face::{BufferPlace, Routes, Trouble};
 use pcg_words::Words;
-use ruby_value::{Fault, Fields, Message, MsgNo};
+use ruby_value::{Fault, Fields, Message, MsgNo, with_mark};
 use std::alloc::Global;
 use std::cmp::max;
 

@@ -1,6 +1,6 @@
 ghost use Rattle.std.specs.Prelude.{◌≡◌, IfOk, true};
 ghost use Rattle.ctl_face.specs.Front.{is_ready};
-ghost use Rattle.ctl_face.specs.Inbox.{number_before, same_number};
+ghost use Rattle.ruby_value.specs.NumberBefore.{number_before, same_number};
 ghost use Rattle.plain_local.specs.Wakes.{wakes};
 
 use crate::NoMemory;
@@ -63,8 +63,7 @@ impl Waiting {
     pub(crate) fn is_numbered(&self, number: MsgNo) -> bool
         ensures { result ≡ same_number self.now.message.number number }
     {
-        let own = self.message.number;
-        own.sender == number.sender && own.count == number.count
+        self.message.number == number
     }
 
     // Whether it wakes where those under a line are woken, or all.

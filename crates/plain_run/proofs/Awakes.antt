@@ -6,8 +6,8 @@ use Rattle.std.proofs.lemmas.Option.{get_or_from_slice_get}
 use Rattle.plain_run.specs.declared.outcomes.Outcome.{Outcome}
 use Rattle.plain_run.specs.declared.outcomes.Outcome.TheVariants.{Fired}
 use Rattle.plain_run.specs.Outcome.{CountsFired}
-use Rattle.slicc_meaning.specs.declared.record.FireNote.{FireNote}
-use Rattle.slicc_meaning.specs.declared.controller.MsgNo.{MsgNo}
+use Rattle.run_journal.specs.declared.entry.FireNote.{FireNote}
+use Rattle.ruby_value.specs.declared.message.MsgNo.{MsgNo}
 use Rattle.slicc_meaning.specs.declared.controller.Controller.{Controller}
 use Rattle.slicc_meaning.specs.declared.world.Place.{Place}
 use Rattle.slicc_meaning.specs.declared.world.World.{World}

@@ -3,7 +3,7 @@ ghost use Rattle.std.specs.Prelude.{◌≡◌, ◌≢◌, ◌<◌, ◌+◌, ◌-
 ghost use Rattle.std.specs.List.{list_any};
 ghost use Rattle.std.specs.Option.{IsSomeAnd};
 ghost use Rattle.slicc_meaning.specs.declared.controller.Scanned.TheVariants.{Fired};
-ghost use Rattle.slicc_meaning.specs.declared.record.Event.TheVariants.{Take, Fire, Done, Turn};
+ghost use Rattle.run_journal.specs.declared.event.Event.TheVariants.{Take, Fire, Done, Turn};
 ghost use Rattle.slicc_meaning.specs.declared.world.Setting.{Setting as SettingRecord};
 ghost use Rattle.slicc_meaning.specs.World.{is_free};
 ghost use Rattle.slicc_meaning.specs.Step.{step, with_place, is_holder, scan_at, ended_by};

@@ -1,7 +1,7 @@
 // The turn of a cycle: the driver acts, and the next cycle begins or the run ends.
 ghost use Rattle.std.specs.Prelude.{◌≡◌, ◌<◌, ◌≤◌, ◌+◌, ◌-◌, ◌^◌, ℕ, IfOk, None, Some, false, length, map};
 ghost use Rattle.std.specs.List.{list_any};
-ghost use Rattle.slicc_meaning.specs.declared.record.Event.TheVariants.{Turn};
+ghost use Rattle.run_journal.specs.declared.event.Event.TheVariants.{Turn};
 ghost use Rattle.slicc_meaning.specs.Verdict.{least_stopped as least_stopped_of, end_of_cycle as end_of_cycle_of};
 ghost use Rattle.slicc_meaning.specs.Step.{step, is_busy, begun as begun_of, next_world as next_world_of, driven as driven_of, after_driver as after_driver_of};
 ghost use Rattle.slicc_meaning.specs.World.{is_held};

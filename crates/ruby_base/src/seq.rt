@@ -127,6 +127,15 @@ impl<T: Copy> Seq<T> {
         })
     }
 
+    /// A list with an element between two parts. It takes the room of the first part.
+    pub fn between(mut before: Vec<T>, item: T, after: &[T]) -> Result<Seq<T>, NoMemory>
+        ensures { IfOk result (λ s. s ≡ before.items ++ item ∷ after.now) }
+    {
+        before.push(item)?;
+        before.extend_from_slice(after)?;
+        Ok(Seq { items: before })
+    }
+
     /// Adds the elements of a slice at the end. Without memory for them the list is as it was.
     pub fn append(&mut self, more: &[T]) -> Result<(), NoMemory>
         ensures ok { OnOk result (self.new ≡ self.old ++ more.now) }

@@ -12,7 +12,7 @@ use Rattle.slicc_meaning.specs.declared.record.Verdict.TheVariants.{Stop, Quiet,
 use Rattle.slicc_meaning.specs.Answer.{Runs, Refused, Absent, TooLarge, IsAnswer}
 use Rattle.slicc_meaning.specs.Record.{IsWholeRun, setting}
 use Rattle.slicc_meaning.specs.declared.plan.Plan.{Plan}
-use Rattle.slicc_meaning.specs.declared.record.Account.{Account}
+use Rattle.run_journal.specs.declared.summary.Account.{Account}
 use Rattle.slicc_meaning.specs.Topology.{HasSeats, plain_of}
 use Rattle.slicc_meaning.proofs.Accounting.{kept, accounted, adds_up}
 use Rattle.slicc_meaning.proofs.InvalidRuns.{invalid_exactly}

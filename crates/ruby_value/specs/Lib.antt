@@ -1,4 +1,5 @@
 pub mod AreLinesOf
+pub mod Ascending
 pub mod Available
 pub mod Cache
 pub mod DefaultValue
@@ -11,6 +12,7 @@ pub mod HasLawfulSets
 pub mod IsBefore
 pub mod IsCache
 pub mod MadeRecent
+pub mod NumberBefore
 pub mod SameKind
 pub mod SetOf
 pub mod TakesValue

@@ -1,5 +1,6 @@
 ghost use Rattle.std.specs.Prelude.{◌≡◌, ◌↔◌, IsTrue};
 ghost use Rattle.ruby_value.specs.IsBefore.{IsBefore};
+ghost use Rattle.ruby_value.specs.NumberBefore.{number_before};
 
 use crate::Fields;
 use std::alloc::AllocError;
@@ -15,7 +16,8 @@ pub struct MsgNo {
 impl MsgNo {
     /// Whether this number comes before the other one.
     pub fn is_before(self, other: MsgNo) -> bool
-        ensures { IsTrue result ↔ IsBefore self other }
+        ensures order { IsTrue result ↔ IsBefore self other }
+        ensures test { result ≡ number_before self other }
     {
         self < other
     }

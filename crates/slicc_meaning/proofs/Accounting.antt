@@ -4,16 +4,16 @@ use Rattle.std.specs.List.{All}
 use Rattle.std.proofs.lemmas.List.{length-append, length-replicate}
 use Rattle.std.proofs.lemmas.List.Sums.{sum_by-cons}
 use Rattle.slicc_meaning.specs.declared.controller.Message.{Message}
-use Rattle.slicc_meaning.specs.declared.controller.MsgNo.{MsgNo}
+use Rattle.ruby_value.specs.declared.message.MsgNo.{MsgNo}
 use Rattle.slicc_meaning.specs.declared.record.Entry.{Entry}
-use Rattle.slicc_meaning.specs.declared.record.Event.{Event}
-use Rattle.slicc_meaning.specs.declared.record.Event.TheVariants.{Take, Fire, Done, Release, Turn}
+use Rattle.run_journal.specs.declared.event.Event.{Event}
+use Rattle.run_journal.specs.declared.event.Event.TheVariants.{Take, Fire, Done, Release, Turn}
 use Rattle.slicc_meaning.specs.declared.world.Place.{Place}
 use Rattle.slicc_meaning.specs.declared.world.Seat.{Seat}
 use Rattle.slicc_meaning.specs.declared.world.Setting.{Setting}
 use Rattle.slicc_meaning.specs.declared.world.World.{World}
 use Rattle.slicc_meaning.specs.Account.{sent_numbers, consumed_numbers, held_messages, is_queued, is_stalled, is_recycled, account, times, IsAccounted}
-use Rattle.slicc_meaning.specs.Front.{same_number}
+use Rattle.ruby_value.specs.NumberBefore.{same_number}
 use Rattle.slicc_meaning.specs.Run.{Ran, ran_on, go_on, IsRun}
 use Rattle.slicc_meaning.specs.Step.{Stepped, step_lawfully, step}
 use Rattle.slicc_meaning.specs.Topology.{HasSeats}

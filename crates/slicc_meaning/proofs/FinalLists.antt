@@ -5,22 +5,23 @@ use Rattle.std.proofs.lemmas.Bool.Decides.{nat_tests}
 use Rattle.std.proofs.lemmas.List.Elements.{Contains-append_cases, Contains-append_left, Contains-append_right}
 use Rattle.slicc_meaning.specs.declared.record.Entry.{Entry}
 use Rattle.slicc_meaning.specs.declared.record.Entry.TheVariants.{Fired, Ended, Turned}
-use Rattle.slicc_meaning.specs.declared.record.Final.{Final}
-use Rattle.slicc_meaning.specs.AreFinals.{IsFinalBefore, AreFinals}
+use Rattle.run_journal.specs.declared.summary.Final.{Final}
+use Rattle.run_journal.specs.IsBefore.{IsBefore}
+use Rattle.slicc_meaning.specs.AreFinals.{AreFinals}
 use Rattle.slicc_meaning.specs.Finals.{final_before, with_final, after_entry, finals}
 use Rattle.slicc_meaning.specs.LastState.{next_state}
 use Rattle.slicc_meaning.proofs.Orders.{nothing-there, head_or_rest, at-head, in-rest, in-filter, from-filter, put-between}
 use Rattle.slicc_meaning.proofs.Optional.{some_same}
 
-before : (a b : Final) → final_before a b ≡ true → IsFinalBefore a b
+before : (a b : Final) → final_before a b ≡ true → IsBefore a b
 before a b is = grind (arith, nat_tests, is)
 
-far : (a b c : Final) → IsFinalBefore a b → IsFinalBefore b c → IsFinalBefore a c
+far : (a b c : Final) → IsBefore a b → IsBefore b c → IsBefore a c
 far a b c first second = grind (arith, first, second)
 
 -- the finals of a map from controllers and addresses to states
 record IsListOf (states : ℕ → ℕ → Option ℕ) (all : List Final) : Type 0 where
-  ascending : AllPairs IsFinalBefore all
+  ascending : AllPairs IsBefore all
   exactly : (f : Final) → Contains all f ↔ (states f.controller f.address ≡ Some f.state)
 
 same-states : (old new : ℕ → ℕ → Option ℕ) (all : List Final) → ((c a : ℕ) → old c a ≡ new c a) → IsListOf old all → IsListOf new all
@@ -104,7 +105,7 @@ module _ (old : ℕ → ℕ → Option ℕ) (all : List Final) (f : Final) (is :
 
   with-one : IsListOf (with_key old f) (with_final all f)
   with-one = record {
-    ascending = put-between IsFinalBefore far (λ g. final_before g f) (λ g. final_before f g) f (λ g. before g f) (λ g. before f g) all is.ascending;
+    ascending = put-between IsBefore far (λ g. final_before g f) (λ g. final_before f g) f (λ g. before g f) (λ g. before f g) all is.ascending;
     exactly = λ g. (to g, from g (is_key f g.controller g.address) refl);
   }
 

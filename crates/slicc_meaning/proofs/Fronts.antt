@@ -3,10 +3,11 @@ use Rattle.std.proofs.Common.{◌≡◌, ◌⊎◌, ℕ, zero, suc, Bool, true, 
 use Rattle.std.proofs.lemmas.Bool.{and_from}
 use Rattle.std.proofs.lemmas.Bool.Decides.{nat_tests}
 use Rattle.slicc_meaning.specs.declared.controller.Message.{Message}
-use Rattle.slicc_meaning.specs.declared.controller.MsgNo.{MsgNo}
-use Rattle.slicc_meaning.specs.Front.{number_before, is_ready, message_before, earlier_message, least_message, front}
+use Rattle.ruby_value.specs.declared.message.MsgNo.{MsgNo}
+use Rattle.ruby_value.specs.NumberBefore.{number_before}
+use Rattle.slicc_meaning.specs.Front.{is_ready, message_before, earlier_message, least_message, front}
 use Rattle.slicc_meaning.specs.IsFront.{IsReady, IsMessageBefore, IsFirstReady, IsFront}
-use Rattle.slicc_meaning.specs.IsNumberBefore.{IsNumberBefore}
+use Rattle.ruby_value.specs.IsBefore.{IsBefore}
 
 none_is : (o : Option ℕ) → is_none o ≡ true → o ≡ None
 none_is None is = refl
@@ -26,7 +27,7 @@ passes buffer now m is =
     let free : is_none m.waiting ≡ true = ap is_none is.not_aside in
     and_from (m.buffer == buffer && nat_le m.arrival now) (is_none m.waiting) (and_from (m.buffer == buffer) (nat_le m.arrival now) here come) free
 
-pub number-comes : (a b : MsgNo) → number_before a b ≡ true → IsNumberBefore a b
+pub number-comes : (a b : MsgNo) → number_before a b ≡ true → IsBefore a b
 number-comes a b is = grind (arith, nat_tests, is)
 
 comes : (a b : Message) → message_before a b ≡ true → IsMessageBefore a b

@@ -4,8 +4,9 @@ use Rattle.std.specs.List.{filter}
 use Rattle.std.proofs.lemmas.Bool.{eqb-true, eq-eqb, and_parts, cases_Bool, and_from}
 use Rattle.std.proofs.lemmas.Bool.Decides.{nat_tests}
 use Rattle.slicc_meaning.specs.declared.controller.Message.{Message}
-use Rattle.slicc_meaning.specs.declared.controller.MsgNo.{MsgNo}
-use Rattle.slicc_meaning.specs.Front.{same_number, number_before, with_message, without_message, message_before, earlier_message, least_message, front, is_ready}
+use Rattle.ruby_value.specs.declared.message.MsgNo.{MsgNo}
+use Rattle.ruby_value.specs.NumberBefore.{same_number, number_before}
+use Rattle.slicc_meaning.specs.Front.{with_message, without_message, message_before, earlier_message, least_message, front, is_ready}
 use Rattle.slicc_meaning.proofs.Tallies.{one, tally, tally-append, tally-filter_le}
 
 same-refl : (a : MsgNo) → same_number a a ≡ true

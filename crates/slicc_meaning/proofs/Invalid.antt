@@ -5,12 +5,12 @@ use Rattle.std.specs.List.{AllByRecursion}
 use Rattle.slicc_meaning.specs.declared.controller.Acted.{Acted}
 use Rattle.slicc_meaning.specs.declared.controller.Controller.{Controller}
 use Rattle.slicc_meaning.specs.declared.controller.Message.{Message}
-use Rattle.slicc_meaning.specs.declared.controller.MsgNo.{MsgNo}
+use Rattle.ruby_value.specs.declared.message.MsgNo.{MsgNo}
 use Rattle.slicc_meaning.specs.declared.controller.Scanned.{Scanned}
 use Rattle.slicc_meaning.specs.declared.controller.Scanned.TheVariants.{Full, Fired, Stop, Idle}
 use Rattle.slicc_meaning.specs.declared.record.Fault.{Fault}
 use Rattle.slicc_meaning.specs.declared.record.Fault.TheVariants.{Invalid, Front}
-use Rattle.slicc_meaning.specs.declared.record.FireNote.{FireNote}
+use Rattle.run_journal.specs.declared.entry.FireNote.{FireNote}
 use Rattle.slicc_meaning.specs.declared.record.StopAt.{StopAt}
 use Rattle.slicc_meaning.specs.declared.plan.ActionPlan.{ActionPlan}
 use Rattle.slicc_meaning.specs.declared.plan.MachinePlan.{MachinePlan}

@@ -10,8 +10,8 @@ use Rattle.slicc_meaning.specs.declared.record.End.{End}
 use Rattle.slicc_meaning.specs.declared.record.End.TheVariants as end
 use Rattle.slicc_meaning.specs.declared.record.Entry.{Entry}
 use Rattle.slicc_meaning.specs.declared.record.Entry.TheVariants.{Ended}
-use Rattle.slicc_meaning.specs.declared.record.Event.{Event}
-use Rattle.slicc_meaning.specs.declared.record.Event.TheVariants.{Done, Fire}
+use Rattle.run_journal.specs.declared.event.Event.{Event}
+use Rattle.run_journal.specs.declared.event.Event.TheVariants.{Done, Fire}
 use Rattle.slicc_meaning.specs.declared.record.StopAt.{StopAt}
 use Rattle.slicc_meaning.specs.declared.world.Place.{Place}
 use Rattle.slicc_meaning.specs.declared.world.Setting.{Setting}

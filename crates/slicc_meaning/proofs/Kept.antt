@@ -4,7 +4,7 @@ use Rattle.std.specs.Option.{option_to_list}
 use Rattle.std.proofs.lemmas.List.{append-nil, length-set}
 use Rattle.slicc_meaning.specs.declared.controller.Controller.{Controller}
 use Rattle.slicc_meaning.specs.declared.controller.Message.{Message}
-use Rattle.slicc_meaning.specs.declared.controller.MsgNo.{MsgNo}
+use Rattle.ruby_value.specs.declared.message.MsgNo.{MsgNo}
 use Rattle.slicc_meaning.specs.declared.controller.Scanned.{Scanned}
 use Rattle.slicc_meaning.specs.declared.controller.Scanned.TheVariants.{Full, Fired, Stop, Idle}
 use Rattle.slicc_meaning.specs.declared.record.End.{End}
@@ -13,7 +13,7 @@ use Rattle.slicc_meaning.specs.declared.world.Place.{Place}
 use Rattle.slicc_meaning.specs.declared.world.Setting.{Setting}
 use Rattle.slicc_meaning.specs.declared.world.World.{World}
 use Rattle.slicc_meaning.specs.Account.{issued_in, consumed_in, sent_numbers, consumed_numbers, held_messages}
-use Rattle.slicc_meaning.specs.Front.{same_number}
+use Rattle.ruby_value.specs.NumberBefore.{same_number}
 use Rattle.slicc_meaning.specs.Step.{Stepped, with_place, take, fire, done, release, fired_by, ended_by, given_back, is_holder, scan_at}
 use Rattle.slicc_meaning.specs.World.{is_free, machine_plan}
 use Rattle.slicc_meaning.proofs.Tallies.{one, tally, tally-more, tally-set, tally-within}

@@ -11,7 +11,7 @@ use Rattle.slicc_meaning.specs.declared.controller.Scanned.TheVariants.{Full, Fi
 use Rattle.slicc_meaning.specs.declared.record.End.{End}
 use Rattle.slicc_meaning.specs.declared.plan.MachinePlan.{MachinePlan}
 use Rattle.slicc_meaning.specs.declared.world.Setting.{Setting}
-use Rattle.slicc_meaning.specs.Ascending.{has_mark, with_mark}
+use Rattle.ruby_value.specs.Ascending.{has_mark, with_mark}
 use Rattle.slicc_meaning.specs.Step.{ended_by}
 use Rattle.slicc_meaning.specs.Scan.{scan_ports}
 use Rattle.slicc_meaning.specs.World.{scan_of}

@@ -3,7 +3,7 @@ use Rattle.std.proofs.Common.{◌≡◌, ◌<◌, ◌≤◌, ◌⊎◌, ℕ, zer
 use Rattle.std.proofs.lemmas.Bool.{cases_lt, or_right, or_left}
 use Rattle.std.proofs.lemmas.Bool.Decides.{nat_tests}
 use Rattle.slicc_meaning.specs.declared.world.Place.{Place}
-use Rattle.slicc_meaning.specs.Ascending.{has_mark}
+use Rattle.ruby_value.specs.Ascending.{has_mark}
 use Rattle.slicc_meaning.specs.NextCycle.{MustAct, IsLeastAboveIfAny, IsNextCycle}
 use Rattle.slicc_meaning.specs.Verdict.{earlier, above, least_above, later, next_cycle}
 use Rattle.slicc_meaning.proofs.Optional.{some_same}

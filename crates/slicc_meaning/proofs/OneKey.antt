@@ -6,10 +6,11 @@ use Rattle.std.proofs.lemmas.Bool.Decides.{nat_tests}
 use Rattle.std.proofs.lemmas.List.Elements.{Contains-append_cases, Contains-append_left, Contains-append_right}
 use Rattle.std.proofs.lemmas.List.Folds.{find-append}
 use Rattle.slicc_meaning.specs.declared.controller.Message.{Message}
-use Rattle.slicc_meaning.specs.declared.controller.MsgNo.{MsgNo}
+use Rattle.ruby_value.specs.declared.message.MsgNo.{MsgNo}
 use Rattle.slicc_meaning.specs.declared.controller.StateAt.{StateAt}
-use Rattle.slicc_meaning.specs.Ascending.{has_mark, with_mark, marks_from}
-use Rattle.slicc_meaning.specs.Front.{number_before, same_number, with_message, without_message}
+use Rattle.ruby_value.specs.Ascending.{has_mark, with_mark, marks_from}
+use Rattle.ruby_value.specs.NumberBefore.{number_before, same_number}
+use Rattle.slicc_meaning.specs.Front.{with_message, without_message}
 use Rattle.slicc_meaning.specs.States.{state_or, state_at, with_state}
 use Rattle.slicc_meaning.proofs.Orders.{nothing-there, head_or_rest, at-head, in-rest, in-filter, from-filter}
 

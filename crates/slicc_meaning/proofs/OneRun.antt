@@ -9,8 +9,8 @@ use Rattle.slicc_meaning.specs.declared.controller.Scanned.{Scanned}
 use Rattle.slicc_meaning.specs.declared.controller.Scanned.TheVariants.{Full, Fired, Stop, Idle}
 use Rattle.slicc_meaning.specs.declared.record.End.{End}
 use Rattle.slicc_meaning.specs.declared.record.Entry.{Entry}
-use Rattle.slicc_meaning.specs.declared.record.Event.{Event}
-use Rattle.slicc_meaning.specs.declared.record.Event.TheVariants.{Take, Fire, Done, Release, Turn}
+use Rattle.run_journal.specs.declared.event.Event.{Event}
+use Rattle.run_journal.specs.declared.event.Event.TheVariants.{Take, Fire, Done, Release, Turn}
 use Rattle.slicc_meaning.specs.declared.record.RunRecord.{RunRecord}
 use Rattle.slicc_meaning.specs.declared.world.Place.{Place}
 use Rattle.slicc_meaning.specs.declared.world.Setting.{Setting}

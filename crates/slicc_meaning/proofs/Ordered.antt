@@ -5,12 +5,13 @@ use Rattle.std.proofs.lemmas.List.Kept.{AllPairs-filter}
 use Rattle.slicc_meaning.specs.declared.controller.Message.{Message}
 use Rattle.slicc_meaning.specs.declared.controller.StateAt.{StateAt}
 use Rattle.slicc_meaning.specs.declared.record.Entry.{Entry}
-use Rattle.slicc_meaning.specs.declared.record.Event.{Event}
+use Rattle.run_journal.specs.declared.event.Event.{Event}
 use Rattle.slicc_meaning.specs.declared.world.Setting.{Setting}
 use Rattle.slicc_meaning.specs.declared.world.World.{World}
-use Rattle.slicc_meaning.specs.Ascending.{with_mark}
-use Rattle.slicc_meaning.specs.Front.{number_before, same_number, with_message}
-use Rattle.slicc_meaning.specs.IsNumberBefore.{IsNumberBefore}
+use Rattle.ruby_value.specs.Ascending.{with_mark}
+use Rattle.ruby_value.specs.NumberBefore.{number_before, same_number}
+use Rattle.slicc_meaning.specs.Front.{with_message}
+use Rattle.ruby_value.specs.IsBefore.{IsBefore}
 use Rattle.slicc_meaning.specs.IsOrdered.{IsOrdered, IsWorldOrdered}
 use Rattle.slicc_meaning.specs.Run.{IsRun}
 use Rattle.slicc_meaning.specs.States.{with_state}
@@ -22,7 +23,7 @@ abbrev ByCycle : ℕ → ℕ → Type 0
 ByCycle a b = a < b
 
 abbrev ByNumber : Message → Message → Type 0
-ByNumber a b = IsNumberBefore a.number b.number
+ByNumber a b = IsBefore a.number b.number
 
 abbrev ByAddress : StateAt → StateAt → Type 0
 ByAddress a b = a.address < b.address

@@ -3,7 +3,7 @@ use Rattle.std.proofs.Common.{◌≡◌, ◌≤◌, ◌+◌, ℕ, zero, suc, Boo
 use Rattle.std.specs.List.{list_any}
 use Rattle.std.proofs.lemmas.Bool.Decides.{nat_tests}
 use Rattle.slicc_meaning.specs.declared.record.Entry.{Entry}
-use Rattle.slicc_meaning.specs.declared.record.Event.TheVariants.{Turn}
+use Rattle.run_journal.specs.declared.event.Event.TheVariants.{Turn}
 use Rattle.slicc_meaning.specs.declared.record.Verdict.{Verdict}
 use Rattle.slicc_meaning.specs.declared.record.Verdict.TheVariants.{Cycles}
 use Rattle.slicc_meaning.specs.declared.world.Place.{Place}

@@ -17,8 +17,9 @@ use Rattle.slicc_meaning.specs.declared.record.Verdict.TheVariants as verdict
 use Rattle.slicc_meaning.specs.declared.world.Place.{Place}
 use Rattle.slicc_meaning.specs.declared.world.Setting.{Setting}
 use Rattle.slicc_meaning.specs.declared.world.World.{World}
-use Rattle.slicc_meaning.specs.Ascending.{has_mark}
-use Rattle.slicc_meaning.specs.Front.{same_number, front, without_message}
+use Rattle.ruby_value.specs.Ascending.{has_mark}
+use Rattle.ruby_value.specs.NumberBefore.{same_number}
+use Rattle.slicc_meaning.specs.Front.{front, without_message}
 use Rattle.slicc_meaning.specs.Step.{Stepped, with_place, take, is_holder, fired_by, ended_by, given_back, release}
 use Rattle.slicc_meaning.specs.World.{is_free}
 use Rattle.slicc_meaning.proofs.AlongRuns.{IsKept, kept-where}

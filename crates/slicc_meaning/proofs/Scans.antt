@@ -3,7 +3,7 @@ use Rattle.std.proofs.Common.{◌≡◌, ◌≤◌, ◌+◌, ℕ, Bool, true, fa
 use Rattle.slicc_meaning.specs.declared.controller.Acted.{Acted}
 use Rattle.slicc_meaning.specs.declared.controller.Controller.{Controller}
 use Rattle.slicc_meaning.specs.declared.controller.Message.{Message}
-use Rattle.slicc_meaning.specs.declared.controller.MsgNo.{MsgNo}
+use Rattle.ruby_value.specs.declared.message.MsgNo.{MsgNo}
 use Rattle.slicc_meaning.specs.declared.controller.Scanned.{Scanned}
 use Rattle.slicc_meaning.specs.declared.controller.Scanned.TheVariants.{Full, Fired, Stop, Idle}
 use Rattle.slicc_meaning.specs.declared.record.Fault.{Fault}
@@ -14,7 +14,8 @@ use Rattle.slicc_meaning.specs.declared.plan.PortPlan.{PortPlan}
 use Rattle.slicc_meaning.specs.declared.plan.Trigger.{Trigger}
 use Rattle.slicc_meaning.specs.declared.plan.WrittenTransition.{WrittenTransition}
 use Rattle.slicc_meaning.specs.declared.world.Setting.{Setting}
-use Rattle.slicc_meaning.specs.Front.{same_number, without_message}
+use Rattle.ruby_value.specs.NumberBefore.{same_number}
+use Rattle.slicc_meaning.specs.Front.{without_message}
 use Rattle.slicc_meaning.specs.Rows.{rows}
 use Rattle.slicc_meaning.specs.States.{line_of, state_at}
 use Rattle.slicc_meaning.specs.Statements.{dequeue, run_action, act, front_of, buffer_of}

@@ -5,7 +5,7 @@ use Rattle.std.proofs.Common.{◌≡◌, ◌<◌, ◌≤◌, ◌⊎◌, inl, inr
 use Rattle.std.specs.Option.{option_to_list}
 use Rattle.std.proofs.lemmas.List.{append-nil}
 use Rattle.slicc_meaning.specs.declared.controller.Controller.{Controller}
-use Rattle.slicc_meaning.specs.declared.controller.MsgNo.{MsgNo}
+use Rattle.ruby_value.specs.declared.message.MsgNo.{MsgNo}
 use Rattle.slicc_meaning.specs.declared.controller.Scanned.{Scanned}
 use Rattle.slicc_meaning.specs.declared.controller.Scanned.TheVariants.{Full, Fired, Stop, Idle}
 use Rattle.slicc_meaning.specs.declared.plan.MachinePlan.{MachinePlan}
@@ -17,7 +17,7 @@ use Rattle.slicc_meaning.specs.declared.world.Place.{Place}
 use Rattle.slicc_meaning.specs.declared.world.Setting.{Setting}
 use Rattle.slicc_meaning.specs.declared.world.World.{World}
 use Rattle.slicc_meaning.specs.Account.{issued_in, consumed_in, sent_numbers, consumed_numbers}
-use Rattle.slicc_meaning.specs.Ascending.{has_mark}
+use Rattle.ruby_value.specs.Ascending.{has_mark}
 use Rattle.slicc_meaning.specs.Step.{Stepped, with_place, take, is_holder, fired_by, ended_by, given_back, scan_at, fire, done, release}
 use Rattle.slicc_meaning.specs.Scan.{scan_ports}
 use Rattle.slicc_meaning.specs.World.{is_free, is_held, machine_plan, machine_of, scan_of}

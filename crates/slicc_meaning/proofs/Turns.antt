@@ -6,7 +6,7 @@ use Rattle.std.proofs.lemmas.Bool.Decides.{nat_tests}
 use Rattle.std.proofs.lemmas.List.{append-nil, length-set, length-map}
 use Rattle.std.proofs.lemmas.Option.{slice_get-get_or}
 use Rattle.slicc_meaning.specs.declared.controller.Message.{Message}
-use Rattle.slicc_meaning.specs.declared.controller.MsgNo.{MsgNo}
+use Rattle.ruby_value.specs.declared.message.MsgNo.{MsgNo}
 use Rattle.slicc_meaning.specs.declared.record.Entry.{Entry}
 use Rattle.slicc_meaning.specs.declared.record.Verdict.{Verdict}
 use Rattle.slicc_meaning.specs.declared.world.DriverTurn.{DriverTurn}
@@ -17,7 +17,8 @@ use Rattle.slicc_meaning.specs.declared.world.Setting.{Setting}
 use Rattle.slicc_meaning.specs.declared.world.World.{World}
 use Rattle.slicc_meaning.specs.Account.{held_messages}
 use Rattle.slicc_meaning.specs.Driver.{plain_turn, request_message, arrive, arrive_at, arrive_at_seat, issue_all, issued_numbers}
-use Rattle.slicc_meaning.specs.Front.{same_number, with_message}
+use Rattle.ruby_value.specs.NumberBefore.{same_number}
+use Rattle.slicc_meaning.specs.Front.{with_message}
 use Rattle.slicc_meaning.specs.Step.{is_busy, begun, next_world, after_driver, driven, turn_by, turn}
 use Rattle.slicc_meaning.specs.Verdict.{next_cycle, least_stopped, end_of_cycle}
 use Rattle.slicc_meaning.specs.World.{opening_place}

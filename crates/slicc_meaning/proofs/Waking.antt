@@ -6,12 +6,12 @@ use Rattle.slicc_meaning.specs.declared.controller.Controller.{Controller}
 use Rattle.slicc_meaning.specs.declared.controller.Scanned.{Scanned}
 use Rattle.slicc_meaning.specs.declared.controller.Scanned.TheVariants.{Full, Fired, Stop, Idle}
 use Rattle.slicc_meaning.specs.declared.record.End.{End}
-use Rattle.slicc_meaning.specs.declared.record.Event.{Event}
-use Rattle.slicc_meaning.specs.declared.record.Event.TheVariants.{Take, Fire, Done, Release, Turn}
+use Rattle.run_journal.specs.declared.event.Event.{Event}
+use Rattle.run_journal.specs.declared.event.Event.TheVariants.{Take, Fire, Done, Release, Turn}
 use Rattle.slicc_meaning.specs.declared.world.Place.{Place}
 use Rattle.slicc_meaning.specs.declared.world.Setting.{Setting}
 use Rattle.slicc_meaning.specs.declared.world.World.{World}
-use Rattle.slicc_meaning.specs.Ascending.{has_mark}
+use Rattle.ruby_value.specs.Ascending.{has_mark}
 use Rattle.slicc_meaning.specs.Run.{Ran, go_on}
 use Rattle.slicc_meaning.specs.Step.{with_place, take, is_holder, fired_by, ended_by, given_back, scan_at, fire, done, release, step}
 use Rattle.slicc_meaning.specs.WakesOnce.{is_turn, is_done_of}

@@ -5,13 +5,13 @@
 use Rattle.std.specs.Prelude.{◌≡◌, ◌≤◌, ◌+◌, ◌&&◌, ℕ, Bool, not, List, [], length, map, is_some, is_none, count_by}
 use Rattle.std.specs.List.{flat_map}
 use Rattle.slicc_meaning.specs.declared.controller.Message.{Message}
-use Rattle.slicc_meaning.specs.declared.controller.MsgNo.{MsgNo}
-use Rattle.slicc_meaning.specs.declared.record.Account.{Account}
+use Rattle.ruby_value.specs.declared.message.MsgNo.{MsgNo}
+use Rattle.run_journal.specs.declared.summary.Account.{Account}
 use Rattle.slicc_meaning.specs.declared.record.Entry.{Entry}
 use Rattle.slicc_meaning.specs.declared.record.Entry.TheVariants.{Fired, Ended, Turned}
 use Rattle.slicc_meaning.specs.declared.world.Place.{Place}
 use Rattle.slicc_meaning.specs.declared.world.World.{World}
-use Rattle.slicc_meaning.specs.Front.{same_number}
+use Rattle.ruby_value.specs.NumberBefore.{same_number}
 
 abbrev pub issued_in : Entry → List MsgNo
 issued_in (Fired cycle c note consumed) = []

@@ -4,8 +4,8 @@
 use Rattle.std.specs.Prelude.{◌≡◌, ℕ, false, Some, List, ◌∷◌, ◌++◌, position}
 use Rattle.std.specs.List.{list_any}
 use Rattle.slicc_meaning.specs.declared.record.Entry.{Entry}
-use Rattle.slicc_meaning.specs.declared.record.Event.{Event}
-use Rattle.slicc_meaning.specs.declared.record.Event.TheVariants.{Take, Fire, Done, Release, Turn}
+use Rattle.run_journal.specs.declared.event.Event.{Event}
+use Rattle.run_journal.specs.declared.event.Event.TheVariants.{Take, Fire, Done, Release, Turn}
 use Rattle.slicc_meaning.specs.declared.world.Setting.{Setting}
 use Rattle.slicc_meaning.specs.declared.world.World.{World}
 use Rattle.slicc_meaning.specs.Run.{IsRun}

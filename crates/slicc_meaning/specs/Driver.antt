@@ -5,13 +5,13 @@
 -- a seat or controller that isn't there would vanish; the plain topology has both. All this is this project's own.
 use Rattle.std.specs.Prelude.{ℕ, false, Option, None, Some, List, [], ◌∷◌, ◌+◌, nat_lt, slice_get, slice_set, if◌then◌else◌}
 use Rattle.slicc_meaning.specs.declared.controller.Message.{Message}
-use Rattle.slicc_meaning.specs.declared.controller.MsgNo.{MsgNo}
+use Rattle.ruby_value.specs.declared.message.MsgNo.{MsgNo}
 use Rattle.slicc_meaning.specs.declared.world.Place.{Place}
 use Rattle.slicc_meaning.specs.declared.world.Seat.{Seat}
 use Rattle.slicc_meaning.specs.declared.world.Request.{Request}
 use Rattle.slicc_meaning.specs.declared.world.DriverTurn.{DriverTurn}
 use Rattle.slicc_meaning.specs.declared.world.PlainDriver.{PlainDriver}
-use Rattle.slicc_meaning.specs.Ascending.{with_mark}
+use Rattle.ruby_value.specs.Ascending.{with_mark}
 use Rattle.slicc_meaning.specs.Front.{with_message}
 
 abbrev pub plain_turn : PlainDriver → ℕ → DriverTurn

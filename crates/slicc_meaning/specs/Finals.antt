@@ -4,7 +4,7 @@ use Rattle.std.specs.Prelude.{Bool, List, [], ◌∷◌, ◌++◌, ◌==◌, ◌
 use Rattle.std.specs.List.{filter}
 use Rattle.slicc_meaning.specs.declared.record.Entry.{Entry}
 use Rattle.slicc_meaning.specs.declared.record.Entry.TheVariants.{Fired, Ended, Turned}
-use Rattle.slicc_meaning.specs.declared.record.Final.{Final}
+use Rattle.run_journal.specs.declared.summary.Final.{Final}
 
 abbrev pub final_before : Final → Final → Bool
 final_before a b = nat_lt a.controller b.controller || (a.controller == b.controller && nat_lt a.address b.address)

@@ -3,15 +3,9 @@
 -- arrived and weren't taken aside. The order by number is this project's own.
 use Rattle.std.specs.Prelude.{ℕ, Bool, Option, None, Some, List, [], ◌∷◌, ◌++◌, ◌==◌, ◌&&◌, ◌||◌, not, nat_lt, nat_le, is_none, if◌then◌else◌}
 use Rattle.std.specs.List.{filter}
-use Rattle.slicc_meaning.specs.declared.controller.MsgNo.{MsgNo}
+use Rattle.ruby_value.specs.declared.message.MsgNo.{MsgNo}
+use Rattle.ruby_value.specs.NumberBefore.{number_before, same_number}
 use Rattle.slicc_meaning.specs.declared.controller.Message.{Message}
-
--- numbers are compared by sender, then by count
-abbrev pub number_before : MsgNo → MsgNo → Bool
-number_before a b = nat_lt a.sender b.sender || (a.sender == b.sender && nat_lt a.count b.count)
-
-abbrev pub same_number : MsgNo → MsgNo → Bool
-same_number a b = a.sender == b.sender && a.count == b.count
 
 -- the inbox with a message that wasn't in it
 abbrev pub with_message : List Message → Message → List Message

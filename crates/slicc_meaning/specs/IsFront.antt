@@ -4,7 +4,7 @@
 -- with the smaller number, which is this project's own rule.
 use Rattle.std.specs.Prelude.{◌≡◌, ◌<◌, ◌≤◌, ◌⊎◌, ℕ, Option, None, Some, List, Contains}
 use Rattle.slicc_meaning.specs.declared.controller.Message.{Message}
-use Rattle.slicc_meaning.specs.IsNumberBefore.{IsNumberBefore}
+use Rattle.ruby_value.specs.IsBefore.{IsBefore}
 
 pub record IsReady (buffer now : ℕ) (m : Message) : Type 0 where
   pub in_buffer : m.buffer ≡ buffer
@@ -12,7 +12,7 @@ pub record IsReady (buffer now : ℕ) (m : Message) : Type 0 where
   pub not_aside : m.waiting ≡ None
 
 abbrev pub IsMessageBefore : Message → Message → Type 0
-IsMessageBefore a b = (a.arrival < b.arrival) ⊎ ((a.arrival ≡ b.arrival) × IsNumberBefore a.number b.number)
+IsMessageBefore a b = (a.arrival < b.arrival) ⊎ ((a.arrival ≡ b.arrival) × IsBefore a.number b.number)
 
 pub record IsFirstReady (inbox : List Message) (buffer now : ℕ) (m : Message) : Type 0 where
   pub held : Contains inbox m

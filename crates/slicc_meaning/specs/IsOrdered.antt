@@ -7,11 +7,11 @@ use Rattle.slicc_meaning.specs.declared.controller.Message.{Message}
 use Rattle.slicc_meaning.specs.declared.controller.StateAt.{StateAt}
 use Rattle.slicc_meaning.specs.declared.world.Place.{Place}
 use Rattle.slicc_meaning.specs.declared.world.World.{World}
-use Rattle.slicc_meaning.specs.IsNumberBefore.{IsNumberBefore}
+use Rattle.ruby_value.specs.IsBefore.{IsBefore}
 
 pub record IsOrdered (c : Controller) : Type 0 where
   pub by_address : AllPairs (λ (a b : StateAt). a.address < b.address) c.states
-  pub by_number : AllPairs (λ (a b : Message). IsNumberBefore a.number b.number) c.inbox
+  pub by_number : AllPairs (λ (a b : Message). IsBefore a.number b.number) c.inbox
   pub by_cycle : AllPairs (λ (a b : ℕ). a < b) c.marks
 
 -- in a world each controller's lists ascend

@@ -1,4 +1,3 @@
-pub mod Ascending
 pub mod Front
 pub mod States
 pub mod Rows
@@ -23,7 +22,6 @@ pub mod Answer
 pub mod InvalidExactly
 pub mod Tally
 pub mod NextCycle
-pub mod IsNumberBefore
 pub mod IsFront
 pub mod LastState
 pub mod AreFinals

@@ -3,7 +3,7 @@
 -- cycle at which something must act. That it goes straight to the next such cycle is this project's own rule.
 use Rattle.std.specs.Prelude.{◌≡◌, ◌<◌, ◌≤◌, ◌⊎◌, ℕ, Option, None, Some, List, IsTrue, slice_get}
 use Rattle.slicc_meaning.specs.declared.world.Place.{Place}
-use Rattle.slicc_meaning.specs.Ascending.{has_mark}
+use Rattle.ruby_value.specs.Ascending.{has_mark}
 
 -- some controller has a mark for the cycle
 abbrev pub MustSomeWake : List Place → ℕ → Type 0

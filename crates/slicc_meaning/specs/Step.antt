@@ -3,22 +3,22 @@
 use Rattle.std.specs.Prelude.{ℕ, Bool, true, false, Option, None, Some, List, [], ◌+◌, ◌||◌, ◌==◌, map, length, slice_get, slice_set, is_some, is_none, if◌then◌else◌}
 use Rattle.std.specs.List.{list_any}
 use Rattle.slicc_meaning.specs.declared.controller.Controller.{Controller}
-use Rattle.slicc_meaning.specs.declared.controller.MsgNo.{MsgNo}
+use Rattle.ruby_value.specs.declared.message.MsgNo.{MsgNo}
 use Rattle.slicc_meaning.specs.declared.controller.Scanned.{Scanned}
 use Rattle.slicc_meaning.specs.declared.controller.Scanned.TheVariants as scanned
 use Rattle.slicc_meaning.specs.declared.record.End.{End}
 use Rattle.slicc_meaning.specs.declared.record.End.TheVariants as end
 use Rattle.slicc_meaning.specs.declared.record.Entry.{Entry}
 use Rattle.slicc_meaning.specs.declared.record.Entry.TheVariants as entry
-use Rattle.slicc_meaning.specs.declared.record.Event.{Event}
-use Rattle.slicc_meaning.specs.declared.record.Event.TheVariants.{Take, Fire, Done, Release, Turn}
+use Rattle.run_journal.specs.declared.event.Event.{Event}
+use Rattle.run_journal.specs.declared.event.Event.TheVariants.{Take, Fire, Done, Release, Turn}
 use Rattle.slicc_meaning.specs.declared.record.Verdict.{Verdict}
 use Rattle.slicc_meaning.specs.declared.record.Verdict.TheVariants as verdict
 use Rattle.slicc_meaning.specs.declared.world.DriverTurn.{DriverTurn}
 use Rattle.slicc_meaning.specs.declared.world.Place.{Place}
 use Rattle.slicc_meaning.specs.declared.world.Setting.{Setting}
 use Rattle.slicc_meaning.specs.declared.world.World.{World}
-use Rattle.slicc_meaning.specs.Ascending.{with_mark, marks_from}
+use Rattle.ruby_value.specs.Ascending.{with_mark, marks_from}
 use Rattle.slicc_meaning.specs.World.{is_due, is_free, machine_plan, scan_of}
 use Rattle.slicc_meaning.specs.Driver.{plain_turn, issue_all, issued_numbers}
 use Rattle.slicc_meaning.specs.Verdict.{next_cycle, least_stopped, end_of_cycle}

@@ -1,8 +1,8 @@
 -- How many events of each kind a worker has in a history.
 use Rattle.std.specs.Prelude.{ℕ, Bool, false, List, ◌==◌, count_by}
-use Rattle.slicc_meaning.specs.declared.record.Event.{Event}
-use Rattle.slicc_meaning.specs.declared.record.Event.TheVariants.{Take, Fire, Done, Release, Turn}
-use Rattle.slicc_meaning.specs.declared.record.Tally.{Tally}
+use Rattle.run_journal.specs.declared.event.Event.{Event}
+use Rattle.run_journal.specs.declared.event.Event.TheVariants.{Take, Fire, Done, Release, Turn}
+use Rattle.run_journal.specs.declared.summary.Tally.{Tally}
 
 abbrev pub is_take_by : ℕ → Event → Bool
 is_take_by worker (Take w c) = w == worker

@@ -6,15 +6,15 @@ use Rattle.std.specs.Fmt.{decimal, digits}
 use Rattle.std.specs.List.{flat_map}
 use Rattle.slicc_meaning.specs.declared.plan.Plan.{Plan}
 use Rattle.slicc_meaning.specs.declared.plan.MachinePlan.{MachinePlan}
-use Rattle.slicc_meaning.specs.declared.record.Account.{Account}
+use Rattle.run_journal.specs.declared.summary.Account.{Account}
 use Rattle.slicc_meaning.specs.declared.record.End.{End}
 use Rattle.slicc_meaning.specs.declared.record.End.TheVariants as end
 use Rattle.slicc_meaning.specs.declared.record.Entry.{Entry}
 use Rattle.slicc_meaning.specs.declared.record.Entry.TheVariants as entry
 use Rattle.slicc_meaning.specs.declared.record.Fault.{Fault}
 use Rattle.slicc_meaning.specs.declared.record.Fault.TheVariants as fault
-use Rattle.slicc_meaning.specs.declared.record.Final.{Final}
-use Rattle.slicc_meaning.specs.declared.record.FireNote.{FireNote}
+use Rattle.run_journal.specs.declared.summary.Final.{Final}
+use Rattle.run_journal.specs.declared.entry.FireNote.{FireNote}
 use Rattle.slicc_meaning.specs.declared.record.RunRecord.{RunRecord}
 use Rattle.slicc_meaning.specs.declared.record.Verdict.{Verdict}
 use Rattle.slicc_meaning.specs.declared.record.Verdict.TheVariants as verdict

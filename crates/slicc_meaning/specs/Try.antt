@@ -6,7 +6,7 @@
 use Rattle.std.specs.Prelude.{ℕ, Option, None, Some, List, slice_get, is_some, if◌then◌else◌}
 use Rattle.slicc_meaning.specs.declared.controller.Controller.{Controller}
 use Rattle.slicc_meaning.specs.declared.controller.Message.{Message}
-use Rattle.slicc_meaning.specs.declared.controller.MsgNo.{MsgNo}
+use Rattle.ruby_value.specs.declared.message.MsgNo.{MsgNo}
 use Rattle.slicc_meaning.specs.declared.controller.Scanned.{Scanned}
 use Rattle.slicc_meaning.specs.declared.controller.Scanned.TheVariants.{Fired, Stop, Idle}
 use Rattle.slicc_meaning.specs.declared.record.Fault.{Fault}

@@ -10,7 +10,7 @@ use Rattle.slicc_meaning.specs.declared.world.Topology.{Topology}
 use Rattle.slicc_meaning.specs.declared.world.Place.{Place}
 use Rattle.slicc_meaning.specs.declared.world.Setting.{Setting}
 use Rattle.slicc_meaning.specs.declared.world.World.{World}
-use Rattle.slicc_meaning.specs.Ascending.{has_mark}
+use Rattle.ruby_value.specs.Ascending.{has_mark}
 use Rattle.slicc_meaning.specs.Scan.{scan}
 
 -- the number of a controller's machine

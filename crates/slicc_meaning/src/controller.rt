@@ -1,13 +1,5 @@
-use crate::{Fault, FireNote, StopAt};
+use crate::{Fault, FireNote, MsgNo, StopAt};
 use ruby_base::Seq;
-
-/// The number of a message: its sender's actor number, and how many messages that actor had sent before it.
-/// Numbers are compared by sender, then by count. Numbering is this project's own.
-#[derive(Clone, Copy, PartialEq, Eq)]
-pub struct MsgNo {
-    pub sender: u32,
-    pub count: u64,
-}
 
 /// A message in a controller's inbox.
 #[derive(Clone, Copy)]

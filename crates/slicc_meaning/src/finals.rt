@@ -2,7 +2,6 @@
 ghost use Rattle.std.specs.Prelude.{◌≡◌, IfOk, filter};
 ghost use Rattle.slicc_meaning.specs.Finals.{after_entry as after_entry_of, final_before as final_before_of, finals, with_final as with_final_of};
 
-use crate::between::between;
 use crate::{Entry, Final};
 use ruby_base::{NoMemory, Seq};
 use std::alloc::Global;
@@ -42,7 +41,7 @@ fn with_final(alloc: Global, finals: &[Final], f: Final) -> Result<Seq<Final>, N
 {
     let low = below(alloc, finals, f)?;
     let high = above(alloc, finals, f)?;
-    between(low, f, &high)
+    Seq::between(low, f, &high)
 }
 
 fn after_entry(alloc: Global, finals: Seq<Final>, entry: &Entry) -> Result<Seq<Final>, NoMemory>

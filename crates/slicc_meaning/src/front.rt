@@ -1,24 +1,11 @@
 // The messages of an inbox: which is the front of a buffer, and the inbox with one more and one less.
 ghost use Rattle.std.specs.Prelude.{◌≡◌, IfOk, Option, Some, filter, not};
-ghost use Rattle.slicc_meaning.specs.Front.{number_before as number_before_of, same_number as same_number_of, is_ready as is_ready_of, message_before as message_before_of, earlier_message as earlier_message_of, least_message as least_message_of, front as front_of, with_message as with_message_of, without_message as without_message_of};
+ghost use Rattle.ruby_value.specs.NumberBefore.{number_before, same_number};
+ghost use Rattle.slicc_meaning.specs.Front.{is_ready as is_ready_of, message_before as message_before_of, earlier_message as earlier_message_of, least_message as least_message_of, front as front_of, with_message as with_message_of, without_message as without_message_of};
 
-use crate::between::between;
 use crate::{Message, MsgNo};
 use ruby_base::{NoMemory, Seq};
 use std::alloc::Global;
-
-/// Whether the first number is the lesser, by sender and then by count.
-pub fn number_before(a: MsgNo, b: MsgNo) -> bool
-    ensures { result ≡ number_before_of a b }
-{
-    a.sender < b.sender || (a.sender == b.sender && a.count < b.count)
-}
-
-fn same_number(a: MsgNo, b: MsgNo) -> bool
-    ensures { result ≡ same_number_of a b }
-{
-    a.sender == b.sender && a.count == b.count
-}
 
 fn is_ready(m: &Message, buffer: u16, now: u64) -> bool
     ensures { result ≡ is_ready_of buffer now m.now }
@@ -29,7 +16,7 @@ fn is_ready(m: &Message, buffer: u16, now: u64) -> bool
 fn message_before(a: &Message, b: &Message) -> bool
     ensures { result ≡ message_before_of a.now b.now }
 {
-    a.arrival < b.arrival || (a.arrival == b.arrival && number_before(a.number, b.number))
+    a.arrival < b.arrival || (a.arrival == b.arrival && a.number.is_before(b.number))
 }
 
 fn earlier(m: Message, least: Option<Message>) -> Message
@@ -57,25 +44,25 @@ pub fn front(inbox: &[Message], buffer: u16, now: u64) -> Option<Message>
 }
 
 fn below(alloc: Global, inbox: &[Message], number: MsgNo) -> Result<Vec<Message>, NoMemory>
-    ensures { IfOk result (λ part. part.items ≡ filter (λ o. number_before_of o.number number) inbox.now) }
+    ensures { IfOk result (λ part. part.items ≡ filter (λ o. number_before o.number number) inbox.now) }
 {
     Ok(
         inbox
             .iter()
             .copied()
-            .filter(|o| number_before(o.number, number))
+            .filter(|o| o.number.is_before(number))
             .collect(alloc)?,
     )
 }
 
 fn above(alloc: Global, inbox: &[Message], number: MsgNo) -> Result<Vec<Message>, NoMemory>
-    ensures { IfOk result (λ part. part.items ≡ filter (λ o. number_before_of number o.number) inbox.now) }
+    ensures { IfOk result (λ part. part.items ≡ filter (λ o. number_before number o.number) inbox.now) }
 {
     Ok(
         inbox
             .iter()
             .copied()
-            .filter(|o| number_before(number, o.number))
+            .filter(|o| number.is_before(o.number))
             .collect(alloc)?,
     )
 }
@@ -86,7 +73,7 @@ pub fn with_message(alloc: Global, inbox: &[Message], m: Message) -> Result<Seq<
 {
     let low = below(alloc, inbox, m.number)?;
     let high = above(alloc, inbox, m.number)?;
-    between(low, m, &high)
+    Seq::between(low, m, &high)
 }
 
 /// The inbox without the message of this number.
@@ -100,7 +87,7 @@ pub fn without_message(
     let rest: Vec<Message> = inbox
         .iter()
         .copied()
-        .filter(|o| !same_number(o.number, number))
+        .filter(|o| o.number != number)
         .collect(alloc)?;
     Ok(Seq::of(rest))
 }

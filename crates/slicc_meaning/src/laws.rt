@@ -2,14 +2,14 @@
 ghost use Rattle.std.specs.Prelude.{◌≡◌, ◌≢◌, ◌<◌, ◌≤◌, ◌⊎◌, ◌↔◌, ◌==◌, ◌+◌, ◌*◌, ℕ, List, Option, Some, length, Contains, IsTrue, if◌then◌else◌};
 ghost use Rattle.slicc_ast.specs.declared.machine.Machine.{Machine as MachineRecord};
 ghost use Rattle.slicc_meaning.specs.declared.controller.Message.{Message as MessageRecord};
-ghost use Rattle.slicc_meaning.specs.declared.controller.MsgNo.{MsgNo as MsgNoRecord};
+ghost use Rattle.ruby_value.specs.declared.message.MsgNo.{MsgNo as MsgNoRecord};
 ghost use Rattle.slicc_meaning.specs.declared.controller.StateAt.{StateAt as StateAtRecord};
 ghost use Rattle.slicc_meaning.specs.declared.plan.Plan.{Plan as PlanRecord};
 ghost use Rattle.slicc_meaning.specs.declared.record.End.TheVariants.{Full, Stop};
 ghost use Rattle.slicc_meaning.specs.declared.record.Entry.{Entry as EntryRecord};
 ghost use Rattle.slicc_meaning.specs.declared.record.Entry.TheVariants.{Ended};
-ghost use Rattle.slicc_meaning.specs.declared.record.Event.{Event as EventRecord};
-ghost use Rattle.slicc_meaning.specs.declared.record.Event.TheVariants.{Turn};
+ghost use Rattle.run_journal.specs.declared.event.Event.{Event as EventRecord};
+ghost use Rattle.run_journal.specs.declared.event.Event.TheVariants.{Turn};
 ghost use Rattle.slicc_meaning.specs.declared.record.Fault.TheVariants.{Invalid};
 ghost use Rattle.slicc_meaning.specs.declared.record.RunRecord.{RunRecord};
 ghost use Rattle.slicc_meaning.specs.declared.record.StopAt.{StopAt as StopAtRecord};
@@ -20,7 +20,7 @@ ghost use Rattle.slicc_meaning.specs.declared.world.World.{World as WorldRecord}
 ghost use Rattle.slicc_meaning.specs.Account.{IsAccounted, account, held_messages};
 ghost use Rattle.slicc_meaning.specs.Alone.{IsAlone};
 ghost use Rattle.slicc_meaning.specs.AreFinals.{AreFinals};
-ghost use Rattle.slicc_meaning.specs.Ascending.{has_mark, marks_from, with_mark};
+ghost use Rattle.ruby_value.specs.Ascending.{has_mark, marks_from, with_mark};
 ghost use Rattle.slicc_meaning.specs.Finals.{finals};
 ghost use Rattle.slicc_meaning.specs.Front.{front, with_message, without_message};
 ghost use Rattle.slicc_meaning.specs.InvalidExactly.{InvalidExactly};

@@ -3,8 +3,6 @@
 #![tactic(auto)]
 
 mod account;
-mod ascending;
-mod between;
 mod controller;
 mod finals;
 mod front;
@@ -23,8 +21,7 @@ mod trigger;
 mod world;
 
 pub use account::account_of;
-pub use ascending::{has_mark, marks_from, with_mark};
-pub use controller::{Acted, Controller, Message, MsgNo, Scanned, StateAt};
+pub use controller::{Acted, Controller, Message, Scanned, StateAt};
 pub use finals::finals_of;
 pub use front::with_message;
 pub use laws::{
@@ -37,11 +34,10 @@ pub use plan::{
     ActionPlan, Dequeue, If, MachinePlan, Peek, Plan, PortPlan, Trigger, WrittenTransition,
 };
 pub use planning::plan_of;
-pub use record::{
-    Account, Command, End, Entry, Event, Fault, Final, FireNote, Options, RunRecord, StopAt, Tally,
-    Verdict,
-};
+pub use record::{Command, End, Entry, Fault, Options, RunRecord, StopAt, Verdict};
 pub use ruby_base::{NoMemory, Seq, Text};
+pub use ruby_value::{MsgNo, has_mark, marks_from, with_mark};
+pub use run_journal::{Account, Event, Final, FireNote, Tally};
 pub use scanning::{copy_of, scan};
 pub use tallying::tally_of;
 pub use topology::{machine_of, plain_of};

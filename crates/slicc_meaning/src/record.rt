@@ -1,30 +1,5 @@
-use crate::{MsgNo, Plan, Topology};
+use crate::{Account, Event, Final, FireNote, MsgNo, Plan, Tally, Topology};
 use ruby_base::{Seq, Text};
-
-/// A step of a run. A worker is a thread's number, a controller its actor number.
-#[derive(Clone, Copy)]
-pub enum Event {
-    /// The worker takes a controller that is due and that nobody holds.
-    Take { worker: u32, controller: u32 },
-    /// One scan of the held controller fired a transition.
-    Fire { worker: u32, controller: u32 },
-    /// The held controller's wake-up ended, and the worker gives it back.
-    Done { worker: u32, controller: u32 },
-    /// The worker gives the controller back before its wake-up ended.
-    Release { worker: u32, controller: u32 },
-    /// Nobody is held and nobody is due: the driver acts, and the next cycle begins or the run ends.
-    Turn { worker: u32 },
-}
-
-/// What a fired transition was: states and events by their numbers in the machine.
-#[derive(Clone, Copy)]
-pub struct FireNote {
-    /// A byte address, a multiple of 64.
-    pub address: u64,
-    pub state: u16,
-    pub event: u16,
-    pub next: u16,
-}
 
 /// Why a scan stopped.
 #[derive(Clone, Copy, PartialEq, Eq)]
@@ -86,35 +61,6 @@ pub enum Entry {
         issued: Seq<MsgNo>,
         verdict: Option<Verdict>,
     },
-}
-
-/// The last state that was set for an address of a controller.
-#[derive(Clone, Copy)]
-pub struct Final {
-    pub controller: u32,
-    pub address: u64,
-    pub state: u16,
-}
-
-/// Where the messages of a run have gone: how many were sent, and how many of them are in each place.
-#[derive(Clone, Copy, PartialEq, Eq)]
-pub struct Account {
-    pub sent: u64,
-    pub consumed: u64,
-    pub queued: u64,
-    pub stalled: u64,
-    pub recycled: u64,
-}
-
-/// How many events of each kind a worker has in a history.
-#[derive(Clone, Copy, PartialEq, Eq)]
-pub struct Tally {
-    pub worker: u32,
-    pub takes: u64,
-    pub fires: u64,
-    pub dones: u64,
-    pub releases: u64,
-    pub turns: u64,
 }
 
 /// What the program is asked to do.

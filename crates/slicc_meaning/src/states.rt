@@ -3,7 +3,6 @@ ghost use Rattle.std.specs.Prelude.{◌≡◌, ◌/◌, ◌*◌, IfOk, Option, S
 ghost use Rattle.slicc_meaning.specs.States.{line_of as line_of_address, state_at as state_at_of, with_state as with_state_of};
 
 use crate::StateAt;
-use crate::between::between;
 use ruby_base::{NoMemory, Seq};
 use std::alloc::Global;
 
@@ -61,5 +60,5 @@ pub fn with_state(
 {
     let low = below(alloc, states, address)?;
     let high = above(alloc, states, address)?;
-    between(low, StateAt { address, state }, &high)
+    Seq::between(low, StateAt { address, state }, &high)
 }

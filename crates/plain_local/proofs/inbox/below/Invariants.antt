@@ -1,7 +1,7 @@
 use Rattle.std.proofs.Common.{◌≡◌, take}
 use Rattle.std.specs.List.{filter}
 use Rattle.ctl_face.specs.Ctl.{InboxMessage}
-use Rattle.ctl_face.specs.Inbox.{number_before}
+use Rattle.ruby_value.specs.NumberBefore.{number_before}
 use Rattle.plain_local.proofs.inbox.below.Given as goal
 
 abbrev pub invariant-loop-w : goal.invariant-loop-w

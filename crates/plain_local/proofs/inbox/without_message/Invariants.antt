@@ -1,7 +1,7 @@
 use Rattle.std.proofs.Common.{◌≡◌, not, take}
 use Rattle.std.specs.List.{filter}
 use Rattle.ctl_face.specs.Ctl.{InboxMessage}
-use Rattle.ctl_face.specs.Inbox.{same_number}
+use Rattle.ruby_value.specs.NumberBefore.{same_number}
 use Rattle.plain_local.proofs.inbox.without_message.Given as goal
 
 abbrev pub invariant-loop-w : goal.invariant-loop-w

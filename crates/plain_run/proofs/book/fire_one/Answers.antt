@@ -1,5 +1,5 @@
 use Rattle.std.proofs.lemmas.Result.{MatchResult-weaker}
-use Rattle.slicc_meaning.specs.declared.record.Event.TheVariants.{Fire}
+use Rattle.run_journal.specs.declared.event.Event.TheVariants.{Fire}
 use Rattle.plain_run.proofs.Runs.{so_far-made}
 use Rattle.plain_run.proofs.book.fire_one.Goals as goal
 

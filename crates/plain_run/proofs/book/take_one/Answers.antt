@@ -1,5 +1,5 @@
 use Rattle.std.proofs.Common.{refl}
-use Rattle.slicc_meaning.specs.declared.record.Event.TheVariants.{Take}
+use Rattle.run_journal.specs.declared.event.Event.TheVariants.{Take}
 use Rattle.plain_run.proofs.Runs.{so_far-silent}
 use Rattle.plain_run.proofs.book.take_one.Goals as goal
 

@@ -1,6 +1,6 @@
 use Rattle.std.proofs.Common.{refl}
 use Rattle.std.proofs.lemmas.Result.{MatchResult-weaker}
-use Rattle.slicc_meaning.specs.declared.record.Event.TheVariants.{Turn}
+use Rattle.run_journal.specs.declared.event.Event.TheVariants.{Turn}
 use Rattle.plain_run.proofs.Runs.{so_far-made}
 use Rattle.plain_run.proofs.run.turn_one.Goals as goal
 
