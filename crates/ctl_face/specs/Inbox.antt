@@ -1,16 +1,15 @@
 -- The messages of a controller. An inbox is a finite map from message numbers to messages, as the list of its messages
 -- with ascending numbers, which is this project's own.
-use Rattle.std.specs.Prelude.{List, ◌∷◌, ◌++◌, not, map, if◌then◌else◌}
+use Rattle.std.specs.Prelude.{List, not, map, if◌then◌else◌}
 use Rattle.std.specs.List.{filter}
 use Rattle.ruby_value.specs.declared.message.MsgNo.{MsgNo}
+use Rattle.ruby_value.specs.Inserted.{inserted}
 use Rattle.ruby_value.specs.NumberBefore.{number_before, same_number}
 use Rattle.ctl_face.specs.Ctl.{InboxMessage}
 
 -- the inbox with a message that wasn't in it
 abbrev pub with_message : List InboxMessage → InboxMessage → List InboxMessage
-with_message inbox m =
-    filter (λ (o : InboxMessage). number_before o.message.number m.message.number) inbox
-    ++ m ∷ filter (λ (o : InboxMessage). number_before m.message.number o.message.number) inbox
+with_message inbox m = inserted (λ (a b : InboxMessage). number_before a.message.number b.message.number) inbox m
 
 -- the inbox without the message of this number
 abbrev pub without_message : List InboxMessage → MsgNo → List InboxMessage

@@ -9,6 +9,7 @@ pub mod FieldsAt
 pub mod FieldsOf
 pub mod HasKind
 pub mod HasLawfulSets
+pub mod Inserted
 pub mod IsBefore
 pub mod IsCache
 pub mod MadeRecent

@@ -17,7 +17,7 @@ mod tests;
 mod value;
 
 pub use arithmetic::{add, mul, sub};
-pub use ascending::{has_mark, marks_from, with_mark};
+pub use ascending::{Ascends, has_mark, inserted, marks_from, with_mark};
 pub use asked::{Answer, Ask, Asked};
 pub use fault::{Fault, Finding};
 pub use fields::Fields;

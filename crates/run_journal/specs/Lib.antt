@@ -1,4 +1,5 @@
 pub mod AreFinals
+pub mod FinalBefore
 pub mod IsBefore
 pub mod LastState
 pub mod PartOf

@@ -1,3 +1,5 @@
+use ruby_value::Ascends;
+
 /// The next state of the last transition that a controller fired for an address. Controllers are counted from 0, the address is a byte
 /// address, and the state is its number in the controller's machine.
 #[derive(Clone, Copy, Debug, PartialEq, Eq)]
@@ -5,6 +7,17 @@ pub struct Final {
     pub controller: u32,
     pub address: u64,
     pub state: u16,
+}
+
+impl Ascends for Final {
+    ghost use Rattle.run_journal.specs.FinalBefore.{final_before};
+
+    ghost comes_before = { final_before };
+
+    fn comes_before(&self, other: &Final) -> bool {
+        self.controller < other.controller
+            || (self.controller == other.controller && self.address < other.address)
+    }
 }
 
 /// Where the message copies of a run have gone: how many were sent, requests of the driver included, and how many of

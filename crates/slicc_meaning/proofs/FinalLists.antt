@@ -8,7 +8,8 @@ use Rattle.slicc_meaning.specs.declared.record.Entry.TheVariants.{Fired, Ended, 
 use Rattle.run_journal.specs.declared.summary.Final.{Final}
 use Rattle.run_journal.specs.IsBefore.{IsBefore}
 use Rattle.slicc_meaning.specs.AreFinals.{AreFinals}
-use Rattle.slicc_meaning.specs.Finals.{final_before, with_final, after_entry, finals}
+use Rattle.run_journal.specs.FinalBefore.{final_before}
+use Rattle.slicc_meaning.specs.Finals.{with_final, after_entry, finals}
 use Rattle.slicc_meaning.specs.LastState.{next_state}
 use Rattle.slicc_meaning.proofs.Orders.{nothing-there, head_or_rest, at-head, in-rest, in-filter, from-filter, put-between}
 use Rattle.slicc_meaning.proofs.Optional.{some_same}

@@ -1,17 +1,16 @@
 -- The messages of a controller. An inbox is a finite map from message numbers to messages, as the list of its messages
 -- with ascending numbers. The front of a buffer is the least message by arrival, then number, of those that have
 -- arrived and weren't taken aside. The order by number is this project's own.
-use Rattle.std.specs.Prelude.{ℕ, Bool, Option, None, Some, List, [], ◌∷◌, ◌++◌, ◌==◌, ◌&&◌, ◌||◌, not, nat_lt, nat_le, is_none, if◌then◌else◌}
+use Rattle.std.specs.Prelude.{ℕ, Bool, Option, None, Some, List, [], ◌∷◌, ◌==◌, ◌&&◌, ◌||◌, not, nat_lt, nat_le, is_none, if◌then◌else◌}
 use Rattle.std.specs.List.{filter}
 use Rattle.ruby_value.specs.declared.message.MsgNo.{MsgNo}
+use Rattle.ruby_value.specs.Inserted.{inserted}
 use Rattle.ruby_value.specs.NumberBefore.{number_before, same_number}
 use Rattle.slicc_meaning.specs.declared.controller.Message.{Message}
 
 -- the inbox with a message that wasn't in it
 abbrev pub with_message : List Message → Message → List Message
-with_message inbox m =
-    filter (λ (o : Message). number_before o.number m.number) inbox
-    ++ m ∷ filter (λ (o : Message). number_before m.number o.number) inbox
+with_message inbox m = inserted (λ (a b : Message). number_before a.number b.number) inbox m
 
 -- the inbox without the message of this number
 abbrev pub without_message : List Message → MsgNo → List Message

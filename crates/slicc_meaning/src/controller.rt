@@ -1,5 +1,6 @@
 use crate::{Fault, FireNote, MsgNo, StopAt};
 use ruby_base::Seq;
+use ruby_value::Ascends;
 
 /// A message in a controller's inbox.
 #[derive(Clone, Copy)]
@@ -17,6 +18,16 @@ pub struct Message {
     pub line_address: u64,
 }
 
+impl Ascends for Message {
+    ghost use Rattle.ruby_value.specs.NumberBefore.{number_before};
+
+    ghost comes_before = { λ a b. number_before a.number b.number };
+
+    fn comes_before(&self, other: &Message) -> bool {
+        self.number.is_before(other.number)
+    }
+}
+
 /// A state that was set for an address.
 #[derive(Clone, Copy)]
 pub struct StateAt {
@@ -24,6 +35,16 @@ pub struct StateAt {
     pub address: u64,
     /// The state's number.
     pub state: u16,
+}
+
+impl Ascends for StateAt {
+    ghost use Rattle.slicc_meaning.specs.States.{address_before};
+
+    ghost comes_before = { address_before };
+
+    fn comes_before(&self, other: &StateAt) -> bool {
+        self.address < other.address
+    }
 }
 
 /// A controller: one instance of a machine.

@@ -1,10 +1,11 @@
 // The messages of an inbox: which is the front of a buffer, and the inbox with one more and one less.
 ghost use Rattle.std.specs.Prelude.{◌≡◌, IfOk, Option, Some, filter, not};
-ghost use Rattle.ruby_value.specs.NumberBefore.{number_before, same_number};
+ghost use Rattle.ruby_value.specs.NumberBefore.{same_number};
 ghost use Rattle.slicc_meaning.specs.Front.{is_ready as is_ready_of, message_before as message_before_of, earlier_message as earlier_message_of, least_message as least_message_of, front as front_of, with_message as with_message_of, without_message as without_message_of};
 
 use crate::{Message, MsgNo};
 use ruby_base::{NoMemory, Seq};
+use ruby_value::inserted;
 use std::alloc::Global;
 
 fn is_ready(m: &Message, buffer: u16, now: u64) -> bool
@@ -43,37 +44,11 @@ pub fn front(inbox: &[Message], buffer: u16, now: u64) -> Option<Message>
     least
 }
 
-fn below(alloc: Global, inbox: &[Message], number: MsgNo) -> Result<Vec<Message>, NoMemory>
-    ensures { IfOk result (λ part. part.items ≡ filter (λ o. number_before o.number number) inbox.now) }
-{
-    Ok(
-        inbox
-            .iter()
-            .copied()
-            .filter(|o| o.number.is_before(number))
-            .collect(alloc)?,
-    )
-}
-
-fn above(alloc: Global, inbox: &[Message], number: MsgNo) -> Result<Vec<Message>, NoMemory>
-    ensures { IfOk result (λ part. part.items ≡ filter (λ o. number_before number o.number) inbox.now) }
-{
-    Ok(
-        inbox
-            .iter()
-            .copied()
-            .filter(|o| number.is_before(o.number))
-            .collect(alloc)?,
-    )
-}
-
 /// The inbox with a message that wasn't in it.
 pub fn with_message(alloc: Global, inbox: &[Message], m: Message) -> Result<Seq<Message>, NoMemory>
     ensures { IfOk result (λ all. all ≡ with_message_of inbox.now m) }
 {
-    let low = below(alloc, inbox, m.number)?;
-    let high = above(alloc, inbox, m.number)?;
-    Seq::between(low, m, &high)
+    inserted(alloc, inbox, m)
 }
 
 /// The inbox without the message of this number.

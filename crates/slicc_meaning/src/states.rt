@@ -4,6 +4,7 @@ ghost use Rattle.slicc_meaning.specs.States.{line_of as line_of_address, state_a
 
 use crate::StateAt;
 use ruby_base::{NoMemory, Seq};
+use ruby_value::inserted;
 use std::alloc::Global;
 
 /// The address of the line that has the byte address.
@@ -25,30 +26,6 @@ pub fn state_at(default: u16, states: &[StateAt], address: u64) -> u16
     default
 }
 
-fn below(alloc: Global, states: &[StateAt], address: u64) -> Result<Vec<StateAt>, NoMemory>
-    ensures { IfOk result (λ part. part.items ≡ filter (λ s. nat_lt s.address address) states.now) }
-{
-    Ok(
-        states
-            .iter()
-            .copied()
-            .filter(|s| s.address < address)
-            .collect(alloc)?,
-    )
-}
-
-fn above(alloc: Global, states: &[StateAt], address: u64) -> Result<Vec<StateAt>, NoMemory>
-    ensures { IfOk result (λ part. part.items ≡ filter (λ s. nat_lt address s.address) states.now) }
-{
-    Ok(
-        states
-            .iter()
-            .copied()
-            .filter(|s| address < s.address)
-            .collect(alloc)?,
-    )
-}
-
 /// The map with a state set for an address.
 pub fn with_state(
     alloc: Global,
@@ -58,7 +35,5 @@ pub fn with_state(
 ) -> Result<Seq<StateAt>, NoMemory>
     ensures { IfOk result (λ map. map ≡ with_state_of states.now address state) }
 {
-    let low = below(alloc, states, address)?;
-    let high = above(alloc, states, address)?;
-    Seq::between(low, StateAt { address, state }, &high)
+    inserted(alloc, states, StateAt { address, state })
 }
