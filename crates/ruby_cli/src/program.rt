@@ -11,7 +11,7 @@ ghost use Rattle.ruby_cli.specs.Top.{IsWokenOnce, IsMessageAccount, IsInvalidExa
 ghost use Rattle.ruby_cli.specs.Words.{asked as asked_of};
 
 use crate::answers::usage_line;
-use crate::top::{Done, ruby_alone};
+use crate::top::{Done, ruby_alone, without_run};
 use crate::words::asked;
 use ruby_base::NoMemory;
 use ruby_outside::{Gate, Library, Sink};
@@ -33,21 +33,12 @@ fn tell_usage<S: Sink>(alloc: Global, sink: &mut S) -> Done
     ensures tells { is_some (S.written sink.new) ≡ is_some (S.written sink.old) }
 {
     match usage_line(alloc) {
-        Err(NoMemory) => Done {
-            status: 8,
-            kept: None,
-        },
+        Err(NoMemory) => without_run(8),
         Ok(text) => {
             if write_lines(sink, text.as_slice()) {
-                Done {
-                    status: 2,
-                    kept: None,
-                }
+                without_run(2)
             } else {
-                Done {
-                    status: 7,
-                    kept: None,
-                }
+                without_run(7)
             }
         }
     }
@@ -102,10 +93,7 @@ pub fn ruby<R: Threads + Wait + Sync, L: Library, S: Sink, G: Gate + Sync>(
     ensures tells { is_some (S.written sink.new) ≡ is_some (S.written sink.old) }
 {
     match asked(alloc, words) {
-        Err(NoMemory) => Done {
-            status: 8,
-            kept: None,
-        },
+        Err(NoMemory) => without_run(8),
         Ok(None) => tell_usage(alloc, sink),
         Ok(Some(options)) => ruby_alone(alloc, options, library, sink),
     }

@@ -33,6 +33,13 @@ fn verdict_status(verdict: Verdict) -> u8
     }
 }
 
+// The answer of a call that made no run.
+pub(crate) fn without_run(status: u8) -> Done
+    ensures { result ≡ record { status = status; kept = None } }
+{
+    Done { status, kept: None }
+}
+
 fn kept(reply: Reply) -> Done
     ensures { result ≡ done_with reply true }
 {
@@ -41,22 +48,10 @@ fn kept(reply: Reply) -> Done
             status: verdict_status(record.verdict),
             kept: Some(record),
         },
-        Reply::Refused(_) => Done {
-            status: 3,
-            kept: None,
-        },
-        Reply::Absent(_) => Done {
-            status: 6,
-            kept: None,
-        },
-        Reply::TooLarge(_) => Done {
-            status: 9,
-            kept: None,
-        },
-        Reply::Faulted(_) => Done {
-            status: 5,
-            kept: None,
-        },
+        Reply::Refused(_) => without_run(3),
+        Reply::Absent(_) => without_run(6),
+        Reply::TooLarge(_) => without_run(9),
+        Reply::Faulted(_) => without_run(5),
     }
 }
 
@@ -142,10 +137,7 @@ pub fn ruby_alone<L: Library, S: Sink>(
     ensures tells { is_some (S.written sink.new) ≡ is_some (S.written sink.old) }
 {
     match prepare(alloc, options, library) {
-        Err(NoMemory) => Done {
-            status: 8,
-            kept: None,
-        },
+        Err(NoMemory) => without_run(8),
         Ok((reply, text)) => {
             let written = write_lines(sink, text.as_slice());
             finish(reply, written)
