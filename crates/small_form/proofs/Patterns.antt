@@ -1,7 +1,8 @@
 -- What it says that tokens begin with a pattern, and how a part is read by its pattern.
-use Rattle.std.proofs.Common.{◌≡◌, ◌≤◌, ◌<◌, ℕ, suc, true, Some, List, [], ◌∷◌, ◌++◌, length, drop, refl, sym, ap, ◌∙◌, arith, eqb, eqb-true, length-drop}
+use Rattle.std.proofs.Common.{◌≡◌, ◌≤◌, ◌<◌, ℕ, suc, true, Option, Some, List, [], ◌∷◌, ◌++◌, length, drop, refl, sym, ap, ◌∙◌, subst, arith, eqb, eqb-true, length-drop}
 use Rattle.std.proofs.lemmas.Bool.{and_parts, true≢false, false≢true}
 use Rattle.std.proofs.lemmas.Slice.Eq.{bytes_eq-Decides}
+use denote.Ref.{Bor}
 use Rattle.slicc_ast.specs.declared.token.Token.{Token}
 use Rattle.slicc_ast.specs.declared.token.Token.TheVariants.{Name, Reserved, Quoted, Sign}
 use Rattle.slicc_ast.specs.declared.token.Sign.{Sign as SignKind}
@@ -10,7 +11,7 @@ use Rattle.slicc_ast.specs.Tokens.{sign_byte}
 use Rattle.small_form.specs.declared.pattern.Piece.{Piece}
 use Rattle.small_form.specs.declared.pattern.Piece.TheVariants.{Word, Keyword, Mark, AnyName, AnyString}
 use Rattle.small_form.specs.Lexing.{sign_of}
-use Rattle.small_form.specs.Parsing.{IsRead, IsUnread, Begins, Differs, is_piece, fits, text_of, text_at, list_tokens}
+use Rattle.small_form.specs.Parsing.{IsRead, IsUnread, Reads, Begins, Differs, is_piece, fits, text_of, text_at, list_tokens}
 
 -- the token that a piece asks for, with this text at a hole
 abbrev pub piece_token : Piece → List ℕ → Token
@@ -90,6 +91,10 @@ fits_length (piece ∷ pieces) (token ∷ tokens) fit =
 -- what is behind a pattern is shorter
 pub shorter_behind : {pattern : List Piece} {tokens rest : List Token} → Begins pattern tokens rest → 0 < length pattern → length rest < length tokens
 shorter_behind {pattern} {tokens} {rest} begins some = omega (arith, fits_length pattern tokens begins.fit, ap length begins.cut ∙ length-drop (length pattern) tokens)
+
+-- the answer to reading, where it is known which it is
+pub reads_as : {X : Type 0} (spell : X → List Token) (tokens : List Token) {found answer : Option (X × Bor (List Token))} → Reads spell tokens found → found ≡ answer → Reads spell tokens answer
+reads_as spell tokens reads is = subst (λ f. Reads spell tokens f) is reads
 
 -- a pattern is that of a part's spelling, and this is how the part is made of tokens
 pub record IsPatternOf {X : Type 0} (pattern : List Piece) (spell : X → List Token) (make : List Token → X) : Type 0 where
