@@ -1,6 +1,7 @@
 -- The lexer's invariant: some tokens are read, and the bytes' tokens are these and then those of what is left.
 use Rattle.std.proofs.Common.{◌≡◌, ◌≢◌, ◌≤◌, ◌<◌, ℕ, true, false, Some, None, List, [], ◌∷◌, ◌++◌, length, take, drop, refl, sym, ap, ◌∙◌, subst, arith, drop_at, append_assoc, append-nil, take-append-drop, length-append, length-drop, inl, inr, eqb, eqb-true}
 use Rattle.std.proofs.lemmas.Bool.{true≢false}
+use Rattle.std.proofs.lemmas.List.{nil_from_length}
 use Rattle.std.proofs.lemmas.Option.{none-some, some_pair_parts}
 use Rattle.std.specs.List.{prefix_len, list_all}
 use Rattle.slicc_ast.specs.declared.token.Token.{Token}
@@ -118,8 +119,7 @@ front_shorter bytes token rest found =
     omega (arith, ap length is.split, length-append is.written rest)
 
 pub empty_from : {A : Type 0} (bytes : List A) → eqb (length bytes) 0 ≡ true → bytes ≡ []
-empty_from [] test = refl
-empty_from (c ∷ cs) test = let zero_length : length (c ∷ cs) ≡ 0 = eqb-true (length (c ∷ cs)) 0 test in absurd (omega arith)
+empty_from bytes test = nil_from_length bytes (eqb-true (length bytes) 0 test)
 
 pub not_empty_from : {A : Type 0} (bytes : List A) → eqb (length bytes) 0 ≡ false → bytes ≢ []
 not_empty_from bytes test none = true≢false (ap (λ (n : ℕ). eqb n 0) (sym (ap length none)) ∙ test)

@@ -1,7 +1,6 @@
 -- A machine's tokens, part behind part, and the machine that is made of parts that were read.
 use Rattle.std.proofs.Common.{◌≡◌, ℕ, true, List, [], ◌∷◌, ◌++◌, length, drop, sym, ap, ◌∙◌, append_assoc, append-nil}
 use Rattle.std.specs.List.{flat_map}
-use Rattle.std.proofs.lemmas.Bool.{true≢false}
 use Rattle.slicc_ast.specs.declared.token.Token.{Token}
 use Rattle.slicc_ast.specs.declared.token.Token.TheVariants.{Sign}
 use Rattle.slicc_ast.specs.declared.token.Sign.TheVariants.{OpenBrace, CloseBrace}
@@ -13,8 +12,8 @@ use Rattle.slicc_ast.specs.declared.machine.Action.{Action}
 use Rattle.slicc_ast.specs.declared.machine.Transition.{Transition}
 use Rattle.slicc_ast.specs.Spelling.{states_tokens, events_tokens, port_tokens, action_tokens, transition_tokens, header_tokens, machine_tokens}
 use Rattle.small_form.specs.declared.pattern.Piece.{Piece}
-use Rattle.small_form.specs.Parsing.{IsRead, Begins, Differs, fits, text_at, list_tokens}
-use Rattle.small_form.proofs.Patterns.{filled, fits_filled}
+use Rattle.small_form.specs.Parsing.{IsRead, Begins, fits, text_at, list_tokens}
+use Rattle.small_form.proofs.Patterns.{filled, begins_filled}
 
 -- the tokens from the transitions on, from the action on, and so on
 abbrev pub from_transitions : Machine → List Token
@@ -56,10 +55,6 @@ pub record IsMachinePattern (pattern : List Piece) : Type 0 where
   pub named : (m : Machine) (rest : List Token) → text_at (opening m rest) 4 ≡ m.name
   pub titled : (m : Machine) (rest : List Token) → text_at (opening m rest) 6 ≡ m.title
   pub full : (tokens rest : List Token) (states : States) (events : Events) (port : InPort) (action : Action) (transitions : List Transition) → filled pattern tokens 0 ++ rest ≡ opening (machine_of (text_at tokens 4) (text_at tokens 6) states events port action transitions) rest
-
-pub no_machine : {pattern : List Piece} {tokens : List Token} → Differs pattern tokens → ((m : Machine) (rest : List Token) → fits pattern (opening m rest) ≡ true) → (m : Machine) → tokens ≡ machine_tokens m → ⊥
-no_machine {pattern} {tokens} differs fit m are =
-    true≢false (sym (fit m (from_states m)) ∙ ap (fits pattern) (sym (are ∙ machine_spelled m)) ∙ differs.unfit)
 
 pub to_states : {pattern : List Piece} {tokens rest : List Token} → Begins pattern tokens rest → ((m : Machine) (rest : List Token) → drop (length pattern) (opening m rest) ≡ rest) → (m : Machine) → tokens ≡ machine_tokens m → rest ≡ from_states m
 to_states {pattern} begins cut m are = begins.cut ∙ ap (drop (length pattern)) (are ∙ machine_spelled m) ∙ cut m (from_states m)
@@ -116,8 +111,8 @@ module _ {pattern : List Piece} {tokens inside : List Token} (begins : Begins pa
 
   pub machine_sound : end ≡ [] → tokens ≡ machine_tokens (machine_of name title states events port action transitions)
   machine_sound none =
-      fits_filled pattern tokens begins.fit
-      ∙ ap (λ r. filled pattern tokens 0 ++ r) (sym begins.cut ∙ inside_is none)
+      begins_filled begins
+      ∙ ap (λ r. filled pattern tokens 0 ++ r) (inside_is none)
       ∙ of.full tokens (from_states (machine_of name title states events port action transitions)) states events port action transitions
       ∙ ap (λ n. opening (machine_of n (text_at tokens 6) states events port action transitions) (from_states (machine_of name title states events port action transitions))) (sym name_is)
       ∙ ap (λ t. opening (machine_of name t states events port action transitions) (from_states (machine_of name title states events port action transitions))) (sym title_is)

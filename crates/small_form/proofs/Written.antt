@@ -2,7 +2,7 @@
 use Rattle.std.proofs.Common.{◌≡◌, ◌&&◌, ◌||◌, ◌+◌, ℕ, suc, Bool, true, false, cond, not, Option, Some, None, List, [], ◌∷◌, ◌++◌, length, take, drop, refl, sym, ap, ◌∙◌, subst, arith, eqb, leb, leb-true, eqb-true, eq-eqb, take_at, drop_at, length-take-le, append_assoc, take-append-drop, inl, inr, ⊎_elim, one-add}
 use Rattle.std.specs.List.{prefix_len, list_all, list_any}
 use Rattle.std.specs.Str.{bytes_eq}
-use Rattle.std.proofs.lemmas.Bool.{cond-true, cond-false, cases_Bool, and_parts, and_from, and_right, or_left, or_cases, not_from_true, false≢true}
+use Rattle.std.proofs.lemmas.Bool.{cond-true, cond-false, cond_both, cases_Bool, and_parts, and_from, and_right, or_left, or_cases, not_from_true, false≢true}
 use Rattle.std.proofs.lemmas.Option.{none-some, some_pair_parts}
 use Rattle.std.proofs.lemmas.Slice.Eq.{bytes_eq-Decides}
 use Rattle.std.proofs.lemmas.List.Sums.{prefix_len-le-length}
@@ -10,9 +10,9 @@ use Rattle.slicc_ast.specs.declared.token.Token.{Token}
 use Rattle.slicc_ast.specs.declared.token.Token.TheVariants.{Name, Reserved, Quoted, Sign}
 use Rattle.slicc_ast.specs.declared.token.Sign.{Sign as SignKind}
 use Rattle.slicc_ast.specs.declared.token.Sign.TheVariants.{OpenBrace, CloseBrace, OpenParenthesis, CloseParenthesis, Comma, Colon, Semicolon, Dot, Assign, Star}
-use Rattle.slicc_ast.specs.Bytes.{is_blank, is_letter, is_word_byte, is_printable}
+use Rattle.slicc_ast.specs.Bytes.{is_blank, is_letter, is_word_byte, is_text_byte, is_printable}
 use Rattle.slicc_ast.specs.Tokens.{is_reserved, reserved_words, sign_byte, IsWord, IsWrittenAs, IsEndedBefore, begins_with_word_byte}
-use Rattle.small_form.specs.Lexing.{is_quote, is_text_byte, sign_of, token_of_word, word_front, closed, quoted_front, with_sign, front}
+use Rattle.small_form.specs.Lexing.{is_quote, sign_of, token_of_word, word_front, closed, quoted_front, with_sign, front}
 use Rattle.small_form.proofs.Front.{token_of_reserved, token_of_name, word_front_short, quoted_front_closed, front_letter, front_quote}
 
 -- the list begins with an element that passes
@@ -93,7 +93,7 @@ front_of_quoted quote text rest letter quotes all =
     (quoted_front_closed quote quote (text ++ quote ∷ rest) text rest (length text) (sym n)
     (sym (take_at text (quote ∷ rest) (length text) refl)) (drop_at text (quote ∷ rest) (length text) refl) refl))
 
-front_of_sign : (sign : SignKind) (rest : List ℕ) → front (sign_byte sign ∷ rest) ≡ Some (Sign sign, rest)
+pub front_of_sign : (sign : SignKind) (rest : List ℕ) → front (sign_byte sign ∷ rest) ≡ Some (Sign sign, rest)
 unfolding front
 front_of_sign OpenBrace rest = refl
 front_of_sign CloseBrace rest = refl
@@ -129,18 +129,12 @@ pub record IsFront (bytes : List ℕ) (token : Token) (rest : List ℕ) : Type 0
   pub is_ended : IsEndedBefore token rest
 
 written_word : (word : List ℕ) → IsWord word → IsWrittenAs (token_of_word word) word
-written_word word is =
-    ⊎_elim
-    (λ reserved. subst (λ t. IsWrittenAs t word) (token_of_reserved word word true refl (sym reserved) refl) (refl, reserved))
-    (λ free. subst (λ t. IsWrittenAs t word) (token_of_name word word false refl (sym free) refl) (refl, is, free))
-    (cases_Bool (is_reserved word))
+unfolding token_of_word
+written_word word is = cond_both (is_reserved word) _ _ (λ t. IsWrittenAs t word) (λ reserved. (refl, reserved)) (λ free. (refl, is, free))
 
 ended_word : (word rest : List ℕ) → begins_with_word_byte rest ≡ false → IsEndedBefore (token_of_word word) rest
-ended_word word rest ended =
-    ⊎_elim
-    (λ reserved. subst (λ t. IsEndedBefore t rest) (token_of_reserved word word true refl (sym reserved) refl) ended)
-    (λ free. subst (λ t. IsEndedBefore t rest) (token_of_name word word false refl (sym free) refl) ended)
-    (cases_Bool (is_reserved word))
+unfolding token_of_word
+ended_word word rest ended = cond_both (is_reserved word) _ _ (λ t. IsEndedBefore t rest) (λ reserved. ended) (λ free. ended)
 
 word_is_front : (c : ℕ) (cs : List ℕ) (token : Token) (rest : List ℕ) → is_letter c ≡ true → word_front (c ∷ cs) ≡ Some (token, rest) → IsFront (c ∷ cs) token rest
 unfolding word_front

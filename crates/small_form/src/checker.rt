@@ -11,13 +11,6 @@ use slicc_ast::{Machine, Named, State, Transition};
 /// The most states, and the most events, of a machine. The limit is this project's own.
 const MOST_MEMBERS: usize = 256;
 
-/// Whether every one of the tests holds.
-fn every(tests: &[bool]) -> bool
-    ensures { result ≡ list_all (λ test. test) tests.now }
-{
-    tests.iter().all(|test| *test)
-}
-
 /// Whether one of the declarations has this name.
 fn is_among<N: Named>(declared: &[N], name: &[u8]) -> bool
     ensures { result ≡ is_among (map N.name_of declared.now) name.now }
@@ -87,13 +80,11 @@ fn are_states_well_formed(m: &Machine) -> bool
     ensures { IsTrue result ↔ AreStatesWellFormed m.now }
 {
     let states = m.states.members.as_slice();
-    every(&[
-        0 < states.len(),
-        states.len() <= MOST_MEMBERS,
-        are_distinct(states),
-        are_permitted(states),
-        is_default_declared(m),
-    ])
+    0 < states.len()
+        && states.len() <= MOST_MEMBERS
+        && are_distinct(states)
+        && are_permitted(states)
+        && is_default_declared(m)
 }
 
 /// Whether the events are 1 to 256 with different names.
@@ -101,11 +92,7 @@ fn are_events_well_formed(m: &Machine) -> bool
     ensures { IsTrue result ↔ AreEventsWellFormed m.now }
 {
     let events = m.events.members.as_slice();
-    every(&[
-        0 < events.len(),
-        events.len() <= MOST_MEMBERS,
-        are_distinct(events),
-    ])
+    0 < events.len() && events.len() <= MOST_MEMBERS && are_distinct(events)
 }
 
 /// Whether the statements of the port and the action name the port and a declared event.
@@ -113,12 +100,10 @@ fn are_bodies_well_formed(m: &Machine) -> bool
     ensures { IsTrue result ↔ AreBodiesWellFormed m.now }
 {
     let port = m.port.name.as_slice();
-    every(&[
-        m.port.body.port.as_slice() == port,
-        m.port.body.then.port.as_slice() == port,
-        m.action.body.port.as_slice() == port,
-        is_event(m, m.port.body.then.then.event.as_slice()),
-    ])
+    m.port.body.port.as_slice() == port
+        && m.port.body.then.port.as_slice() == port
+        && m.action.body.port.as_slice() == port
+        && is_event(m, m.port.body.then.then.event.as_slice())
 }
 
 /// Whether machine, port and action have different names, and the action none that means a stall.
@@ -128,12 +113,7 @@ fn are_names_well_formed(m: &Machine) -> bool
     let name = m.name.as_slice();
     let port = m.port.name.as_slice();
     let action = m.action.name.as_slice();
-    every(&[
-        name != port,
-        name != action,
-        port != action,
-        action != "z_stall".as_bytes(),
-    ])
+    name != port && name != action && port != action && action != "z_stall".as_bytes()
 }
 
 /// Whether the names in a transition are declared.
@@ -192,11 +172,7 @@ fn are_transitions_well_formed(m: &Machine) -> bool
     ensures { IsTrue result ↔ AreTransitionsWellFormed m.now }
 {
     let transitions = m.transitions.as_slice();
-    every(&[
-        0 < transitions.len(),
-        are_declared(m),
-        are_single(transitions),
-    ])
+    0 < transitions.len() && are_declared(m) && are_single(transitions)
 }
 
 /// Whether the machine keeps every condition that the grammar doesn't state.

@@ -1,8 +1,8 @@
 use Rattle.std.proofs.Common.{◌≡◌, false, sym, subst, refl}
 use Rattle.std.specs.Option.{IfSome}
 use Rattle.small_form.specs.Parsing.{begins_closed}
-use Rattle.small_form.proofs.Listed.{Listed, listed_more, listed_all, listed_bad, first_is, first_isnt}
-use Rattle.small_form.proofs.Patterns.{reads_as}
+use Rattle.small_form.proofs.Listed.{Listed, listed_more, listed_all, listed_bad}
+use Rattle.small_form.proofs.Patterns.{reads_as, begins_filled, differs_from}
 use Rattle.small_form.proofs.parser.list.Goals as goal
 
 pub loop-parts-preserved : goal.loop-parts-preserved
@@ -16,10 +16,10 @@ pub returns-in-Some-behind : goal.returns-in-Some-behind
 returns-in-Some-behind g c =
     listed_all g.P.Part.spell _ _ _ _ c.loop-parts.invariant
     (reads_as _ _ c.in_ok-part.ensures.reads c.in_default.is)
-    (first_is c.in-Some-behind.ensures)
+    (begins_filled c.in-Some-behind.ensures)
 
 pub returns : goal.returns
 returns g c =
     listed_bad g.P.Part.spell _ _ _ c.loop-parts.invariant
     (reads_as _ _ c.in_ok-part.ensures.reads c.in_default.is)
-    (λ after. first_isnt c.in-None.ensures _ refl)
+    (λ after. differs_from c.in-None.ensures _ refl)
