@@ -2,14 +2,14 @@
 -- A name or reserved word is as long as it can be, so no further byte of a word follows it. The longer signs of the
 -- full language, as `:=`, have no case: this says what the tokens are of texts that spell a tree, and no tree has `:`
 -- or `=` right before `=`. A comment, a number or any other sign is in no such text.
-use Rattle.std.specs.Prelude.{◌≡◌, ◌⊎◌, ◌≤◌, ◌==◌, ◌&&◌, ◌++◌, ℕ, Bool, true, false, not, IsTrue, List, [], ◌∷◌, length, codes}
+use Rattle.std.specs.Prelude.{◌≡◌, ◌⊎◌, ◌≤◌, ◌++◌, ℕ, Bool, true, false, IsTrue, List, [], ◌∷◌, length, codes}
 use Rattle.std.specs.List.{list_any, list_all}
 use Rattle.std.specs.Str.{bytes_eq}
 use Rattle.slicc_ast.specs.declared.token.Token.{Token}
 use Rattle.slicc_ast.specs.declared.token.Token.TheVariants.{Name, Reserved, Quoted, Sign}
 use Rattle.slicc_ast.specs.declared.token.Sign.{Sign as SignKind}
 use Rattle.slicc_ast.specs.declared.token.Sign.TheVariants.{OpenBrace, CloseBrace, OpenParenthesis, CloseParenthesis, Comma, Colon, Semicolon, Dot, Assign, Star}
-use Rattle.slicc_ast.specs.Bytes.{is_blank, is_letter, is_word_byte, is_printable}
+use Rattle.slicc_ast.specs.Bytes.{is_blank, is_letter, is_word_byte, is_text_byte}
 
 -- SLICC's reserved words
 abbrev pub reserved_words : List (List ℕ)
@@ -45,7 +45,7 @@ IsWord (c ∷ cs) = IsTrue (is_letter c) × IsTrue (list_all is_word_byte cs) ×
 -- the text stands in these quotes, and has none of them in it
 abbrev pub IsQuotedBy : ℕ → List ℕ → List ℕ → Type 0
 IsQuotedBy quote text bytes =
-    (bytes ≡ quote ∷ text ++ quote ∷ []) × IsTrue (list_all (λ c. is_printable c && not (c == quote)) text)
+    (bytes ≡ quote ∷ text ++ quote ∷ []) × IsTrue (list_all (is_text_byte quote) text)
 
 -- these bytes are a way to write the token
 abbrev pub IsWrittenAs : Token → List ℕ → Type 0

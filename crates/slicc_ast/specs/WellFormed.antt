@@ -48,23 +48,43 @@ abbrev pub are_single : List Transition → Bool
 are_single [] = true
 are_single (t ∷ ts) = not (list_any (is_same_pair t) ts) && are_single ts
 
-pub record IsWellFormed (m : Machine) : Type 0 where
+-- 1 to 256 states with different names and known permissions, one of which is the default
+pub record AreStatesWellFormed (m : Machine) : Type 0 where
   pub some_state : 1 ≤ length m.states.members
   pub few_states : length m.states.members ≤ 256
   pub distinct_states : IsTrue (are_distinct (state_names m))
   pub permitted : IsTrue (list_all (λ (s : State). is_among permissions s.permission) m.states.members)
   pub default : IsTrue (list_any (is_default m) (state_names m))
+
+-- 1 to 256 events with different names
+pub record AreEventsWellFormed (m : Machine) : Type 0 where
   pub some_event : 1 ≤ length m.events.members
   pub few_events : length m.events.members ≤ 256
   pub distinct_events : IsTrue (are_distinct (event_names m))
+
+-- the statements of the port and the action name the port and a declared event
+pub record AreBodiesWellFormed (m : Machine) : Type 0 where
   pub ready : m.port.body.port ≡ m.port.name
   pub peeked : m.port.body.then.port ≡ m.port.name
   pub dequeued : m.action.body.port ≡ m.port.name
   pub triggered : IsTrue (is_among (event_names m) m.port.body.then.then.event)
+
+-- the machine, its port and its action have different names, and the action none that means a stall
+pub record AreNamesWellFormed (m : Machine) : Type 0 where
   pub machine_not_port : m.name ≢ m.port.name
   pub machine_not_action : m.name ≢ m.action.name
   pub port_not_action : m.port.name ≢ m.action.name
   pub action_runs : m.action.name ≢ codes "z_stall"
+
+-- there is a transition, each is of declared names, and no pair of state and event has two
+pub record AreTransitionsWellFormed (m : Machine) : Type 0 where
   pub some_transition : 1 ≤ length m.transitions
   pub declared : IsTrue (list_all (is_declared m) m.transitions)
   pub single : IsTrue (are_single m.transitions)
+
+pub record IsWellFormed (m : Machine) : Type 0 where
+  pub states : AreStatesWellFormed m
+  pub events : AreEventsWellFormed m
+  pub bodies : AreBodiesWellFormed m
+  pub names : AreNamesWellFormed m
+  pub transitions : AreTransitionsWellFormed m

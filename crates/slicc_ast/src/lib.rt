@@ -6,9 +6,11 @@
 
 mod body;
 mod machine;
+mod named;
 mod token;
 
 pub use body::{Dequeue, If, Peek, Trigger};
 pub use machine::{Action, Event, Events, InPort, Machine, State, States, Transition};
+pub use named::Named;
 pub use ruby_base::{NoMemory, Seq, Text};
 pub use token::{Sign, Token};

@@ -8,27 +8,30 @@ use crate::{
     ActionPlan, Dequeue, If, MachinePlan, Peek, Plan, PortPlan, Trigger, WrittenTransition,
 };
 use ruby_base::{NoMemory, Seq, Text};
-use slicc_ast::{Machine, Transition};
+use slicc_ast::{Machine, Named, Transition};
 use std::alloc::Global;
+
+// The names of declarations, in their order.
+fn names<N: Named>(alloc: Global, members: &[N]) -> Result<Seq<Text>, NoMemory>
+    ensures { IfOk result (λ names. names ≡ map N.name_of members.now) }
+{
+    let mut names = Seq::new(alloc);
+    for member in members {
+        names.push(Text::copied(alloc, member.name())?)?;
+    }
+    Ok(names)
+}
 
 fn state_names(alloc: Global, m: &Machine) -> Result<Seq<Text>, NoMemory>
     ensures { IfOk result (λ names. names ≡ state_names_of m.now) }
 {
-    let mut names = Seq::new(alloc);
-    for s in m.states.members.as_slice() {
-        names.push(Text::copied(alloc, s.name.as_slice())?)?;
-    }
-    Ok(names)
+    names(alloc, m.states.members.as_slice())
 }
 
 fn event_names(alloc: Global, m: &Machine) -> Result<Seq<Text>, NoMemory>
     ensures { IfOk result (λ names. names ≡ event_names_of m.now) }
 {
-    let mut names = Seq::new(alloc);
-    for e in m.events.members.as_slice() {
-        names.push(Text::copied(alloc, e.name.as_slice())?)?;
-    }
-    Ok(names)
+    names(alloc, m.events.members.as_slice())
 }
 
 // The place of a name among at most 256, which is how many there are where it isn't among them.

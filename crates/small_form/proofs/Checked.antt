@@ -1,34 +1,10 @@
--- Tests that hold together, and a default that is told by its parts.
-use Rattle.std.proofs.Common.{◌≡◌, ◌≢◌, ◌&&◌, ◌||◌, ℕ, Bool, true, false, List, [], ◌∷◌, ◌++◌, refl, sym, ap, ◌∙◌, append_assoc}
+-- A default that is told by its parts.
+use Rattle.std.proofs.Common.{◌≡◌, ◌≢◌, ◌||◌, ℕ, Bool, true, false, List, [], ◌∷◌, ◌++◌, refl, sym, ap, ◌∙◌, append_assoc}
 use Rattle.std.specs.List.{list_any}
 use Rattle.std.specs.Str.{bytes_eq}
-use Rattle.std.proofs.lemmas.Bool.{and_parts, and_from, or_from, false_from_ne_true}
+use Rattle.std.proofs.lemmas.Bool.{or_from, false_from_ne_true}
 use Rattle.std.proofs.lemmas.List.{append_cancel_left}
 use Rattle.std.proofs.lemmas.Slice.Eq.{bytes_eq-Decides}
-
-grouped : (a b c d : Bool) → (a && (b && (c && (d && true)))) ≡ (a && b && c && d)
-grouped false b c d = refl
-grouped true false c d = refl
-grouped true true false d = refl
-grouped true true true false = refl
-grouped true true true true = refl
-
--- four tests, each of which is what it tests
-pub four_tests : (r a b c d p q s t : Bool) → r ≡ (a && (b && (c && (d && true)))) → a ≡ p → b ≡ q → c ≡ s → d ≡ t → r ≡ (p && q && s && t)
-four_tests r a b c d p q s t is first second third fourth =
-    is ∙ grouped a b c d ∙ ap (λ x. x && b && c && d) first ∙ ap (λ x. p && x && c && d) second ∙ ap (λ x. p && q && x && d) third ∙ ap (λ x. p && q && s && x) fourth
-
-pub six_hold : (a b c d e f : Bool) → (a && (b && (c && (d && (e && (f && true)))))) ≡ true → (a ≡ true) × (b ≡ true) × (c ≡ true) × (d ≡ true) × (e ≡ true) × (f ≡ true)
-six_hold a b c d e f is =
-    let p = and_parts a _ is in
-    let q = and_parts b _ p.1 in
-    let r = and_parts c _ q.1 in
-    let s = and_parts d _ r.1 in
-    let t = and_parts e _ s.1 in
-    (p.0, q.0, r.0, s.0, t.0, (and_parts f true t.1).0)
-
-pub six_from : (a b c d e f : Bool) → a ≡ true → b ≡ true → c ≡ true → d ≡ true → e ≡ true → f ≡ true → (a && (b && (c && (d && (e && (f && true)))))) ≡ true
-six_from a b c d e f p q r s t u = and_from a _ p (and_from b _ q (and_from c _ r (and_from d _ s (and_from e _ t (and_from f true u refl)))))
 
 -- two tests that hold together are one
 same_test : (a b : Bool) → (a ≡ true → b ≡ true) → (b ≡ true → a ≡ true) → a ≡ b

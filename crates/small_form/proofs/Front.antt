@@ -1,12 +1,12 @@
 -- What the front of bytes is found to be, step by step as the code looks.
-use Rattle.std.proofs.Common.{◌≡◌, ◌≢◌, ◌≤◌, ◌<◌, ℕ, Bool, true, false, Option, Some, None, List, [], ◌∷◌, take, drop, sym, ap, ◌∙◌, arith, leb, le-leb, eq-eqb, ne_eqb, Result, Ok, Err, IfOk}
+use Rattle.std.proofs.Common.{◌≡◌, ◌≢◌, ◌≤◌, ◌<◌, ℕ, Bool, true, false, Option, Some, None, List, [], ◌∷◌, take, drop, sym, ap, ◌∙◌, arith, leb, le-leb, eq-eqb, ne_eqb}
 use Rattle.std.specs.List.{prefix_len}
 use Rattle.std.proofs.lemmas.Bool.{cond-true, cond-false, lt-leb}
 use Rattle.slicc_ast.specs.declared.token.Token.{Token}
 use Rattle.slicc_ast.specs.declared.token.Token.TheVariants.{Name, Reserved, Quoted}
-use Rattle.slicc_ast.specs.Bytes.{is_letter, is_word_byte}
+use Rattle.slicc_ast.specs.Bytes.{is_letter, is_word_byte, is_text_byte}
 use Rattle.slicc_ast.specs.Tokens.{is_reserved}
-use Rattle.small_form.specs.Lexing.{is_quote, is_text_byte, sign_of, token_of_word, word_front, closed, quoted_front, with_sign, front}
+use Rattle.small_form.specs.Lexing.{is_quote, sign_of, token_of_word, word_front, closed, quoted_front, with_sign, front}
 
 pub token_of_reserved : (word text : List ℕ) (r : Bool) → text ≡ word → r ≡ is_reserved word → r ≡ true → Reserved text ≡ token_of_word word
 unfolding token_of_word
@@ -60,11 +60,6 @@ quoted_front_closed quote c bytes text rest n is text_is next same =
     let text_there : text ≡ take (prefix_len (is_text_byte quote) bytes) bytes = text_is ∙ ap (λ k. take k bytes) is in
     ap (λ t. Some (Quoted t, rest)) text_there
     ∙ sym (ap (closed quote (take (prefix_len (is_text_byte quote) bytes) bytes)) there ∙ cond-true _ _ _ (eq-eqb c quote same))
-
--- what holds of an answer that may be want of memory
-pub if_ok : {T E : Type 0} (r : Result T E) (P Q : T → Type 0) → ((x : T) → P x → Q x) → IfOk r P → IfOk r Q
-if_ok (Ok x) P Q f h = f x h
-if_ok (Err e) P Q f h = h
 
 pub front_empty : (bytes : List ℕ) → bytes ≡ [] → let found : Option (Token × List ℕ) = None in found ≡ front bytes
 unfolding front

@@ -1,13 +1,15 @@
 -- The lexer's invariant: some tokens are read, and the bytes' tokens are these and then those of what is left.
-use Rattle.std.proofs.Common.{◌≡◌, ◌≢◌, ◌≤◌, ◌<◌, ℕ, true, false, Option, Some, None, List, [], ◌∷◌, ◌++◌, length, take, drop, refl, sym, ap, ◌∙◌, subst, arith, drop_at, append_assoc, append-nil, take-append-drop, length-append, length-drop, inl, inr, eqb, eqb-true}
+use Rattle.std.proofs.Common.{◌≡◌, ◌≢◌, ◌≤◌, ◌<◌, ℕ, true, false, Some, None, List, [], ◌∷◌, ◌++◌, length, take, drop, refl, sym, ap, ◌∙◌, subst, arith, drop_at, append_assoc, append-nil, take-append-drop, length-append, length-drop, inl, inr, eqb, eqb-true}
 use Rattle.std.proofs.lemmas.Bool.{true≢false}
+use Rattle.std.proofs.lemmas.List.{nil_from_length}
+use Rattle.std.proofs.lemmas.Option.{none-some, some_pair_parts}
 use Rattle.std.specs.List.{prefix_len, list_all}
 use Rattle.slicc_ast.specs.declared.token.Token.{Token}
 use Rattle.slicc_ast.specs.declared.token.Token.TheVariants.{Name, Reserved, Quoted, Sign}
 use Rattle.slicc_ast.specs.Bytes.{is_blank}
 use Rattle.slicc_ast.specs.Tokens.{IsWrittenAs, AreTokensOf}
 use Rattle.small_form.specs.Lexing.{front}
-use Rattle.small_form.proofs.Written.{IsWord-from_reserved, some_pair, begins, len_span, span_passes, front_of_written, written_of_front, front_unblank}
+use Rattle.small_form.proofs.Written.{IsWord-from_reserved, begins, len_span, span_is, front_of_written, written_of_front, front_unblank}
 
 -- what is behind the blanks at the front
 abbrev pub ahead : List ℕ → List ℕ
@@ -39,7 +41,7 @@ pub blanks_of_ahead : (bytes : List ℕ) → ahead bytes ≡ [] → AreTokensOf 
 blanks_of_ahead bytes none =
     let n : ℕ = prefix_len is_blank bytes in
     let whole : take n bytes ≡ bytes = sym (append-nil (take n bytes)) ∙ ap (λ r. take n bytes ++ r) (sym none) ∙ take-append-drop n bytes in
-    subst (λ b. list_all is_blank b ≡ true) whole (span_passes is_blank bytes)
+    subst (λ b. list_all is_blank b ≡ true) whole (span_is is_blank bytes).0
 
 -- the front of what is ahead is the first token
 pub tokens_of_front : (bytes : List ℕ) (token : Token) (rest : List ℕ) (tokens : List Token) → front (ahead bytes) ≡ Some (token, rest) → AreTokensOf rest tokens → AreTokensOf bytes (token ∷ tokens)
@@ -48,11 +50,11 @@ tokens_of_front bytes token rest tokens found more =
     let is = written_of_front (ahead bytes) token rest found in
     let split : bytes ≡ take n bytes ++ is.written ++ rest =
     sym (take-append-drop n bytes) ∙ ap (λ r. take n bytes ++ r) is.split ∙ sym (append_assoc (take n bytes) is.written rest) in
-    (take n bytes, is.written, rest, split, span_passes is_blank bytes, is.is_written, is.is_ended, more)
+    (take n bytes, is.written, rest, split, (span_is is_blank bytes).0, is.is_written, is.is_ended, more)
 
 front_none : (token : Token) (rest : List ℕ) → front [] ≡ Some (token, rest) → ⊥
 unfolding front
-front_none token rest found = let none : Option (Token × List ℕ) = None in let some : Option (Token × List ℕ) = Some (token, rest) in let clash : none ≡ some = found in cc
+front_none token rest found = none-some (token, rest) found
 
 written_some : (token : Token) (written : List ℕ) → IsWrittenAs token written → 1 ≤ length written
 written_some (Name []) written is = absurd is.1
@@ -76,7 +78,7 @@ only_more done token rest behind found [] is =
     absurd (front_none token behind none)
 only_more done token rest behind found (t ∷ ts) is =
     let first = front_of_tokens rest t ts is in
-    let same = some_pair t token first.0 behind (sym first.1 ∙ found) in
+    let same = some_pair_parts t token first.0 behind (sym first.1 ∙ found) in
     (ts, ap (λ u. done ++ u ∷ ts) same.0 ∙ sym (append_assoc done (token ∷ []) ts), subst (λ b. AreTokensOf b ts) same.1 first.2)
 
 pub lexed_more : (bytes : List ℕ) (done : List Token) (rest : List ℕ) (token : Token) (behind : List ℕ) → Lexed bytes done rest → front (ahead rest) ≡ Some (token, behind) → Lexed bytes (done ++ token ∷ []) behind
@@ -104,7 +106,7 @@ lexed_only bytes done rest lexed none all is =
 
 no_more : (rest : List ℕ) → ahead rest ≢ [] → front (ahead rest) ≡ None → (more : List Token) → AreTokensOf rest more → ⊥
 no_more rest some bad [] is = some (ahead_of_blanks rest is)
-no_more rest some bad (t ∷ ts) is = let first = front_of_tokens rest t ts is in let none : Option (Token × List ℕ) = None in let some_first : Option (Token × List ℕ) = Some (t, first.0) in let clash : none ≡ some_first = sym bad ∙ first.1 in cc
+no_more rest some bad (t ∷ ts) is = let first = front_of_tokens rest t ts is in none-some (t, first.0) (sym bad ∙ first.1)
 
 pub lexed_bad : (bytes : List ℕ) (done : List Token) (rest : List ℕ) → Lexed bytes done rest → ahead rest ≢ [] → front (ahead rest) ≡ None → (all : List Token) → AreTokensOf bytes all → ⊥
 lexed_bad bytes done rest lexed some bad all is = let more = lexed.only all is in no_more rest some bad more.0 more.2
@@ -117,8 +119,7 @@ front_shorter bytes token rest found =
     omega (arith, ap length is.split, length-append is.written rest)
 
 pub empty_from : {A : Type 0} (bytes : List A) → eqb (length bytes) 0 ≡ true → bytes ≡ []
-empty_from [] test = refl
-empty_from (c ∷ cs) test = let zero_length : length (c ∷ cs) ≡ 0 = eqb-true (length (c ∷ cs)) 0 test in absurd (omega arith)
+empty_from bytes test = nil_from_length bytes (eqb-true (length bytes) 0 test)
 
 pub not_empty_from : {A : Type 0} (bytes : List A) → eqb (length bytes) 0 ≡ false → bytes ≢ []
 not_empty_from bytes test none = true≢false (ap (λ (n : ℕ). eqb n 0) (sym (ap length none)) ∙ test)

@@ -1,5 +1,4 @@
 pub mod Checked
-pub mod Found
 pub mod Front
 pub mod Lexed
 pub mod Listed

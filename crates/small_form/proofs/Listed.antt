@@ -1,14 +1,12 @@
 -- The invariant of reading a list: some parts are read, and the list is these and then those of what is left.
-use Rattle.std.proofs.Common.{◌≡◌, ◌≢◌, true, false, List, [], ◌∷◌, ◌++◌, drop, refl, sym, ap, ◌∙◌, append_assoc, append-nil}
+use Rattle.std.proofs.Common.{◌≡◌, ◌≢◌, false, List, [], ◌∷◌, ◌++◌, drop, refl, sym, ap, ◌∙◌, append_assoc, append-nil}
 use Rattle.std.specs.List.{flat_map}
 use Rattle.std.proofs.lemmas.Bool.{true≢false}
 use Rattle.std.proofs.lemmas.List.Concat.{flat_map-append}
 use Rattle.slicc_ast.specs.declared.token.Token.{Token}
 use Rattle.slicc_ast.specs.declared.token.Token.TheVariants.{Sign}
 use Rattle.slicc_ast.specs.declared.token.Sign.TheVariants.{CloseBrace}
-use Rattle.small_form.specs.declared.pattern.Piece.{Piece}
-use Rattle.small_form.specs.Parsing.{IsRead, IsUnread, Begins, Differs, begins_closed, list_tokens, fits}
-use Rattle.small_form.proofs.Patterns.{filled, fits_filled}
+use Rattle.small_form.specs.Parsing.{IsRead, IsUnread, begins_closed, list_tokens}
 
 pub record Listed {X : Type 0} (spell : X → List Token) (tokens : List Token) (done : List X) (rest : List Token) : Type 0 where
   pub spelled : tokens ≡ flat_map spell done ++ rest
@@ -64,10 +62,3 @@ pub listed_bad : {X : Type 0} (spell : X → List Token) (tokens : List Token) (
 listed_bad spell tokens done rest listed unread unclosed = record {
   none = λ all behind are. let before = listed.only all behind are in none_open spell rest unread unclosed before.0 behind before.2;
 }
-
--- what a pattern says of its first token
-pub first_is : {pattern : List Piece} {tokens rest : List Token} → Begins pattern tokens rest → tokens ≡ filled pattern tokens 0 ++ rest
-first_is {pattern} {tokens} {rest} begins = fits_filled pattern tokens begins.fit ∙ ap (λ r. filled pattern tokens 0 ++ r) (sym begins.cut)
-
-pub first_isnt : {pattern : List Piece} {tokens : List Token} → Differs pattern tokens → (begun : List Token) → fits pattern begun ≡ true → tokens ≢ begun
-first_isnt {pattern} differs begun fit same = true≢false (sym fit ∙ ap (fits pattern) (sym same) ∙ differs.unfit)

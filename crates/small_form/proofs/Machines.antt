@@ -1,7 +1,6 @@
 -- A machine's tokens, part behind part, and the machine that is made of parts that were read.
 use Rattle.std.proofs.Common.{◌≡◌, ℕ, true, List, [], ◌∷◌, ◌++◌, length, drop, sym, ap, ◌∙◌, append_assoc, append-nil}
 use Rattle.std.specs.List.{flat_map}
-use Rattle.std.proofs.lemmas.Bool.{true≢false}
 use Rattle.slicc_ast.specs.declared.token.Token.{Token}
 use Rattle.slicc_ast.specs.declared.token.Token.TheVariants.{Sign}
 use Rattle.slicc_ast.specs.declared.token.Sign.TheVariants.{OpenBrace, CloseBrace}
@@ -13,8 +12,8 @@ use Rattle.slicc_ast.specs.declared.machine.Action.{Action}
 use Rattle.slicc_ast.specs.declared.machine.Transition.{Transition}
 use Rattle.slicc_ast.specs.Spelling.{states_tokens, events_tokens, port_tokens, action_tokens, transition_tokens, header_tokens, machine_tokens}
 use Rattle.small_form.specs.declared.pattern.Piece.{Piece}
-use Rattle.small_form.specs.Parsing.{IsRead, Begins, Differs, fits, text_at, list_tokens}
-use Rattle.small_form.proofs.Patterns.{filled, fits_filled}
+use Rattle.small_form.specs.Parsing.{IsRead, Begins, fits, text_at, list_tokens}
+use Rattle.small_form.proofs.Patterns.{filled, begins_filled}
 
 -- the tokens from the transitions on, from the action on, and so on
 abbrev pub from_transitions : Machine → List Token
@@ -57,22 +56,30 @@ pub record IsMachinePattern (pattern : List Piece) : Type 0 where
   pub titled : (m : Machine) (rest : List Token) → text_at (opening m rest) 6 ≡ m.title
   pub full : (tokens rest : List Token) (states : States) (events : Events) (port : InPort) (action : Action) (transitions : List Transition) → filled pattern tokens 0 ++ rest ≡ opening (machine_of (text_at tokens 4) (text_at tokens 6) states events port action transitions) rest
 
-pub no_machine : {pattern : List Piece} {tokens : List Token} → Differs pattern tokens → ((m : Machine) (rest : List Token) → fits pattern (opening m rest) ≡ true) → (m : Machine) → tokens ≡ machine_tokens m → ⊥
-no_machine {pattern} {tokens} differs fit m are =
-    true≢false (sym (fit m (from_states m)) ∙ ap (fits pattern) (sym (are ∙ machine_spelled m)) ∙ differs.unfit)
-
 pub to_states : {pattern : List Piece} {tokens rest : List Token} → Begins pattern tokens rest → ((m : Machine) (rest : List Token) → drop (length pattern) (opening m rest) ≡ rest) → (m : Machine) → tokens ≡ machine_tokens m → rest ≡ from_states m
 to_states {pattern} begins cut m are = begins.cut ∙ ap (drop (length pattern)) (are ∙ machine_spelled m) ∙ cut m (from_states m)
 
 pub machine_made : (m : Machine) (name title : List ℕ) (states : States) (events : Events) (port : InPort) (action : Action) (transitions : List Transition) → name ≡ m.name → title ≡ m.title → states ≡ m.states → events ≡ m.events → port ≡ m.port → action ≡ m.action → transitions ≡ m.transitions → machine_of name title states events port action transitions ≡ m
 machine_made m name title states events port action transitions n t s e p a r =
-    ap (λ x. machine_of x title states events port action transitions) n
-    ∙ ap (λ x. machine_of m.name x states events port action transitions) t
-    ∙ ap (λ x. machine_of m.name m.title x events port action transitions) s
-    ∙ ap (λ x. machine_of m.name m.title m.states x port action transitions) e
-    ∙ ap (λ x. machine_of m.name m.title m.states m.events x action transitions) p
-    ∙ ap (λ x. machine_of m.name m.title m.states m.events m.port x transitions) a
-    ∙ ap (λ x. machine_of m.name m.title m.states m.events m.port m.action x) r
+    let made : machine_of name title states events port action transitions ≡ machine_of m.name m.title m.states m.events m.port m.action m.transitions = cc in
+    made
+
+-- a part that was read is the one that is spelled there, and what is behind it is behind both
+read_is : {X : Type 0} {spell : X → List Token} {tokens rest : List Token} {part : X} → IsRead spell tokens part rest → (other : X) (behind : List Token) → tokens ≡ spell other ++ behind → (part ≡ other) × (rest ≡ behind)
+read_is read other behind are = let once = read.only other behind are in (sym once.0, sym once.1)
+
+-- so each part that was read of a machine's tokens is the machine's, and its next part is behind it
+pub states_are : {tokens rest : List Token} {states : States} → IsRead states_tokens tokens states rest → (m : Machine) → tokens ≡ from_states m → (states ≡ m.states) × (rest ≡ from_events m)
+states_are read m = read_is read m.states (from_events m)
+
+pub events_are : {tokens rest : List Token} {events : Events} → IsRead events_tokens tokens events rest → (m : Machine) → tokens ≡ from_events m → (events ≡ m.events) × (rest ≡ from_port m)
+events_are read m = read_is read m.events (from_port m)
+
+pub port_is : {tokens rest : List Token} {port : InPort} → IsRead port_tokens tokens port rest → (m : Machine) → tokens ≡ from_port m → (port ≡ m.port) × (rest ≡ from_action m)
+port_is read m = read_is read m.port (from_action m)
+
+pub action_is : {tokens rest : List Token} {action : Action} → IsRead action_tokens tokens action rest → (m : Machine) → tokens ≡ from_action m → (action ≡ m.action) × (rest ≡ from_transitions m)
+action_is read m = read_is read m.action (from_transitions m)
 
 -- the parts of a machine that were read one behind the other
 pub record AreParts (inside : List Token) (states : States) (events : Events) (port : InPort) (action : Action) (transitions : List Transition) (end : List Token) : Type 0 where
@@ -86,7 +93,11 @@ pub record AreParts (inside : List Token) (states : States) (events : Events) (p
   pub action_read : IsRead action_tokens behind_port action behind_action
   pub transitions_read : IsRead (list_tokens transition_tokens) behind_action transitions end
 
-module _ {pattern : List Piece} {tokens inside : List Token} (begins : Begins pattern tokens inside) (of : IsMachinePattern pattern) (states : States) (events : Events) (port : InPort) (action : Action) (transitions : List Transition) (end : List Token) (name title : List ℕ) (parts : AreParts inside states events port action transitions end) (name_is : name ≡ text_at tokens 4) (title_is : title ≡ text_at tokens 6) where
+pub parts_of : {inside behind_states behind_events behind_port behind_action end : List Token} {states : States} {events : Events} {port : InPort} {action : Action} {transitions : List Transition} → IsRead states_tokens inside states behind_states → IsRead events_tokens behind_states events behind_events → IsRead port_tokens behind_events port behind_port → IsRead action_tokens behind_port action behind_action → IsRead (list_tokens transition_tokens) behind_action transitions end → AreParts inside states events port action transitions end
+parts_of {behind_states = bs} {behind_events = be} {behind_port = bp} {behind_action = ba} s e p a t =
+    record { behind_states = bs; behind_events = be; behind_port = bp; behind_action = ba; states_read = s; events_read = e; port_read = p; action_read = a; transitions_read = t }
+
+module _ {pattern : List Piece} {tokens inside : List Token} (begins : Begins pattern tokens inside) (of : IsMachinePattern pattern) {states : States} {events : Events} {port : InPort} {action : Action} {transitions : List Transition} {end : List Token} {name title : List ℕ} (parts : AreParts inside states events port action transitions end) (name_is : name ≡ text_at tokens 4) (title_is : title ≡ text_at tokens 6) where
   inside_is : end ≡ [] → inside ≡ from_states (machine_of name title states events port action transitions)
   inside_is none =
       parts.states_read.spelled
@@ -100,8 +111,8 @@ module _ {pattern : List Piece} {tokens inside : List Token} (begins : Begins pa
 
   pub machine_sound : end ≡ [] → tokens ≡ machine_tokens (machine_of name title states events port action transitions)
   machine_sound none =
-      fits_filled pattern tokens begins.fit
-      ∙ ap (λ r. filled pattern tokens 0 ++ r) (sym begins.cut ∙ inside_is none)
+      begins_filled begins
+      ∙ ap (λ r. filled pattern tokens 0 ++ r) (inside_is none)
       ∙ of.full tokens (from_states (machine_of name title states events port action transitions)) states events port action transitions
       ∙ ap (λ n. opening (machine_of n (text_at tokens 6) states events port action transitions) (from_states (machine_of name title states events port action transitions))) (sym name_is)
       ∙ ap (λ t. opening (machine_of name t states events port action transitions) (from_states (machine_of name title states events port action transitions))) (sym title_is)
@@ -109,14 +120,14 @@ module _ {pattern : List Piece} {tokens inside : List Token} (begins : Begins pa
 
   pub machine_only : (m : Machine) → tokens ≡ machine_tokens m → (machine_of name title states events port action transitions ≡ m) × (end ≡ [])
   machine_only m are =
-      let s = parts.states_read.only m.states (from_events m) (to_states begins of.cut m are) in
-      let e = parts.events_read.only m.events (from_port m) (sym s.1) in
-      let p = parts.port_read.only m.port (from_action m) (sym e.1) in
-      let a = parts.action_read.only m.action (from_transitions m) (sym p.1) in
-      let t = parts.transitions_read.only m.transitions [] (sym a.1) in
+      let s = states_are parts.states_read m (to_states begins of.cut m are) in
+      let e = events_are parts.events_read m s.1 in
+      let p = port_is parts.port_read m e.1 in
+      let a = action_is parts.action_read m p.1 in
+      let t = read_is parts.transitions_read m.transitions [] a.1 in
       let spelled : tokens ≡ opening m (from_states m) = are ∙ machine_spelled m in (
         machine_made m name title states events port action transitions
             (name_is ∙ ap (λ ts. text_at ts 4) spelled ∙ of.named m (from_states m)) (title_is ∙ ap (λ ts. text_at ts 6) spelled ∙ of.titled m (from_states m))
-            (sym s.0) (sym e.0) (sym p.0) (sym a.0) (sym t.0),
-        sym t.1,
+            s.0 e.0 p.0 a.0 t.0,
+        t.1,
       )

@@ -1,16 +1,18 @@
 -- What it says that tokens begin with a pattern, and how a part is read by its pattern.
-use Rattle.std.proofs.Common.{◌≡◌, ◌≤◌, ◌<◌, ℕ, suc, true, Some, List, [], ◌∷◌, ◌++◌, length, drop, refl, sym, ap, ◌∙◌, arith, eqb, eqb-true, length-drop}
+use Rattle.std.proofs.Common.{◌≡◌, ◌≢◌, ◌≤◌, ◌<◌, ℕ, suc, true, Option, List, [], ◌∷◌, ◌++◌, length, drop, refl, sym, ap, ◌∙◌, subst, arith, eqb, eqb-true, length-drop}
 use Rattle.std.proofs.lemmas.Bool.{and_parts, true≢false, false≢true}
+use Rattle.std.proofs.lemmas.Option.{some_pair_parts}
 use Rattle.std.proofs.lemmas.Slice.Eq.{bytes_eq-Decides}
+use denote.Ref.{Bor}
 use Rattle.slicc_ast.specs.declared.token.Token.{Token}
 use Rattle.slicc_ast.specs.declared.token.Token.TheVariants.{Name, Reserved, Quoted, Sign}
 use Rattle.slicc_ast.specs.declared.token.Sign.{Sign as SignKind}
-use Rattle.slicc_ast.specs.declared.token.Sign.TheVariants.{OpenBrace, CloseBrace, OpenParenthesis, CloseParenthesis, Comma, Colon, Semicolon, Dot, Assign, Star}
 use Rattle.slicc_ast.specs.Tokens.{sign_byte}
 use Rattle.small_form.specs.declared.pattern.Piece.{Piece}
 use Rattle.small_form.specs.declared.pattern.Piece.TheVariants.{Word, Keyword, Mark, AnyName, AnyString}
-use Rattle.small_form.specs.Lexing.{sign_of}
-use Rattle.small_form.specs.Parsing.{IsRead, IsUnread, Begins, Differs, is_piece, fits, text_of, text_at, list_tokens}
+use Rattle.small_form.specs.Lexing.{front}
+use Rattle.small_form.specs.Parsing.{IsRead, IsUnread, Reads, Begins, Differs, is_piece, fits, text_of, text_at, list_tokens}
+use Rattle.small_form.proofs.Written.{front_of_sign}
 
 -- the token that a piece asks for, with this text at a hole
 abbrev pub piece_token : Piece → List ℕ → Token
@@ -25,22 +27,11 @@ abbrev pub filled : List Piece → List Token → ℕ → List Token
 filled [] tokens place = []
 filled (piece ∷ pieces) tokens place = piece_token piece (text_at tokens place) ∷ filled pieces tokens (suc place)
 
-sign_of_sign : (s : SignKind) → sign_of (sign_byte s) ≡ Some s
-sign_of_sign OpenBrace = refl
-sign_of_sign CloseBrace = refl
-sign_of_sign OpenParenthesis = refl
-sign_of_sign CloseParenthesis = refl
-sign_of_sign Comma = refl
-sign_of_sign Colon = refl
-sign_of_sign Semicolon = refl
-sign_of_sign Dot = refl
-sign_of_sign Assign = refl
-sign_of_sign Star = refl
-
 -- no two signs have one byte
 sign_once : (s t : SignKind) → eqb (sign_byte s) (sign_byte t) ≡ true → s ≡ t
 sign_once s t same =
-    let one : Some s ≡ Some t = sym (sign_of_sign s) ∙ ap sign_of (eqb-true (sign_byte s) (sign_byte t) same) ∙ sign_of_sign t in
+    let found = some_pair_parts (Sign s) (Sign t) [] [] (sym (front_of_sign s []) ∙ ap (λ c. front (c ∷ [])) (eqb-true (sign_byte s) (sign_byte t) same) ∙ front_of_sign t []) in
+    let one : Sign s ≡ Sign t = found.0 in
     cc
 
 -- a token that a piece asks for is the piece's, with its own text
@@ -71,7 +62,7 @@ filled_later [] token tokens place = refl
 filled_later (piece ∷ pieces) token tokens place = ap (λ later. piece_token piece (text_at tokens place) ∷ later) (filled_later pieces token tokens (suc place))
 
 -- tokens that begin with a pattern are what it asks for, and what is behind
-pub fits_filled : (pattern : List Piece) (tokens : List Token) → fits pattern tokens ≡ true → tokens ≡ filled pattern tokens 0 ++ drop (length pattern) tokens
+fits_filled : (pattern : List Piece) (tokens : List Token) → fits pattern tokens ≡ true → tokens ≡ filled pattern tokens 0 ++ drop (length pattern) tokens
 fits_filled [] tokens fit = refl
 fits_filled (piece ∷ pieces) [] fit = absurd (false≢true fit)
 fits_filled (piece ∷ pieces) (token ∷ tokens) fit =
@@ -79,6 +70,13 @@ fits_filled (piece ∷ pieces) (token ∷ tokens) fit =
     ap (λ t. t ∷ tokens) (piece_is piece token parts.0)
     ∙ ap (λ ts. piece_token piece (text_of token) ∷ ts)
     (fits_filled pieces tokens parts.1 ∙ ap (λ f. f ++ drop (length pieces) tokens) (filled_later pieces token tokens 0))
+
+pub begins_filled : {pattern : List Piece} {tokens rest : List Token} → Begins pattern tokens rest → tokens ≡ filled pattern tokens 0 ++ rest
+begins_filled {pattern} {tokens} begins = fits_filled pattern tokens begins.fit ∙ ap (λ r. filled pattern tokens 0 ++ r) (sym begins.cut)
+
+-- tokens that don't begin with a pattern aren't any that do
+pub differs_from : {pattern : List Piece} {tokens : List Token} → Differs pattern tokens → (begun : List Token) → fits pattern begun ≡ true → tokens ≢ begun
+differs_from {pattern} differs begun fit same = true≢false (sym fit ∙ ap (fits pattern) (sym same) ∙ differs.unfit)
 
 pub fits_length : (pattern : List Piece) (tokens : List Token) → fits pattern tokens ≡ true → length pattern ≤ length tokens
 fits_length [] tokens fit = omega arith
@@ -91,6 +89,10 @@ fits_length (piece ∷ pieces) (token ∷ tokens) fit =
 pub shorter_behind : {pattern : List Piece} {tokens rest : List Token} → Begins pattern tokens rest → 0 < length pattern → length rest < length tokens
 shorter_behind {pattern} {tokens} {rest} begins some = omega (arith, fits_length pattern tokens begins.fit, ap length begins.cut ∙ length-drop (length pattern) tokens)
 
+-- the answer to reading, where it is known which it is
+pub reads_as : {X : Type 0} (spell : X → List Token) (tokens : List Token) {found answer : Option (X × Bor (List Token))} → Reads spell tokens found → found ≡ answer → Reads spell tokens answer
+reads_as spell tokens reads is = subst (λ f. Reads spell tokens f) is reads
+
 -- a pattern is that of a part's spelling, and this is how the part is made of tokens
 pub record IsPatternOf {X : Type 0} (pattern : List Piece) (spell : X → List Token) (make : List Token → X) : Type 0 where
   pub fit : (part : X) (behind : List Token) → fits pattern (spell part ++ behind) ≡ true
@@ -100,15 +102,12 @@ pub record IsPatternOf {X : Type 0} (pattern : List Piece) (spell : X → List T
 
 pub reads_pattern : {X : Type 0} {pattern : List Piece} {tokens rest : List Token} (spell : X → List Token) (make : List Token → X) (part : X) → Begins pattern tokens rest → IsPatternOf pattern spell make → part ≡ make tokens → IsRead spell tokens part rest
 reads_pattern {X} {pattern} {tokens} {rest} spell make part begins of part_is = record {
-  spelled = fits_filled pattern tokens begins.fit ∙ ap (λ f. f ++ drop (length pattern) tokens) (of.full tokens) ∙ ap (λ p. spell p ++ drop (length pattern) tokens) (sym part_is) ∙ ap (λ r. spell part ++ r) (sym begins.cut);
+  spelled = begins_filled begins ∙ ap (λ f. f ++ rest) (of.full tokens) ∙ ap (λ p. spell p ++ rest) (sym part_is);
   only = λ other behind are. (
     of.made other behind ∙ ap make (sym are) ∙ sym part_is,
     of.cut other behind ∙ ap (drop (length pattern)) (sym are) ∙ sym begins.cut,
   );
 }
-
-pub unread_pattern : {X : Type 0} {pattern : List Piece} {tokens : List Token} (spell : X → List Token) → Differs pattern tokens → ((part : X) (behind : List Token) → fits pattern (spell part ++ behind) ≡ true) → IsUnread spell tokens
-unread_pattern {X} {pattern} {tokens} spell differs fit = record { none = λ other behind are. true≢false (sym (fit other behind) ∙ ap (fits pattern) (sym are) ∙ differs.unfit) }
 
 -- a pattern is that of a part's spelling up to a list in it, which a `}` ends
 pub record IsOpeningOf {X Y : Type 0} (pattern : List Piece) (spell : X → List Token) (item : Y → List Token) (members : X → List Y) (make : List Token → List Y → X) : Type 0 where
@@ -118,15 +117,18 @@ pub record IsOpeningOf {X Y : Type 0} (pattern : List Piece) (spell : X → List
   pub full : (tokens : List Token) (inner : List Y) (behind : List Token) → filled pattern tokens 0 ++ (list_tokens item inner ++ behind) ≡ spell (make tokens inner) ++ behind
 
 module _ {X Y : Type 0} {pattern : List Piece} {tokens inside : List Token} (spell : X → List Token) (item : Y → List Token) (members : X → List Y) (make : List Token → List Y → X) (begins : Begins pattern tokens inside) (of : IsOpeningOf pattern spell item members make) where
+  inside_is : (other : X) (behind : List Token) → tokens ≡ spell other ++ behind → inside ≡ list_tokens item (members other) ++ behind
+  inside_is other behind are = begins.cut ∙ ap (drop (length pattern)) are ∙ of.cut other behind
+
   pub reads_opening : (rest : List Token) (inner : List Y) (part : X) → IsRead (list_tokens item) inside inner rest → part ≡ make tokens inner → IsRead spell tokens part rest
   reads_opening rest inner part read part_is = record {
-    spelled = fits_filled pattern tokens begins.fit ∙ ap (λ r. filled pattern tokens 0 ++ r) (sym begins.cut ∙ read.spelled) ∙ of.full tokens inner rest ∙ ap (λ p. spell p ++ rest) (sym part_is);
+    spelled = begins_filled begins ∙ ap (λ r. filled pattern tokens 0 ++ r) read.spelled ∙ of.full tokens inner rest ∙ ap (λ p. spell p ++ rest) (sym part_is);
     only = λ other behind are.
-        let once = read.only (members other) behind (begins.cut ∙ ap (drop (length pattern)) are ∙ of.cut other behind) in
+        let once = read.only (members other) behind (inside_is other behind are) in
         (of.made other behind ∙ ap (λ ts. make ts (members other)) (sym are) ∙ ap (make tokens) once.0 ∙ sym part_is, once.1);
   }
 
   pub unread_opening : IsUnread (list_tokens item) inside → IsUnread spell tokens
   unread_opening unread = record {
-    none = λ other behind are. unread.none (members other) behind (begins.cut ∙ ap (drop (length pattern)) are ∙ of.cut other behind);
+    none = λ other behind are. unread.none (members other) behind (inside_is other behind are);
   }

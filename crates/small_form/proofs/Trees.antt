@@ -1,13 +1,13 @@
 -- Bytes are of one list of tokens, and a list of tokens is of one machine: so bytes have one tree at most.
 use Rattle.std.proofs.Common.{◌≡◌, ℕ, false, List, [], ◌∷◌, ◌++◌, drop, refl, sym, ap, ◌∙◌, subst}
 use Rattle.std.proofs.lemmas.Bool.{true≢false}
+use Rattle.std.proofs.lemmas.Option.{some_pair_parts}
 use Rattle.slicc_ast.specs.declared.token.Token.{Token}
 use Rattle.slicc_ast.specs.declared.machine.Machine.{Machine}
 use Rattle.slicc_ast.specs.Tokens.{AreTokensOf}
 use Rattle.slicc_ast.specs.Spelling.{state_tokens, states_tokens, event_tokens, events_tokens, port_tokens, action_tokens, transition_tokens, machine_tokens}
 use Rattle.slicc_ast.specs.SmallForm.{IsSmallForm}
 use Rattle.small_form.specs.Parsing.{begins_closed, list_tokens, text_at}
-use Rattle.small_form.proofs.Written.{some_pair}
 use Rattle.small_form.proofs.Lexed.{front_of_tokens, ahead_of_blanks, only_end}
 use Rattle.small_form.proofs.Parts.{make_state, make_event, make_transition, make_port, make_action, make_states, make_events}
 use Rattle.small_form.proofs.Listed.{more_tokens}
@@ -20,7 +20,7 @@ tokens_once bytes (t ∷ ts) [] are also = only_end [] bytes (ahead_of_blanks by
 tokens_once bytes (t ∷ ts) (u ∷ us) are also =
     let one = front_of_tokens bytes t ts are in
     let other = front_of_tokens bytes u us also in
-    let same = some_pair t u one.0 other.0 (sym one.1 ∙ other.1) in
+    let same = some_pair_parts t u one.0 other.0 (sym one.1 ∙ other.1) in
     let later = tokens_once other.0 ts us (subst (λ rest. AreTokensOf rest ts) same.1 one.2) other.2 in
     ap (λ v. v ∷ ts) same.0 ∙ ap (λ vs. u ∷ vs) later
 

@@ -1,25 +1,19 @@
 -- What the front of bytes is found to be is a token as it is written, and each token as it is written is found.
-use Rattle.std.proofs.Common.{unwrap_or, ◌≡◌, ◌&&◌, ◌||◌, ◌+◌, ℕ, suc, Bool, true, false, cond, not, Option, Some, None, List, [], ◌∷◌, ◌++◌, length, take, drop, refl, sym, ap, ◌∙◌, subst, arith, eqb, leb, leb-true, eqb-true, eq-eqb, take_at, drop_at, length-take-le, append_assoc, take-append-drop, inl, inr, ⊎_elim, one-add}
+use Rattle.std.proofs.Common.{◌≡◌, ◌&&◌, ◌||◌, ◌+◌, ℕ, suc, Bool, true, false, cond, not, Option, Some, None, List, [], ◌∷◌, ◌++◌, length, take, drop, refl, sym, ap, ◌∙◌, subst, arith, eqb, leb, leb-true, eqb-true, eq-eqb, take_at, drop_at, length-take-le, append_assoc, take-append-drop, inl, inr, ⊎_elim, one-add}
 use Rattle.std.specs.List.{prefix_len, list_all, list_any}
 use Rattle.std.specs.Str.{bytes_eq}
-use Rattle.std.proofs.lemmas.Bool.{cond-true, cond-false, cases_Bool, and_parts, and_from, and_right, or_left, or_cases, not_from_true, false≢true}
+use Rattle.std.proofs.lemmas.Bool.{cond-true, cond-false, cond_both, cases_Bool, and_parts, and_from, and_right, or_left, or_cases, not_from_true, false≢true}
+use Rattle.std.proofs.lemmas.Option.{none-some, some_pair_parts}
 use Rattle.std.proofs.lemmas.Slice.Eq.{bytes_eq-Decides}
 use Rattle.std.proofs.lemmas.List.Sums.{prefix_len-le-length}
 use Rattle.slicc_ast.specs.declared.token.Token.{Token}
 use Rattle.slicc_ast.specs.declared.token.Token.TheVariants.{Name, Reserved, Quoted, Sign}
 use Rattle.slicc_ast.specs.declared.token.Sign.{Sign as SignKind}
 use Rattle.slicc_ast.specs.declared.token.Sign.TheVariants.{OpenBrace, CloseBrace, OpenParenthesis, CloseParenthesis, Comma, Colon, Semicolon, Dot, Assign, Star}
-use Rattle.slicc_ast.specs.Bytes.{is_blank, is_letter, is_word_byte, is_printable}
+use Rattle.slicc_ast.specs.Bytes.{is_blank, is_letter, is_word_byte, is_text_byte, is_printable}
 use Rattle.slicc_ast.specs.Tokens.{is_reserved, reserved_words, sign_byte, IsWord, IsWrittenAs, IsEndedBefore, begins_with_word_byte}
-use Rattle.small_form.specs.Lexing.{is_quote, is_text_byte, sign_of, token_of_word, word_front, closed, quoted_front, with_sign, front}
+use Rattle.small_form.specs.Lexing.{is_quote, sign_of, token_of_word, word_front, closed, quoted_front, with_sign, front}
 use Rattle.small_form.proofs.Front.{token_of_reserved, token_of_name, word_front_short, quoted_front_closed, front_letter, front_quote}
-
--- a pair that was found is found once
-pub some_pair : {X Y : Type 0} (a b : X) (x y : Y) → (let p : X × Y = (a, x) in let q : X × Y = (b, y) in Some p ≡ Some q) → (a ≡ b) × (x ≡ y)
-some_pair {X} {Y} a b x y e =
-    let none : X × Y = (a, x) in
-    let found : Option (X × Y) → X × Y = λ o. unwrap_or o none in
-    (ap (λ (o : Option (X × Y)). (found o).0) e, ap (λ (o : Option (X × Y)). (found o).1) e)
 
 -- the list begins with an element that passes
 abbrev pub begins : (ℕ → Bool) → List ℕ → Bool
@@ -35,29 +29,20 @@ len_span p (c ∷ cs) rest all stops =
     let inner : prefix_len p (cs ++ rest) ≡ length cs = len_span p cs rest parts.1 stops in
     cond-true (p c) (1 + prefix_len p (cs ++ rest)) 0 parts.0 ∙ omega (arith, inner)
 
--- the longest front that passes does, and what is behind it begins with nothing that passes
-pub span_passes : (p : ℕ → Bool) (xs : List ℕ) → list_all p (take (prefix_len p xs) xs) ≡ true
-span_passes p [] = refl
-span_passes p (c ∷ cs) =
-    ⊎_elim
-    (λ passes.
-    let n : prefix_len p (c ∷ cs) ≡ suc (prefix_len p cs) = cond-true (p c) (1 + prefix_len p cs) 0 passes ∙ one-add (prefix_len p cs) in
-    subst (λ k. list_all p (take k (c ∷ cs)) ≡ true) (sym n) (and_from (p c) (list_all p (take (prefix_len p cs) cs)) passes (span_passes p cs)))
-    (λ fails.
-    let n : prefix_len p (c ∷ cs) ≡ 0 = cond-false (p c) (1 + prefix_len p cs) 0 fails in
-    subst (λ k. list_all p (take k (c ∷ cs)) ≡ true) (sym n) refl)
-    (cases_Bool (p c))
+-- the first elements pass, up to one that doesn't or the end
+abbrev pub IsSpan : (ℕ → Bool) → List ℕ → ℕ → Type 0
+IsSpan p xs n = (list_all p (take n xs) ≡ true) × (begins p (drop n xs) ≡ false)
 
-pub span_stops : (p : ℕ → Bool) (xs : List ℕ) → begins p (drop (prefix_len p xs) xs) ≡ false
-span_stops p [] = refl
-span_stops p (c ∷ cs) =
+-- the longest front that passes does, and what is behind it begins with nothing that passes
+pub span_is : (p : ℕ → Bool) (xs : List ℕ) → IsSpan p xs (prefix_len p xs)
+span_is p [] = (refl, refl)
+span_is p (c ∷ cs) =
     ⊎_elim
     (λ passes.
     let n : prefix_len p (c ∷ cs) ≡ suc (prefix_len p cs) = cond-true (p c) (1 + prefix_len p cs) 0 passes ∙ one-add (prefix_len p cs) in
-    subst (λ k. begins p (drop k (c ∷ cs)) ≡ false) (sym n) (span_stops p cs))
-    (λ fails.
-    let n : prefix_len p (c ∷ cs) ≡ 0 = cond-false (p c) (1 + prefix_len p cs) 0 fails in
-    subst (λ k. begins p (drop k (c ∷ cs)) ≡ false) (sym n) fails)
+    let later = span_is p cs in
+    subst (IsSpan p (c ∷ cs)) (sym n) (and_from (p c) (list_all p (take (prefix_len p cs) cs)) passes later.0, later.1))
+    (λ fails. subst (IsSpan p (c ∷ cs)) (sym (cond-false (p c) (1 + prefix_len p cs) 0 fails)) (refl, fails))
     (cases_Bool (p c))
 
 begins_word : (rest : List ℕ) → begins_with_word_byte rest ≡ begins is_word_byte rest
@@ -108,7 +93,7 @@ front_of_quoted quote text rest letter quotes all =
     (quoted_front_closed quote quote (text ++ quote ∷ rest) text rest (length text) (sym n)
     (sym (take_at text (quote ∷ rest) (length text) refl)) (drop_at text (quote ∷ rest) (length text) refl) refl))
 
-front_of_sign : (sign : SignKind) (rest : List ℕ) → front (sign_byte sign ∷ rest) ≡ Some (Sign sign, rest)
+pub front_of_sign : (sign : SignKind) (rest : List ℕ) → front (sign_byte sign ∷ rest) ≡ Some (Sign sign, rest)
 unfolding front
 front_of_sign OpenBrace rest = refl
 front_of_sign CloseBrace rest = refl
@@ -144,18 +129,12 @@ pub record IsFront (bytes : List ℕ) (token : Token) (rest : List ℕ) : Type 0
   pub is_ended : IsEndedBefore token rest
 
 written_word : (word : List ℕ) → IsWord word → IsWrittenAs (token_of_word word) word
-written_word word is =
-    ⊎_elim
-    (λ reserved. subst (λ t. IsWrittenAs t word) (token_of_reserved word word true refl (sym reserved) refl) (refl, reserved))
-    (λ free. subst (λ t. IsWrittenAs t word) (token_of_name word word false refl (sym free) refl) (refl, is, free))
-    (cases_Bool (is_reserved word))
+unfolding token_of_word
+written_word word is = cond_both (is_reserved word) _ _ (λ t. IsWrittenAs t word) (λ reserved. (refl, reserved)) (λ free. (refl, is, free))
 
 ended_word : (word rest : List ℕ) → begins_with_word_byte rest ≡ false → IsEndedBefore (token_of_word word) rest
-ended_word word rest ended =
-    ⊎_elim
-    (λ reserved. subst (λ t. IsEndedBefore t rest) (token_of_reserved word word true refl (sym reserved) refl) ended)
-    (λ free. subst (λ t. IsEndedBefore t rest) (token_of_name word word false refl (sym free) refl) ended)
-    (cases_Bool (is_reserved word))
+unfolding token_of_word
+ended_word word rest ended = cond_both (is_reserved word) _ _ (λ t. IsEndedBefore t rest) (λ reserved. ended) (λ free. ended)
 
 word_is_front : (c : ℕ) (cs : List ℕ) (token : Token) (rest : List ℕ) → is_letter c ≡ true → word_front (c ∷ cs) ≡ Some (token, rest) → IsFront (c ∷ cs) token rest
 unfolding word_front
@@ -168,18 +147,18 @@ word_is_front c cs token rest letter found =
     ⊎_elim
     (λ short.
     let pair = sym (cond-true (leb (suc k) 128) _ _ short) ∙ there in
-    let parts = some_pair (token_of_word (c ∷ take k cs)) token (drop k cs) rest pair in
+    let parts = some_pair_parts (token_of_word (c ∷ take k cs)) token (drop k cs) rest pair in
     let token_is : token_of_word (c ∷ take k cs) ≡ token = parts.0 in
     let rest_is : drop k cs ≡ rest = parts.1 in
-    let is : IsWord (c ∷ take k cs) = (letter, span_passes is_word_byte cs, omega (arith, leb-true (suc k) 128 short, length-take-le k cs (prefix_len-le-length is_word_byte cs))) in
-    let ended : begins_with_word_byte (drop k cs) ≡ false = begins_word (drop k cs) ∙ span_stops is_word_byte cs in
+    let is : IsWord (c ∷ take k cs) = (letter, (span_is is_word_byte cs).0, omega (arith, leb-true (suc k) 128 short, length-take-le k cs (prefix_len-le-length is_word_byte cs))) in
+    let ended : begins_with_word_byte (drop k cs) ≡ false = begins_word (drop k cs) ∙ (span_is is_word_byte cs).1 in
     record {
       written = c ∷ take k cs;
       split = ap (λ w. c ∷ w) (sym (take-append-drop k cs)) ∙ ap (λ r. (c ∷ take k cs) ++ r) rest_is;
       is_written = subst (λ t. IsWrittenAs t (c ∷ take k cs)) token_is (written_word (c ∷ take k cs) is);
       is_ended = subst (λ r. IsEndedBefore token r) rest_is (subst (λ t. IsEndedBefore t (drop k cs)) token_is (ended_word (c ∷ take k cs) (drop k cs) ended));
     })
-    (λ long. let none : Option (Token × List ℕ) = None in let clash : none ≡ some = sym (cond-false (leb (suc k) 128) _ _ long) ∙ there in cc clash)
+    (λ long. absurd (none-some (token, rest) (sym (cond-false (leb (suc k) 128) _ _ long) ∙ there)))
     (cases_Bool (leb (suc k) 128))
 
 closed_parts : (quote : ℕ) (text behind : List ℕ) (token : Token) (rest : List ℕ) → closed quote text behind ≡ Some (token, rest) → (behind ≡ quote ∷ rest) × (Quoted text ≡ token)
@@ -189,9 +168,9 @@ closed_parts quote text (c ∷ cs) token rest found =
     (λ same.
     let pair = sym (cond-true (eqb c quote) _ _ same) ∙ found in
     let here : c ≡ quote = eqb-true c quote same in
-    let parts = some_pair (Quoted text) token cs rest pair in
+    let parts = some_pair_parts (Quoted text) token cs rest pair in
     (ap (λ d. d ∷ cs) here ∙ ap (λ r. quote ∷ r) parts.1, parts.0))
-    (λ other. let none : None ≡ Some (token, rest) = sym (cond-false (eqb c quote) _ _ other) ∙ found in cc)
+    (λ other. absurd (none-some (token, rest) (sym (cond-false (eqb c quote) _ _ other) ∙ found)))
     (cases_Bool (eqb c quote))
 
 written_string : (quote : ℕ) (text : List ℕ) → is_quote quote ≡ true → list_all (is_text_byte quote) text ≡ true → IsWrittenAs (Quoted text) (quote ∷ text ++ quote ∷ [])
@@ -211,7 +190,7 @@ string_is_front quote cs token rest quotes found =
     record {
       written = quote ∷ text ++ quote ∷ [];
       split = ap (λ r. quote ∷ r) bytes ∙ sym (quoted_bytes quote text (quote ∷ text ++ quote ∷ []) rest refl);
-      is_written = subst (λ t. IsWrittenAs t (quote ∷ text ++ quote ∷ [])) parts.1 (written_string quote text quotes (span_passes (is_text_byte quote) cs));
+      is_written = subst (λ t. IsWrittenAs t (quote ∷ text ++ quote ∷ [])) parts.1 (written_string quote text quotes (span_is (is_text_byte quote) cs).0);
       is_ended = subst (λ t. IsEndedBefore t rest) parts.1 tt;
     }
 
@@ -242,7 +221,7 @@ sign_of_byte c sign found =
 sign_parts : (c : ℕ) (cs : List ℕ) (sign : Option SignKind) (token : Token) (rest : List ℕ) → ((s : SignKind) → sign ≡ Some s → sign_byte s ≡ c) → with_sign sign cs ≡ Some (token, rest) → IsFront (c ∷ cs) token rest
 sign_parts c cs None token rest byte found = cc
 sign_parts c cs (Some sign) token rest byte found =
-    let parts = some_pair (Sign sign) token cs rest found in
+    let parts = some_pair_parts (Sign sign) token cs rest found in
     let token_is : Sign sign ≡ token = parts.0 in
     let rest_is : cs ≡ rest = parts.1 in
     record {
@@ -276,12 +255,12 @@ blank_no_front c cs token rest blank found =
     ⊎_elim
     (λ two.
     ⊎_elim
-    (λ space. let f : None ≡ Some (token, rest) = none 32 space in cc)
-    (λ tab. let f : None ≡ Some (token, rest) = none 9 tab in cc)
+    (λ space. none-some (token, rest) (none 32 space))
+    (λ tab. none-some (token, rest) (none 9 tab))
     (or_cases (eqb c 32) (eqb c 9) two))
-    (λ return. let f : None ≡ Some (token, rest) = none 13 return in cc)
+    (λ return. none-some (token, rest) (none 13 return))
     (or_cases (eqb c 32 || eqb c 9) (eqb c 13) three))
-    (λ feed. let f : None ≡ Some (token, rest) = none 10 feed in cc)
+    (λ feed. none-some (token, rest) (none 10 feed))
     (or_cases (eqb c 32 || eqb c 9 || eqb c 13) (eqb c 10) blank)
 
 -- no token begins with a blank

@@ -1,21 +1,17 @@
 -- How the token at the front of bytes is found: by its first byte, and then as long as it can be.
-use Rattle.std.specs.Prelude.{◌==◌, ◌&&◌, ◌||◌, ℕ, Bool, not, cond, nat_le, Option, Some, None, List, [], ◌∷◌, take, drop}
+use Rattle.std.specs.Prelude.{◌==◌, ◌||◌, ℕ, Bool, cond, nat_le, Option, Some, None, List, [], ◌∷◌, take, drop}
 use Rattle.std.specs.List.{prefix_len}
 use denote.Ref.{Bor}
 use Rattle.slicc_ast.specs.declared.token.Token.{Token}
 use Rattle.slicc_ast.specs.declared.token.Token.TheVariants.{Name, Reserved, Quoted, Sign}
 use Rattle.slicc_ast.specs.declared.token.Sign.{Sign as SignKind}
 use Rattle.slicc_ast.specs.declared.token.Sign.TheVariants.{OpenBrace, CloseBrace, OpenParenthesis, CloseParenthesis, Comma, Colon, Semicolon, Dot, Assign, Star}
-use Rattle.slicc_ast.specs.Bytes.{is_letter, is_word_byte, is_printable}
+use Rattle.slicc_ast.specs.Bytes.{is_letter, is_word_byte, is_text_byte}
 use Rattle.slicc_ast.specs.Tokens.{is_reserved}
 
 -- what a string begins with
 abbrev pub is_quote : ℕ → Bool
 is_quote c = (c == 34) || (c == 39)
-
--- what may stand in a string between these quotes
-abbrev pub is_text_byte : ℕ → ℕ → Bool
-is_text_byte quote c = is_printable c && not (c == quote)
 
 -- the sign that a byte is
 abbrev pub sign_of : ℕ → Option SignKind

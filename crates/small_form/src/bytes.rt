@@ -1,7 +1,7 @@
 ghost use Rattle.std.specs.Prelude.{◌≡◌};
 ghost use Rattle.std.specs.List.{prefix_len};
-ghost use Rattle.slicc_ast.specs.Bytes.{is_blank, is_letter, is_word_byte};
-ghost use Rattle.small_form.specs.Lexing.{is_quote, is_text_byte};
+ghost use Rattle.slicc_ast.specs.Bytes.{is_blank, is_letter, is_text_byte, is_word_byte};
+ghost use Rattle.small_form.specs.Lexing.{is_quote};
 
 /// Whether the byte is a space, a tab, a carriage return or a line feed.
 fn is_blank(byte: u8) -> bool

@@ -1,47 +1,15 @@
 ghost use Rattle.std.specs.Prelude.{◌≡◌, ◌↔◌, ◌++◌, List, ℕ, IsTrue, map, codes};
 ghost use Rattle.std.specs.List.{list_any, list_all};
 ghost use Rattle.std.specs.Str.{bytes_eq};
-ghost use Rattle.slicc_ast.specs.WellFormed.{is_among, are_distinct, are_single, is_declared, is_default, is_same_pair, permissions, state_names, event_names, IsWellFormed};
-ghost use Rattle.small_form.specs.Checking.{AreStatesWellFormed, AreEventsWellFormed, AreBodiesWellFormed, AreNamesWellFormed, AreTransitionsWellFormed};
+ghost use Rattle.slicc_ast.specs.WellFormed.{is_among, are_distinct, are_single, is_declared, is_default, is_same_pair, permissions, state_names, event_names, AreStatesWellFormed, AreEventsWellFormed, AreBodiesWellFormed, AreNamesWellFormed, AreTransitionsWellFormed, IsWellFormed};
 ghost use Rattle.slicc_ast.specs.declared.machine.State.{State as StateTree};
 
 use crate::items::split_front;
 use crate::words::is_permission;
-use slicc_ast::{Event, Machine, State, Transition};
+use slicc_ast::{Machine, Named, State, Transition};
 
 /// The most states, and the most events, of a machine. The limit is this project's own.
 const MOST_MEMBERS: usize = 256;
-
-/// What has a name in a list of declarations.
-trait Named {
-    ghost name_of: { Self → List ℕ };
-
-    fn name(&self) -> &[u8]
-        ensures { result.now ≡ name_of self.now };
-}
-
-impl Named for State {
-    ghost name_of = { λ s. s.name };
-
-    fn name(&self) -> &[u8] {
-        self.name.as_slice()
-    }
-}
-
-impl Named for Event {
-    ghost name_of = { λ e. e.name };
-
-    fn name(&self) -> &[u8] {
-        self.name.as_slice()
-    }
-}
-
-/// Whether every one of the tests holds.
-fn every(tests: &[bool]) -> bool
-    ensures { result ≡ list_all (λ test. test) tests.now }
-{
-    tests.iter().all(|test| *test)
-}
 
 /// Whether one of the declarations has this name.
 fn is_among<N: Named>(declared: &[N], name: &[u8]) -> bool
@@ -55,6 +23,20 @@ fn is_among<N: Named>(declared: &[N], name: &[u8]) -> bool
         rest = later;
     }
     false
+}
+
+/// Whether the machine has a state of this name.
+fn is_state(m: &Machine, name: &[u8]) -> bool
+    ensures { result ≡ is_among (state_names m.now) name.now }
+{
+    is_among(m.states.members.as_slice(), name)
+}
+
+/// Whether the machine has an event of this name.
+fn is_event(m: &Machine, name: &[u8]) -> bool
+    ensures { result ≡ is_among (event_names m.now) name.now }
+{
+    is_among(m.events.members.as_slice(), name)
 }
 
 /// Whether no name is declared twice.
@@ -88,7 +70,7 @@ fn is_default_declared(m: &Machine) -> bool
         return false;
     };
     match behind_name.strip_prefix("_State_".as_bytes()) {
-        Some(state) => is_among(m.states.members.as_slice(), state),
+        Some(state) => is_state(m, state),
         None => false,
     }
 }
@@ -98,13 +80,11 @@ fn are_states_well_formed(m: &Machine) -> bool
     ensures { IsTrue result ↔ AreStatesWellFormed m.now }
 {
     let states = m.states.members.as_slice();
-    every(&[
-        0 < states.len(),
-        states.len() <= MOST_MEMBERS,
-        are_distinct(states),
-        are_permitted(states),
-        is_default_declared(m),
-    ])
+    0 < states.len()
+        && states.len() <= MOST_MEMBERS
+        && are_distinct(states)
+        && are_permitted(states)
+        && is_default_declared(m)
 }
 
 /// Whether the events are 1 to 256 with different names.
@@ -112,11 +92,7 @@ fn are_events_well_formed(m: &Machine) -> bool
     ensures { IsTrue result ↔ AreEventsWellFormed m.now }
 {
     let events = m.events.members.as_slice();
-    every(&[
-        0 < events.len(),
-        events.len() <= MOST_MEMBERS,
-        are_distinct(events),
-    ])
+    0 < events.len() && events.len() <= MOST_MEMBERS && are_distinct(events)
 }
 
 /// Whether the statements of the port and the action name the port and a declared event.
@@ -124,15 +100,10 @@ fn are_bodies_well_formed(m: &Machine) -> bool
     ensures { IsTrue result ↔ AreBodiesWellFormed m.now }
 {
     let port = m.port.name.as_slice();
-    every(&[
-        m.port.body.port.as_slice() == port,
-        m.port.body.then.port.as_slice() == port,
-        m.action.body.port.as_slice() == port,
-        is_among(
-            m.events.members.as_slice(),
-            m.port.body.then.then.event.as_slice(),
-        ),
-    ])
+    m.port.body.port.as_slice() == port
+        && m.port.body.then.port.as_slice() == port
+        && m.action.body.port.as_slice() == port
+        && is_event(m, m.port.body.then.then.event.as_slice())
 }
 
 /// Whether machine, port and action have different names, and the action none that means a stall.
@@ -142,25 +113,17 @@ fn are_names_well_formed(m: &Machine) -> bool
     let name = m.name.as_slice();
     let port = m.port.name.as_slice();
     let action = m.action.name.as_slice();
-    every(&[
-        name != port,
-        name != action,
-        port != action,
-        action != "z_stall".as_bytes(),
-    ])
+    name != port && name != action && port != action && action != "z_stall".as_bytes()
 }
 
 /// Whether the names in a transition are declared.
 fn is_declared(m: &Machine, transition: &Transition) -> bool
     ensures { result ≡ is_declared m.now transition.now }
 {
-    let states = m.states.members.as_slice();
-    every(&[
-        is_among(states, transition.state.as_slice()),
-        is_among(m.events.members.as_slice(), transition.event.as_slice()),
-        is_among(states, transition.next.as_slice()),
-        transition.action.as_slice() == m.action.name.as_slice(),
-    ])
+    is_state(m, transition.state.as_slice())
+        && is_event(m, transition.event.as_slice())
+        && is_state(m, transition.next.as_slice())
+        && transition.action.as_slice() == m.action.name.as_slice()
 }
 
 /// Whether the names in each transition are declared.
@@ -204,24 +167,21 @@ fn are_single(transitions: &[Transition]) -> bool
     true
 }
 
-/// Whether there is a transition, and no pair of state and event has two.
+/// Whether there is a transition, each is of declared names, and no pair of state and event has two.
 fn are_transitions_well_formed(m: &Machine) -> bool
     ensures { IsTrue result ↔ AreTransitionsWellFormed m.now }
 {
     let transitions = m.transitions.as_slice();
-    every(&[0 < transitions.len(), are_single(transitions)])
+    0 < transitions.len() && are_declared(m) && are_single(transitions)
 }
 
 /// Whether the machine keeps every condition that the grammar doesn't state.
 pub fn is_well_formed(m: &Machine) -> bool
     ensures { IsTrue result ↔ IsWellFormed m.now }
 {
-    every(&[
-        are_states_well_formed(m),
-        are_events_well_formed(m),
-        are_bodies_well_formed(m),
-        are_names_well_formed(m),
-        are_declared(m),
-        are_transitions_well_formed(m),
-    ])
+    are_states_well_formed(m)
+        && are_events_well_formed(m)
+        && are_bodies_well_formed(m)
+        && are_names_well_formed(m)
+        && are_transitions_well_formed(m)
 }

@@ -1,8 +1,7 @@
-use Rattle.std.proofs.Common.{◌++◌, List, ℕ, None, Some, map, codes, ap, ap₂, sym, ◌∙◌}
+use Rattle.std.proofs.Common.{◌++◌, List, ℕ, None, Some, codes, ap, ap₂, sym, ◌∙◌}
 use Rattle.std.proofs.lemmas.Bool.Decides.{Decides-eqb}
 use Rattle.std.proofs.lemmas.Slice.Eq.{strip_prefix_is}
-use Rattle.slicc_ast.specs.declared.machine.State.{State}
-use Rattle.slicc_ast.specs.WellFormed.{is_among, state_names}
+use Rattle.slicc_ast.specs.WellFormed.{state_names}
 use Rattle.small_form.proofs.Checked.{default_of_none, default_of_state, default_of_other}
 use Rattle.small_form.proofs.checker.is_default_declared.Goals as goal
 
@@ -17,8 +16,7 @@ returns-in-Some-strip_prefix c =
     let name_stripped = strip_prefix_is Decides-eqb c.as_slice.result.now c.as_slice-2.result.now (Some c.in-Some.behind_name) c.in-Some.ensures.cases in
     let raw = strip_prefix_is Decides-eqb c.in-Some.behind_name.now c.as_bytes.result.now (Some c.in-Some-strip_prefix.state) c.in-Some-strip_prefix.ensures.cases in
     let middle_stripped = raw ∙ ap (λ middle. middle ++ c.in-Some-strip_prefix.state.now) c.as_bytes.ensures.value in
-    c.is_among.ensures
-    ∙ ap (λ (members : List State). is_among (map (λ (s : State). s.name) members) c.in-Some-strip_prefix.state.now) c.as_slice-in-Some-strip_prefix.ensures
+    c.is_state.ensures
     ∙ default_of_state c.args.m.now.states.default c.args.m.now.name (codes "_State_") c.in-Some-strip_prefix.state.now (state_names c.args.m.now)
     (sym c.as_slice.ensures ∙ name_stripped ∙ ap₂ (λ (n : List ℕ) (b : List ℕ). n ++ b) c.as_slice-2.ensures middle_stripped)
 

@@ -1,6 +1,6 @@
 use Rattle.std.proofs.Common.{arith, sym, ◌∙◌}
 use Rattle.std.proofs.lemmas.List.Sums.{prefix_len-le-length}
-use Rattle.small_form.specs.Lexing.{is_text_byte}
+use Rattle.slicc_ast.specs.Bytes.{is_text_byte}
 use Rattle.small_form.proofs.Front.{quoted_front_open, quoted_front_bad, quoted_front_closed}
 use Rattle.small_form.proofs.lexer.front_quoted.Goals as goal
 
