@@ -1,19 +1,16 @@
 -- What each lawful step keeps of the world, and what it makes true of the entry that it writes, holds along a run.
-use Rattle.std.proofs.Common.{◌≡◌, Option, None, Some, List, [], ◌∷◌, fold, cond, subst, is_none, Bool, true, false, refl, All}
+use Rattle.std.proofs.Common.{◌≡◌, Option, None, Some, List, [], ◌∷◌, fold, cond, subst, is_none, Bool, true, All}
+use Rattle.std.proofs.lemmas.Bool.{cond_both}
 use Rattle.std.specs.Option.{option_to_list}
 use Rattle.std.proofs.lemmas.List.Elements.{All-append, All-nil}
 use Rattle.slicc_meaning.specs.declared.record.Entry.{Entry}
 use Rattle.run_journal.specs.declared.event.Event.{Event}
-use Rattle.slicc_meaning.specs.declared.record.Verdict.{Verdict}
 use Rattle.slicc_meaning.specs.declared.world.Setting.{Setting}
 use Rattle.slicc_meaning.specs.declared.world.World.{World}
 use Rattle.slicc_meaning.specs.Run.{Ran, ran_on, go_on, IsRun}
 use Rattle.slicc_meaning.specs.Step.{Stepped, step, step_lawfully}
 use Rattle.slicc_meaning.specs.World.{opening}
-
-pub runs-none : (verdict : Option Verdict) → is_none verdict ≡ true → verdict ≡ None
-runs-none None is = refl
-runs-none (Some v) is = absurd (cc is)
+use Rattle.slicc_meaning.proofs.Optional.{none_is}
 
 module _ (Holds : World → Type 0) (IsGood : Entry → Type 0) where
   -- after a step, where there is one
@@ -26,12 +23,11 @@ module _ (Holds : World → Type 0) (IsGood : Entry → Type 0) where
   IsKeptSoFar (Some r) = Holds r.world × All IsGood r.journal
 
   pub kept-where : (b : Bool) (o : Option Stepped) → (b ≡ true → IsKept o) → IsKept (cond b o None)
-  kept-where true o holds = holds refl
-  kept-where false o holds = tt
+  kept-where b o holds = cond_both b o None IsKept holds (λ not. tt)
 
   module _ (s : Setting) (lawful : (w : World) (e : Event) → w.verdict ≡ None → Holds w → IsKept (step_lawfully s w e)) where
     step-keeps : (w : World) (e : Event) → Holds w → IsKept (step s w e)
-    step-keeps w e holds = kept-where (is_none w.verdict) (step_lawfully s w e) (λ runs. lawful w e (runs-none w.verdict runs) holds)
+    step-keeps w e holds = kept-where (is_none w.verdict) (step_lawfully s w e) (λ runs. lawful w e (none_is w.verdict runs) holds)
 
     ran_on-keeps : (journal : List Entry) (o : Option Stepped) → All IsGood journal → IsKept o → IsKeptSoFar (ran_on o journal)
     ran_on-keeps journal None good kept = tt

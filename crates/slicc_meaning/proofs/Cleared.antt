@@ -1,6 +1,7 @@
 -- At the beginning of a cycle no controller's wake-up has ended, and nobody holds one: so it is in the opening, and after
 -- a turn that leaves no verdict.
 use Rattle.std.proofs.Common.{◌≡◌, ◌||◌, ◌++◌, ℕ, zero, suc, Bool, true, false, Option, None, Some, List, [], ◌∷◌, map, length, refl, ◌∙◌, ap, cond, fold, replicate, is_none, nat_lt, IsTrue}
+use Rattle.std.proofs.lemmas.Bool.{cond_both}
 use Rattle.std.specs.List.{list_any}
 use Rattle.slicc_meaning.specs.declared.record.Entry.{Entry}
 use Rattle.run_journal.specs.declared.event.Event.{Event}
@@ -36,12 +37,10 @@ after-ran P None journal holds = tt
 after-ran P (Some st) journal holds = holds
 
 pub where_true : (P : World → Type 0) (b : Bool) (o : Option Stepped) → (b ≡ true → AfterStep P o) → AfterStep P (cond b o None)
-where_true P true o holds = holds refl
-where_true P false o holds = tt
+where_true P b o holds = cond_both b o None (AfterStep P) holds (λ not. tt)
 
 pub where_false : (P : World → Type 0) (b : Bool) (o : Option Stepped) → (b ≡ false → AfterStep P o) → AfterStep P (cond b None o)
-where_false P true o holds = tt
-where_false P false o holds = holds refl
+where_false P b o holds = cond_both b None o (AfterStep P) (λ is. tt) holds
 
 begun-touched : (now : ℕ) (places : List Place) → list_any is_touched (map (begun now) places) ≡ list_any is_held places
 begun-touched now [] = refl

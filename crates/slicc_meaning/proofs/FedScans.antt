@@ -1,5 +1,6 @@
 -- Each transition that fires has consumed a message, where each written transition has the one action, which dequeues.
 use Rattle.std.proofs.Common.{◌≡◌, ◌⊎◌, inl, inr, ◌≤◌, ℕ, Bool, true, false, Option, None, Some, List, [], ◌∷◌, refl, sym, subst, cond, fold, length, is_some, slice_get, nat_le, All, arith}
+use Rattle.std.proofs.lemmas.Bool.{cond_both}
 use Rattle.std.proofs.lemmas.Bool.Decides.{nat_tests}
 use Rattle.std.proofs.lemmas.List.Elements.{All-filter, All-map, All-cons, All-nil}
 use Rattle.slicc_ast.specs.declared.machine.Machine.{Machine}
@@ -25,7 +26,6 @@ use Rattle.slicc_meaning.specs.Statements.{dequeue, run_action, act, front_of}
 use Rattle.slicc_meaning.specs.Try.{settled, fire_first, peek_front, if_ready}
 use Rattle.slicc_meaning.specs.World.{scan_of}
 use Rattle.slicc_meaning.proofs.Lasting.{at-get}
-use Rattle.slicc_meaning.proofs.ScansKeep.{pick_scanned}
 
 abbrev pub ActsOnce : WrittenTransition → Type 0
 ActsOnce t = t.actions ≡ 0 ∷ []
@@ -89,7 +89,7 @@ module _ (m : MachinePlan) (feeds : IsFeeding m) (limit fired now : ℕ) where
 
   if_ready-fed : (i : If) (c : Controller) → IsFed limit fired (if_ready m i c now)
   if_ready-fed i c =
-      pick_scanned (IsFed limit fired) (is_some (front_of m i.port c now)) _ _ (peek_front-fed i.then.then c (front_of m i.then.port c now)) tt
+      cond_both (is_some (front_of m i.port c now)) _ _ (IsFed limit fired) (λ ready. peek_front-fed i.then.then c (front_of m i.then.port c now)) (λ quiet. tt)
 
   run_port-fed : (s : Scanned) (p : PortPlan) → IsFed limit fired s → IsFed limit fired (run_port m now s p)
   run_port-fed Full p fed = fed

@@ -9,7 +9,7 @@ use Rattle.ruby_value.specs.NumberBefore.{same_number, number_before}
 use Rattle.slicc_meaning.specs.Front.{with_message, without_message, message_before, earlier_message, least_message, front, is_ready}
 use Rattle.slicc_meaning.proofs.Tallies.{one, tally, tally-append, tally-filter_le}
 
-same-refl : (a : MsgNo) → same_number a a ≡ true
+pub same-refl : (a : MsgNo) → same_number a a ≡ true
 same-refl a = and_from (eqb a.sender a.sender) (eqb a.count a.count) (eq-eqb a.sender a.sender refl) (eq-eqb a.count a.count refl)
 
 same-is : (a b : MsgNo) → same_number a b ≡ true → a ≡ b

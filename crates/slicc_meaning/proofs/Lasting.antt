@@ -1,5 +1,6 @@
 -- What each change of a controller keeps holds of every controller of a run.
 use Rattle.std.proofs.Common.{◌≡◌, ◌+◌, ℕ, zero, suc, true, Option, None, Some, List, [], ◌∷◌, is_some, is_none, fold, length, refl, subst, All, slice_get, slice_set, replicate, nat_le}
+use Rattle.std.proofs.lemmas.Bool.{cond_both}
 use Rattle.std.specs.List.{list_any}
 use Rattle.std.proofs.lemmas.List.Elements.{All-head, All-tail, All-nil, All-append, All-replicate, All-set, All-map, All-weaker}
 use Rattle.slicc_meaning.specs.declared.controller.Acted.{Acted}
@@ -26,7 +27,7 @@ use Rattle.slicc_meaning.specs.declared.world.Seat.{Seat}
 use Rattle.slicc_meaning.specs.declared.world.Setting.{Setting}
 use Rattle.slicc_meaning.specs.declared.world.World.{World}
 use Rattle.ruby_value.specs.Ascending.{with_mark, marks_from}
-use Rattle.slicc_meaning.specs.Driver.{request_message, arrive, arrive_at, arrive_at_seat, issue_all, plain_turn}
+use Rattle.slicc_meaning.specs.Driver.{arrive, issue_all, plain_turn}
 use Rattle.slicc_meaning.specs.Front.{with_message, without_message}
 use Rattle.slicc_meaning.specs.Rows.{rows}
 use Rattle.slicc_meaning.specs.Run.{Ran, go_on, IsRun}
@@ -37,9 +38,9 @@ use Rattle.slicc_meaning.specs.Step.{take, is_holder, fired_by, ended_by, given_
 use Rattle.slicc_meaning.specs.Try.{settled, fire_first, peek_front, if_ready}
 use Rattle.slicc_meaning.specs.Verdict.{next_cycle, least_stopped, end_of_cycle}
 use Rattle.slicc_meaning.specs.World.{is_free, machine_plan, scan_of, opening_place, opening_places, opening}
+use Rattle.slicc_meaning.proofs.Places.{issue_all-keeps}
 use Rattle.slicc_meaning.proofs.Cleared.{AfterStep, AfterEvents, after-ran, where_true, where_false}
-use Rattle.slicc_meaning.proofs.ScansKeep.{pick, pick_scanned}
-use Rattle.slicc_meaning.proofs.Optional.{some_same}
+use Rattle.std.proofs.lemmas.Option.{same_Some}
 
 -- a fact of controllers that holds at the opening and that each change of a controller keeps
 pub record IsLasting (P : Controller → Type 0) : Type 0 where
@@ -70,7 +71,7 @@ AllHold P w = All (λ (p : Place). P p.controller) w.places
 
 pub at-get : {X : Type 0} (P : X → Type 0) (xs : List X) (c : ℕ) (x : X) → slice_get xs c ≡ Some x → All P xs → P x
 at-get P [] c x there all = absurd (cc there)
-at-get P (y ∷ ys) zero x there all = subst P (some_same there) (All-head P y ys all)
+at-get P (y ∷ ys) zero x there all = subst P (same_Some _ _ there) (All-head P y ys all)
 at-get P (y ∷ ys) (suc c) x there all = at-get P ys c x there (All-tail P y ys all)
 
 module _ (P : Controller → Type 0) (lasts : IsLasting P) where
@@ -85,7 +86,7 @@ module _ (P : Controller → Type 0) (lasts : IsLasting P) where
 
   act-holds : (m : MachinePlan) (now : ℕ) (acted : Acted) (a : ℕ) → P acted.controller → P (act m now acted a).controller
   act-holds m now acted a holds =
-      pick (λ r. P r.controller) (is_some acted.fault) acted _ holds (run_action-holds m (slice_get m.actions a) acted.controller acted.consumed now holds)
+      cond_both (is_some acted.fault) acted _ (λ r. P r.controller) (λ stopped. holds) (λ goes. run_action-holds m (slice_get m.actions a) acted.controller acted.consumed now holds)
 
   acts-hold : (m : MachinePlan) (now : ℕ) (acted : Acted) (actions : List ℕ) → P acted.controller → P (fold (act m now) acted actions).controller
   acts-hold m now acted [] holds = holds
@@ -109,7 +110,7 @@ module _ (P : Controller → Type 0) (lasts : IsLasting P) where
 
   if_ready-holds : (m : MachinePlan) (i : If) (c : Controller) (now : ℕ) → P c → AfterScan P (if_ready m i c now)
   if_ready-holds m i c now holds =
-      pick_scanned (AfterScan P) (is_some (front_of m i.port c now)) _ _ (peek_front-holds m i.then.then c now (front_of m i.then.port c now) holds) holds
+      cond_both (is_some (front_of m i.port c now)) _ _ (AfterScan P) (λ ready. peek_front-holds m i.then.then c now (front_of m i.then.port c now) holds) (λ quiet. holds)
 
   run_port-holds : (m : MachinePlan) (now : ℕ) (s : Scanned) (p : PortPlan) → AfterScan P s → AfterScan P (run_port m now s p)
   run_port-holds m now Full p holds = tt
@@ -124,7 +125,7 @@ module _ (P : Controller → Type 0) (lasts : IsLasting P) where
   scan_of-holds : (s : Setting) (m : Option MachinePlan) (c : Controller) (now : ℕ) → P c → AfterScan P (scan_of s m c now)
   scan_of-holds s None c now holds = holds
   scan_of-holds s (Some m) c now holds =
-      pick_scanned (AfterScan P) (nat_le s.limit c.fired) Full (scan_ports m m.ports c now) tt (ports-hold m now (Idle c) m.ports holds)
+      cond_both (nat_le s.limit c.fired) Full (scan_ports m m.ports c now) (AfterScan P) (λ full. tt) (λ free. ports-hold m now (Idle c) m.ports holds)
 
   -- one place changes
   at-place : (w : World) (c : ℕ) (p : Place) → slice_get w.places c ≡ Some p → AllHold P w → P p.controller
@@ -176,21 +177,12 @@ module _ (P : Controller → Type 0) (lasts : IsLasting P) where
       (ended_by-holds w.now p.controller (scan_at s w c p) holds (scan_of-holds s (machine_plan s c) p.controller w.now holds)) all)
 
   -- a turn
-  arrive_at-holds : (places : List Place) (c : ℕ) (m : Message) (o : Option Place) → slice_get places c ≡ o → All (λ (p : Place). P p.controller) places → All (λ (p : Place). P p.controller) (arrive_at places c m o)
-  arrive_at-holds places c m None there all = all
-  arrive_at-holds places c m (Some p) there all =
-      All-set (λ (q : Place). P q.controller) places c (arrive m p)
-      (lasts.arrives p.controller m (at-get (λ (q : Place). P q.controller) places c p there all)) all
-
-  seat-holds : (places : List Place) (m : Message) (seat : Option Seat) → All (λ (p : Place). P p.controller) places → All (λ (p : Place). P p.controller) (arrive_at_seat places m seat)
-  seat-holds places m None all = all
-  seat-holds places m (Some seat) all = arrive_at-holds places seat.controller m (slice_get places seat.controller) refl all
-
   issue_all-holds : (seats : List Seat) (sender count now : ℕ) (places : List Place) (rs : List Request) → All (λ (p : Place). P p.controller) places → All (λ (p : Place). P p.controller) (issue_all seats sender count now places rs)
-  issue_all-holds seats sender count now places [] all = all
-  issue_all-holds seats sender count now places (r ∷ rs) all =
-      let m : Message = request_message (record { sender = sender; count = count }) now r in
-      issue_all-holds seats sender (count + 1) now (arrive_at_seat places m (slice_get seats r.seat)) rs (seat-holds places m (slice_get seats r.seat) all)
+  issue_all-holds =
+      issue_all-keeps (All (λ (p : Place). P p.controller))
+      (λ places c p m there all.
+      All-set (λ (q : Place). P q.controller) places c (arrive m p)
+      (lasts.arrives p.controller m (at-get (λ (q : Place). P q.controller) places c p there all)) all)
 
   next_world-holds : (w : World) (next : Option ℕ) (verdict : Option Verdict) → AllHold P w → AllHold P (next_world w next verdict)
   next_world-holds w next (Some verdict) all = all

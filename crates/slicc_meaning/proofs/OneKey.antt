@@ -12,6 +12,7 @@ use Rattle.ruby_value.specs.Ascending.{has_mark, with_mark, marks_from}
 use Rattle.ruby_value.specs.NumberBefore.{number_before, same_number}
 use Rattle.slicc_meaning.specs.Front.{with_message, without_message}
 use Rattle.slicc_meaning.specs.States.{state_or, state_at, with_state}
+use Rattle.slicc_meaning.proofs.Inboxes.{same-refl}
 use Rattle.slicc_meaning.proofs.Orders.{nothing-there, head_or_rest, at-head, in-rest, in-filter, from-filter}
 
 module _ {X : Type 0} (p q : X → Bool) (x : X) (xs : List X) where
@@ -112,15 +113,12 @@ with_message-contains inbox m other =
       λ is. ⊎_elim (put-new p q m inbox other) (λ so. put-old p q m inbox other so.0 (numbers-apart other.number m.number so.1)) is,
     )
 
-same-itself : (a : MsgNo) → same_number a a ≡ true
-same-itself a = grind (arith, nat_tests)
-
 same-parts : (a b : MsgNo) → ((a.sender ≡ b.sender) × (a.count ≡ b.count)) ⊎ (not (same_number a b) ≡ true)
 same-parts a b = grind (arith, nat_tests)
 
 not-same : (a b : MsgNo) → not (same_number a b) ≡ true → a ≢ b
 not-same a b is = λ same.
-    let one : same_number a b ≡ true = subst (λ (n : MsgNo). same_number a n ≡ true) same (same-itself a) in
+    let one : same_number a b ≡ true = subst (λ (n : MsgNo). same_number a n ≡ true) same (same-refl a) in
     absurd (cc (is, one))
 
 apart-passes : (a b : MsgNo) → a ≢ b → not (same_number a b) ≡ true

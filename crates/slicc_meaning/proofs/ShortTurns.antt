@@ -37,8 +37,8 @@ use Rattle.slicc_meaning.proofs.NextCycles.{next_cycle-is}
 use Rattle.slicc_meaning.proofs.OneKey.{with_mark-has, marks_from-has}
 use Rattle.slicc_meaning.proofs.ShortRuns.{is_fired, each, sent, IsShortAt, IsShort, IsShortAfter, only-there, fired-more, ended-more, turned-more, sent-more, eaten-more, length-each, where_true-short, take-short, release-short, fire-short, done-short, three-kinds}
 use Rattle.slicc_meaning.proofs.Tallies.{one, tally, tally-true}
-use Rattle.slicc_meaning.proofs.Optional.{some_same}
-use Rattle.slicc_meaning.proofs.AlongRuns.{runs-none}
+use Rattle.std.proofs.lemmas.Option.{same_Some}
+use Rattle.slicc_meaning.proofs.Optional.{none_is}
 
 -- the world after the driver has acted: its one place may have a message more, which must be seen in the next cycle
 pub record IsDriven (n now : ℕ) (p : Place) (v : World) (numbers : List MsgNo) : Type 0 where
@@ -58,7 +58,7 @@ abbrev IsAhead : ℕ → ℕ → World → Type 0
 IsAhead n now v = (x : ℕ) → v.next ≡ Some x → (x ≡ now + 1) × (now < n)
 
 pub next-of : (now n x : ℕ) (b : Bool) → nat_lt (now + 1) n ≡ b → cond b (Some (now + 1)) None ≡ Some x → (x ≡ now + 1) × (now < n)
-next-of now n x true below is = (sym (some_same is), grind (arith, nat_tests, below))
+next-of now n x true below is = (sym (same_Some _ _ is), grind (arith, nat_tests, below))
 next-of now n x false below is = absurd (cc is)
 
 abbrev pub the_request : Request
@@ -275,7 +275,7 @@ module _ (s : Setting) (seats : s.topology.seats ≡ record { controller = 0 } �
 
     step-short : (w : World) (journal : List Entry) (e : Event) → IsShort s w journal → IsShortAfter s journal (step s w e)
     step-short w journal e is =
-        where_true-short s journal (is_none w.verdict) (step_lawfully s w e) (λ runs. lawful-short w journal e (runs-none w.verdict runs) is)
+        where_true-short s journal (is_none w.verdict) (step_lawfully s w e) (λ runs. lawful-short w journal e (none_is w.verdict runs) is)
 
     abbrev IsShortIf : Option Ran → Type 0
     IsShortIf None = Unit {0}
@@ -315,7 +315,7 @@ module _ (s : Setting) (seats : s.topology.seats ≡ record { controller = 0 } �
         let first : Ran = record { world = opening s; journal = [] } in
         subst IsShortIf is (run-short (Some first) history (opening-short counts))
 
-plain-seats : (p : Plan) → HasSeats (plain_of p)
+pub plain-seats : (p : Plan) → HasSeats (plain_of p)
 plain-seats p = search rules
 
 -- at most five entries for each request and three more, no more messages than requests, and at most two cycles for each
