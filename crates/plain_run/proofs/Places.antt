@@ -1,5 +1,5 @@
 -- Lists of places whose controllers change: how many there are, who is due, and who is held as a cycle begins.
-use Rattle.std.proofs.Common.{◌≡◌, ◌<◌, ◌+◌, ℕ, zero, suc, Bool, true, false, Option, None, Some, List, [], ◌∷◌, ◌||◌, map, length, refl, sym, ◌∙◌, ap, subst, cond, slice_get, slice_set, is_some, IsTrue, arith}
+use Rattle.std.proofs.Common.{◌≡◌, ◌<◌, ◌+◌, ℕ, zero, suc, Bool, true, false, Option, None, Some, List, [], ◌∷◌, ◌||◌, length, refl, sym, ◌∙◌, ap, subst, cond, slice_get, slice_set, is_some, IsTrue, arith}
 use Rattle.std.proofs.lemmas.Bool.{or_parts}
 use Rattle.std.specs.List.{list_any}
 use Rattle.std.specs.Option.{IsSomeAnd}
@@ -10,7 +10,7 @@ use Rattle.slicc_meaning.specs.declared.world.Place.{Place}
 use Rattle.slicc_meaning.specs.declared.world.Request.{Request}
 use Rattle.slicc_meaning.specs.declared.world.Seat.{Seat}
 use Rattle.slicc_meaning.specs.Driver.{arrive, issue_all}
-use Rattle.slicc_meaning.specs.Step.{begun, is_busy}
+use Rattle.slicc_meaning.specs.Step.{is_busy}
 use Rattle.slicc_meaning.specs.World.{is_free, is_due, is_held}
 use Rattle.slicc_meaning.specs.Step.{with_place}
 use Rattle.slicc_meaning.specs.declared.world.World.{World}
@@ -23,10 +23,6 @@ issue_all-length seats sender count now places rs =
     issue_all-keeps (λ after. length after ≡ length places)
     (λ after c p m there same. length-set after c (arrive m p) ∙ same)
     seats sender count now places rs refl
-
-pub begun-held : (now : ℕ) (places : List Place) → list_any is_held (map (begun now) places) ≡ list_any is_held places
-begun-held now [] = refl
-begun-held now (p ∷ places) = ap (λ b. is_held p || b) (begun-held now places)
 
 -- nobody is free and nobody is held, so nobody is busy
 not_busy : (now : ℕ) (p : Place) → is_free now p ≡ false → is_held p ≡ false → is_busy now p ≡ false

@@ -1,12 +1,12 @@
 -- A run by one worker goes on by one event.
 use Rattle.std.proofs.Common.{◌≡◌, List, [], ◌∷◌, ◌++◌, refl, sym, ap, ◌∙◌, subst}
+use Rattle.std.proofs.lemmas.Option.{same_Some}
 use Rattle.slicc_meaning.specs.declared.record.Entry.{Entry}
 use Rattle.run_journal.specs.declared.event.Event.{Event}
 use Rattle.slicc_meaning.specs.declared.world.Setting.{Setting}
 use Rattle.slicc_meaning.specs.declared.world.World.{World}
 use Rattle.slicc_meaning.specs.Alone.{IsAlone, IsAloneEvent}
 use Rattle.slicc_meaning.specs.Run.{Ran, IsRun}
-use Rattle.std.proofs.lemmas.Option.{same_Some}
 
 -- a list with one more at its end, parted at one of its elements: that is the last one, or an earlier one
 data Parted {A : Type 0} (xs before after : List A) (x y : A) : Type 0 where

@@ -26,6 +26,7 @@ use Rattle.slicc_meaning.specs.Statements.{dequeue, run_action, act, front_of}
 use Rattle.slicc_meaning.specs.Try.{settled, fire_first, peek_front, if_ready}
 use Rattle.slicc_meaning.specs.World.{scan_of}
 use Rattle.slicc_meaning.proofs.Lasting.{at-get}
+use Rattle.slicc_meaning.proofs.Folds.{fold-keeps}
 
 abbrev pub ActsOnce : WrittenTransition → Type 0
 ActsOnce t = t.actions ≡ 0 ∷ []
@@ -97,14 +98,10 @@ module _ (m : MachinePlan) (feeds : IsFeeding m) (limit fired now : ℕ) where
   run_port-fed (Stop at) p fed = tt
   run_port-fed (Idle after) p fed = if_ready-fed p.body after
 
-  ports-fed : (s : Scanned) (ports : List PortPlan) → IsFed limit fired s → IsFed limit fired (fold (run_port m now) s ports)
-  ports-fed s [] fed = fed
-  ports-fed s (p ∷ ports) fed = ports-fed (run_port m now s p) ports (run_port-fed s p fed)
-
 scan-fed : (m : MachinePlan) (feeds : IsFeeding m) (limit : ℕ) (c : Controller) (now : ℕ) (full : Bool) → nat_le limit c.fired ≡ full
     → IsFed limit c.fired (cond full Full (scan_ports m m.ports c now))
 scan-fed m feeds limit c now true is = grind (arith, nat_tests, is)
-scan-fed m feeds limit c now false is = ports-fed m feeds limit c.fired now (Idle c) m.ports tt
+scan-fed m feeds limit c now false is = fold-keeps (run_port m now) (IsFed limit c.fired) (run_port-fed m feeds limit c.fired now) (Idle c) m.ports tt
 
 pub scan_of-fed : (s : Setting) (k : ℕ) (machines : List MachinePlan) (o : Option MachinePlan) (c : Controller) (now : ℕ) → All IsFeeding machines
     → slice_get machines k ≡ o → IsFed s.limit c.fired (scan_of s o c now)

@@ -3,6 +3,7 @@ use Rattle.std.proofs.Common.{◌≡◌, ◌⊎◌, ◌↔◌, ℕ, Bool, true, 
 use Rattle.std.specs.List.{cons_option, filter_map, last_or}
 use Rattle.std.proofs.lemmas.Bool.Decides.{nat_tests}
 use Rattle.std.proofs.lemmas.List.Elements.{Contains-append_cases, Contains-append_left, Contains-append_right}
+use Rattle.std.proofs.lemmas.Option.{same_Some}
 use Rattle.slicc_meaning.specs.declared.record.Entry.{Entry}
 use Rattle.slicc_meaning.specs.declared.record.Entry.TheVariants.{Fired, Ended, Turned}
 use Rattle.run_journal.specs.declared.summary.Final.{Final}
@@ -11,7 +12,6 @@ use Rattle.slicc_meaning.specs.AreFinals.{AreFinals}
 use Rattle.slicc_meaning.specs.Finals.{final_before, with_final, after_entry, finals}
 use Rattle.slicc_meaning.specs.LastState.{next_state}
 use Rattle.slicc_meaning.proofs.Orders.{nothing-there, head_or_rest, at-head, in-rest, in-filter, from-filter, put-between}
-use Rattle.std.proofs.lemmas.Option.{same_Some}
 
 before : (a b : Final) → final_before a b ≡ true → IsBefore a b
 before a b is = grind (arith, nat_tests, is)

@@ -22,6 +22,7 @@ use Rattle.slicc_meaning.specs.States.{line_of, state_at}
 use Rattle.slicc_meaning.specs.Statements.{dequeue, run_action, act, run_actions, front_of}
 use Rattle.slicc_meaning.specs.Try.{settled, fire_first, peek_front, peek, if_ready}
 use Rattle.slicc_meaning.specs.Scan.{run_port, scan_ports, scan}
+use Rattle.slicc_meaning.proofs.Folds.{fold-keeps}
 
 -- the actions meet no fault `invalid`
 abbrev IsNotInvalid : Option Fault → Type 0
@@ -35,11 +36,9 @@ run_action-fault : (m : MachinePlan) (a : Option ActionPlan) (c : Controller) (c
 run_action-fault m None c consumed now = λ is. absurd (cc is)
 run_action-fault m (Some a) c consumed now = dequeue-fault c consumed (front_of m a.body.port c now)
 
-acts-fault : (m : MachinePlan) (now : ℕ) (acted : Acted) (actions : List ℕ) → IsNotInvalid acted.fault → IsNotInvalid (fold (act m now) acted actions).fault
-acts-fault m now acted [] none = none
-acts-fault m now acted (a ∷ actions) none =
-    acts-fault m now (act m now acted a) actions
-    (cond_both (is_some acted.fault) acted _ (λ r. IsNotInvalid r.fault) (λ stopped. none) (λ goes. run_action-fault m (slice_get m.actions a) acted.controller acted.consumed now))
+act-fault : (m : MachinePlan) (now : ℕ) (acted : Acted) (a : ℕ) → IsNotInvalid acted.fault → IsNotInvalid (act m now acted a).fault
+act-fault m now acted a none =
+    cond_both (is_some acted.fault) acted _ (λ r. IsNotInvalid r.fault) (λ stopped. none) (λ goes. run_action-fault m (slice_get m.actions a) acted.controller acted.consumed now)
 
 -- what a scan comes to is `invalid` at this pair, or is no `invalid`
 abbrev IsInvalidOf : ℕ → ℕ → ℕ → Scanned → Type 0
@@ -95,7 +94,7 @@ tried m c now p message (Some t) ready peeked row =
     ∙ ap (λ (f : Option Message). peek_front m p.body.then.then c now f) peeked
     ∙ ap (λ (r : Option WrittenTransition). fire_first m line state event c now r) row in
     let start : Acted = record { controller = c; consumed = []; fault = None } in
-    let none : IsNotInvalid acted.fault = acts-fault m now start t.actions (λ e. absurd (cc e)) in
+    let none : IsNotInvalid acted.fault = fold-keeps (act m now) (λ r. IsNotInvalid r.fault) (act-fault m now) start t.actions (λ e. absurd (cc e)) in
     Else
     (other-is _ _ is (settled-other line state event t.next acted.controller acted.consumed acted.fault none))
     (λ d idle. settled-busy line state event t.next acted.controller acted.consumed acted.fault d (sym is ∙ idle))

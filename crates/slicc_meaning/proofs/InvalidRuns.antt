@@ -4,6 +4,7 @@ use Rattle.std.proofs.lemmas.List.Sums.{fold-append}
 use Rattle.std.proofs.lemmas.List.Folds.{fold_stays}
 use Rattle.std.proofs.lemmas.List.{append-nil}
 use Rattle.std.specs.Option.{option_to_list}
+use Rattle.std.proofs.lemmas.Option.{same_Some}
 use Rattle.slicc_meaning.specs.declared.controller.Controller.{Controller}
 use Rattle.slicc_meaning.specs.declared.controller.Scanned.{Scanned}
 use Rattle.slicc_meaning.specs.declared.controller.Scanned.TheVariants as scanned
@@ -24,7 +25,6 @@ use Rattle.slicc_meaning.specs.Scan.{scan}
 use Rattle.slicc_meaning.specs.Step.{Stepped, step, is_holder, fired_by, fire, ended_by, given_back, done, scan_at}
 use Rattle.slicc_meaning.specs.World.{machine_plan, scan_of, opening}
 use Rattle.slicc_meaning.proofs.Invalid.{invalid-caused, invalid-comes}
-use Rattle.std.proofs.lemmas.Option.{same_Some}
 
 -- more events only add entries
 pub record Extends (before after : List Entry) : Type 0 where

@@ -2,11 +2,11 @@
 use Rattle.std.proofs.Common.{◌≡◌, ◌<◌, ◌≤◌, ◌⊎◌, ℕ, zero, suc, Bool, true, false, ◌||◌, ◌==◌, Option, None, Some, List, [], ◌∷◌, min, cond, nat_lt, refl, sym, subst, ap, inl, inr, ⊎_elim, IsTrue, eqb-true, eq-eqb, arith}
 use Rattle.std.proofs.lemmas.Bool.{cases_lt, or_right, or_left}
 use Rattle.std.proofs.lemmas.Bool.Decides.{nat_tests}
+use Rattle.std.proofs.lemmas.Option.{same_Some}
 use Rattle.slicc_meaning.specs.declared.world.Place.{Place}
 use Rattle.ruby_value.specs.Ascending.{has_mark}
 use Rattle.slicc_meaning.specs.NextCycle.{MustAct, IsLeastAboveIfAny, IsNextCycle}
 use Rattle.slicc_meaning.specs.Verdict.{earlier, above, least_above, later, next_cycle}
-use Rattle.std.proofs.lemmas.Option.{same_Some}
 
 -- two properties that hold of the same cycles
 like : (P Q : ℕ → Type 0) (now : ℕ) → ((m : ℕ) → P m → Q m) → ((m : ℕ) → Q m → P m) → (o : Option ℕ) → IsLeastAboveIfAny P now o → IsLeastAboveIfAny Q now o

@@ -5,6 +5,7 @@ use Rattle.std.specs.List.{list_any}
 use Rattle.std.proofs.lemmas.List.{append_assoc}
 use Rattle.std.proofs.lemmas.List.Folds.{list_any_at}
 use Rattle.std.proofs.lemmas.List.Quantifiers.{position-Some}
+use Rattle.std.proofs.lemmas.Option.{same_Some}
 use Rattle.slicc_meaning.specs.declared.controller.Controller.{Controller}
 use Rattle.slicc_meaning.specs.declared.controller.Scanned.{Scanned}
 use Rattle.slicc_meaning.specs.declared.controller.Scanned.TheVariants.{Full, Fired, Stop, Idle}
@@ -29,7 +30,6 @@ use Rattle.slicc_meaning.proofs.Cleared.{is_touched, AfterStep, AfterEvents, IsC
 use Rattle.slicc_meaning.proofs.Places.{holder-held, idle-nobody}
 use Rattle.slicc_meaning.proofs.Waking.{set-at}
 use Rattle.slicc_meaning.proofs.WokenOnce.{at_place, none-at, some-before, split-run, runs-on}
-use Rattle.std.proofs.lemmas.Option.{same_Some}
 
 abbrev held_at : World → ℕ → Bool
 held_at w c = at_place is_held (slice_get w.places c)

@@ -2,6 +2,7 @@
 use Rattle.std.proofs.Common.{◌≡◌, ◌≤◌, ◌+◌, ℕ, zero, suc, Bool, true, false, Option, None, Some, List, [], ◌∷◌, cond, refl, sym, subst, is_none, nat_lt, slice_get, arith}
 use Rattle.std.specs.List.{list_any}
 use Rattle.std.proofs.lemmas.Bool.Decides.{nat_tests}
+use Rattle.std.proofs.lemmas.Option.{same_Some}
 use Rattle.slicc_meaning.specs.declared.record.Entry.{Entry}
 use Rattle.run_journal.specs.declared.event.Event.TheVariants.{Turn}
 use Rattle.slicc_meaning.specs.declared.record.Verdict.TheVariants.{Cycles}
@@ -15,7 +16,6 @@ use Rattle.slicc_meaning.specs.Verdict.{next_cycle, least_stopped, end_of_cycle}
 use Rattle.slicc_meaning.proofs.Cleared.{AfterStep, where_true, where_false}
 use Rattle.slicc_meaning.proofs.NextCycles.{next_cycle-is}
 use Rattle.slicc_meaning.proofs.Optional.{none_is}
-use Rattle.std.proofs.lemmas.Option.{same_Some}
 
 abbrev StoppedAt : List Place → ℕ → Type 0
 StoppedAt places k = (p : Place) × (slice_get places k ≡ Some p) × (p.controller.stopped ≡ true)

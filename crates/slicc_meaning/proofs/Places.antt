@@ -1,5 +1,5 @@
 -- Lists of places whose controllers change: what arrivals keep, and who is held.
-use Rattle.std.proofs.Common.{◌≡◌, ◌+◌, ◌||◌, ℕ, zero, suc, Bool, true, false, Option, None, Some, List, [], ◌∷◌, refl, sym, ◌∙◌, ap, slice_get, slice_set, is_some}
+use Rattle.std.proofs.Common.{◌≡◌, ◌+◌, ◌||◌, ℕ, zero, suc, Bool, true, false, Option, None, Some, List, [], ◌∷◌, map, refl, sym, ◌∙◌, ap, slice_get, slice_set, is_some}
 use Rattle.std.proofs.lemmas.Bool.{or_parts}
 use Rattle.std.specs.List.{list_any}
 use Rattle.slicc_meaning.specs.declared.controller.Message.{Message}
@@ -9,6 +9,10 @@ use Rattle.slicc_meaning.specs.declared.world.Seat.{Seat}
 use Rattle.slicc_meaning.specs.Driver.{request_message, arrive, arrive_at, arrive_at_seat, issue_all}
 use Rattle.slicc_meaning.specs.Step.{is_busy, is_holder}
 use Rattle.slicc_meaning.specs.World.{is_due, is_held}
+
+pub any-map : {X Y : Type 0} (f : Y → Bool) (g : X → Y) (xs : List X) → list_any f (map g xs) ≡ list_any (λ x. f (g x)) xs
+any-map f g [] = refl
+any-map f g (x ∷ xs) = ap (λ b. f (g x) || b) (any-map f g xs)
 
 -- a test that the changed element answers as before
 any-set : {X : Type 0} (f : X → Bool) (xs : List X) (c : ℕ) (x y : X) → slice_get xs c ≡ Some x → f y ≡ f x → list_any f (slice_set xs c y) ≡ list_any f xs

@@ -4,6 +4,7 @@ use Rattle.std.proofs.Common.{◌≡◌, ◌<◌, ◌≤◌, ◌⊎◌, inl, inr
 use Rattle.std.specs.Option.{option_to_list}
 use Rattle.std.proofs.lemmas.Bool.Decides.{nat_tests}
 use Rattle.std.proofs.lemmas.List.Elements.{All-cons, All-nil}
+use Rattle.std.proofs.lemmas.Option.{same_Some}
 use Rattle.slicc_meaning.specs.declared.controller.Controller.{Controller}
 use Rattle.slicc_meaning.specs.declared.controller.Message.{Message}
 use Rattle.slicc_meaning.specs.declared.controller.Scanned.{Scanned}
@@ -27,7 +28,6 @@ use Rattle.slicc_meaning.proofs.KeptMarks.{KeepsMarks}
 use Rattle.slicc_meaning.proofs.PlainScans.{IsPlainScan}
 use Rattle.slicc_meaning.proofs.ScansKeep.{Keeps}
 use Rattle.slicc_meaning.proofs.ShortRuns.{only-there}
-use Rattle.std.proofs.lemmas.Option.{same_Some}
 
 abbrev pub IsNotFullEnd : End → Type 0
 IsNotFullEnd end.Idle = Unit {0}

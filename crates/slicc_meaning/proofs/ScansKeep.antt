@@ -1,5 +1,5 @@
 -- A scan changes inboxes and states alone, so it keeps each part of a controller that stands apart from both.
-use Rattle.std.proofs.Common.{◌≡◌, ℕ, Option, None, Some, List, [], ◌∷◌, is_some, fold, refl, ◌∙◌, slice_get}
+use Rattle.std.proofs.Common.{◌≡◌, ℕ, Option, None, Some, List, [], is_some, fold, refl, ◌∙◌, slice_get}
 use Rattle.std.proofs.lemmas.Bool.{cond_both}
 use Rattle.slicc_meaning.specs.declared.controller.Acted.{Acted}
 use Rattle.slicc_meaning.specs.declared.controller.Controller.{Controller}
@@ -20,6 +20,7 @@ use Rattle.slicc_meaning.specs.States.{line_of, state_at, with_state}
 use Rattle.slicc_meaning.specs.Statements.{dequeue, run_action, act, front_of}
 use Rattle.slicc_meaning.specs.Try.{settled, fire_first, peek_front, if_ready}
 use Rattle.slicc_meaning.specs.Scan.{run_port}
+use Rattle.slicc_meaning.proofs.Folds.{fold-keeps}
 
 -- what a scan leaves of a controller has this part as it was
 abbrev pub Keeps : {X : Type 0} → (Controller → X) → Controller → Scanned → Type 0
@@ -44,8 +45,8 @@ module _ {X : Type 0} (part : Controller → X)
       cond_both (is_some acted.fault) acted _ (λ r. part r.controller ≡ part acted.controller) (λ stopped. refl) (λ goes. run_action-part m _ acted.controller acted.consumed now)
 
   acts-part : (m : MachinePlan) (now : ℕ) (acted : Acted) (actions : List ℕ) → part (fold (act m now) acted actions).controller ≡ part acted.controller
-  acts-part m now acted [] = refl
-  acts-part m now acted (a ∷ actions) = acts-part m now (act m now acted a) actions ∙ act-part m now acted a
+  acts-part m now acted actions =
+      fold-keeps (act m now) (λ r. part r.controller ≡ part acted.controller) (λ r a same. act-part m now r a ∙ same) acted actions refl
 
   settled-keeps : (address state event next : ℕ) (c after : Controller) (consumed : List MsgNo) (fault : Option Fault) → part after ≡ part c → Keeps part c (settled address state event next after consumed fault)
   settled-keeps address state event next c after consumed None same = states after (with_state after.states address next) ∙ same
@@ -80,5 +81,4 @@ module _ {X : Type 0} (part : Controller → X)
   run_port-keeps m c now (Idle after) p keeps = keeps_from c after _ keeps (if_ready-keeps m p.body after now)
 
   pub ports-keep : (m : MachinePlan) (c : Controller) (now : ℕ) (s : Scanned) (ports : List PortPlan) → Keeps part c s → Keeps part c (fold (run_port m now) s ports)
-  ports-keep m c now s [] keeps = keeps
-  ports-keep m c now s (p ∷ ports) keeps = ports-keep m c now (run_port m now s p) ports (run_port-keeps m c now s p keeps)
+  ports-keep m c now s ports keeps = fold-keeps (run_port m now) (Keeps part c) (run_port-keeps m c now) s ports keeps

@@ -5,6 +5,7 @@ use Rattle.std.proofs.Common.{◌≡◌, ◌<◌, ◌≤◌, ◌⊎◌, inl, inr
 use Rattle.std.proofs.lemmas.Bool.{cond_both}
 use Rattle.std.specs.Option.{option_to_list}
 use Rattle.std.proofs.lemmas.List.{append-nil}
+use Rattle.std.proofs.lemmas.Option.{same_Some}
 use Rattle.slicc_meaning.specs.declared.controller.Controller.{Controller}
 use Rattle.ruby_value.specs.declared.message.MsgNo.{MsgNo}
 use Rattle.slicc_meaning.specs.declared.controller.Scanned.{Scanned}
@@ -27,8 +28,8 @@ use Rattle.slicc_meaning.proofs.KeptMarks.{KeepsMarks, scan-keeps}
 use Rattle.slicc_meaning.proofs.OneKey.{with_mark-has}
 use Rattle.slicc_meaning.proofs.Places.{holder-held}
 use Rattle.slicc_meaning.proofs.ScansKeep.{Keeps, ports-keep}
-use Rattle.slicc_meaning.proofs.Tallies.{one, tally, tally-append, tally-more}
-use Rattle.std.proofs.lemmas.Option.{same_Some}
+use Rattle.slicc_meaning.proofs.Tallies.{one, tally, tally-append, tally-true, tally-more}
+use Rattle.slicc_meaning.proofs.AlongRuns.{HoldsAfter}
 
 abbrev pub is_fired : Entry → Bool
 is_fired (entry.Fired cycle c note consumed) = true
@@ -78,8 +79,7 @@ pub record IsShort (s : Setting) (w : World) (journal : List Entry) : Type 0 whe
   pub short : IsShortAt s.driver.requests s.limit w.now (is_none w.verdict) place journal
 
 abbrev pub IsShortAfter : Setting → List Entry → Option Stepped → Type 0
-IsShortAfter s journal None = Unit {0}
-IsShortAfter s journal (Some st) = IsShort s st.world (journal ++ option_to_list st.entry)
+IsShortAfter s = HoldsAfter (IsShort s)
 
 pub only-there : (p q : Place) (c : ℕ) → slice_get (p ∷ []) c ≡ Some q → (c ≡ 0) × (p ≡ q)
 only-there p q zero there = (refl, same_Some _ _ there)
@@ -159,8 +159,7 @@ module _ (journal : List Entry) (e : Entry) where
   eaten-more = tally-more each consumed_in journal (e ∷ [])
 
 pub length-each : (numbers : List MsgNo) → tally each (numbers ++ []) ≡ length numbers
-length-each [] = refl
-length-each (n ∷ numbers) = omega (arith, length-each numbers)
+length-each numbers = ap (λ all. tally each all) (append-nil numbers) ∙ tally-true numbers
 
 pub keeps_fired : (s : Setting) (o : Option MachinePlan) (c : Controller) (now : ℕ) → Keeps (λ (d : Controller). d.fired) c (scan_of s o c now)
 keeps_fired s None c now = refl
