@@ -1,40 +1,28 @@
 -- Lists of places whose controllers change: how many there are, who is due, and who is held as a cycle begins.
-use Rattle.std.proofs.Common.{◌≡◌, ◌<◌, ◌+◌, ℕ, zero, suc, Bool, true, false, Option, None, Some, List, [], ◌∷◌, ◌||◌, map, length, refl, sym, ◌∙◌, ap, subst, cond, fold, zero-add, slice_get, slice_set, is_some, IsTrue, arith}
+use Rattle.std.proofs.Common.{◌≡◌, ◌<◌, ◌+◌, ℕ, zero, suc, Bool, true, false, Option, None, Some, List, [], ◌∷◌, ◌||◌, length, refl, sym, ◌∙◌, ap, subst, cond, slice_get, slice_set, is_some, IsTrue, arith}
+use Rattle.std.proofs.lemmas.Bool.{or_parts}
 use Rattle.std.specs.List.{list_any}
 use Rattle.std.specs.Option.{IsSomeAnd}
 use Rattle.std.specs.Prelude.{count_by}
 use Rattle.std.proofs.lemmas.List.{length-set}
-use Rattle.slicc_meaning.specs.declared.controller.Message.{Message}
+use Rattle.std.proofs.lemmas.List.Sums.{sum_by-cons}
 use Rattle.slicc_meaning.specs.declared.world.Place.{Place}
 use Rattle.slicc_meaning.specs.declared.world.Request.{Request}
 use Rattle.slicc_meaning.specs.declared.world.Seat.{Seat}
-use Rattle.slicc_meaning.specs.Driver.{request_message, arrive, arrive_at, arrive_at_seat, issue_all}
-use Rattle.slicc_meaning.specs.Step.{begun, is_busy}
+use Rattle.slicc_meaning.specs.Driver.{arrive, issue_all}
+use Rattle.slicc_meaning.specs.Step.{is_busy}
 use Rattle.slicc_meaning.specs.World.{is_free, is_due, is_held}
 use Rattle.slicc_meaning.specs.Step.{with_place}
 use Rattle.slicc_meaning.specs.declared.world.World.{World}
-use Rattle.slicc_meaning.proofs.Places.{or_false}
+use Rattle.slicc_meaning.proofs.Places.{issue_all-keeps}
 use Rattle.plain_run.specs.Awake.{IsWoken}
 use Rattle.plain_run.specs.Cycle.{IsBetween}
 
-arrive_at-length : (places : List Place) (c : ℕ) (m : Message) (o : Option Place) → length (arrive_at places c m o) ≡ length places
-arrive_at-length places c m None = refl
-arrive_at-length places c m (Some p) = length-set places c (arrive m p)
-
-seat-length : (places : List Place) (m : Message) (seat : Option Seat) → length (arrive_at_seat places m seat) ≡ length places
-seat-length places m None = refl
-seat-length places m (Some seat) = arrive_at-length places seat.controller m (slice_get places seat.controller)
-
 pub issue_all-length : (seats : List Seat) (sender count now : ℕ) (places : List Place) (rs : List Request) → length (issue_all seats sender count now places rs) ≡ length places
-issue_all-length seats sender count now places [] = refl
-issue_all-length seats sender count now places (r ∷ rs) =
-    let m : Message = request_message (record { sender = sender; count = count }) now r in
-    issue_all-length seats sender (count + 1) now (arrive_at_seat places m (slice_get seats r.seat)) rs
-    ∙ seat-length places m (slice_get seats r.seat)
-
-pub begun-held : (now : ℕ) (places : List Place) → list_any is_held (map (begun now) places) ≡ list_any is_held places
-begun-held now [] = refl
-begun-held now (p ∷ places) = ap (λ b. is_held p || b) (begun-held now places)
+issue_all-length seats sender count now places rs =
+    issue_all-keeps (λ after. length after ≡ length places)
+    (λ after c p m there same. length-set after c (arrive m p) ∙ same)
+    seats sender count now places rs refl
 
 -- nobody is free and nobody is held, so nobody is busy
 not_busy : (now : ℕ) (p : Place) → is_free now p ≡ false → is_held p ≡ false → is_busy now p ≡ false
@@ -43,26 +31,22 @@ not_busy now p free held = grind (arith, free, held)
 pub idle : (now : ℕ) (places : List Place) → list_any (is_free now) places ≡ false → list_any is_held places ≡ false → list_any (is_busy now) places ≡ false
 idle now [] free held = refl
 idle now (p ∷ places) free held =
-    let (p_free, free') = or_false (is_free now p) (list_any (is_free now) places) free in
-    let (p_held, held') = or_false (is_held p) (list_any is_held places) held in
+    let (p_free, free') = or_parts (is_free now p) (list_any (is_free now) places) free in
+    let (p_held, held') = or_parts (is_held p) (list_any is_held places) held in
     ap (λ b. b || list_any (is_busy now) places) (not_busy now p p_free p_held) ∙ idle now places free' held'
 
 -- a test that the changed element fails
 any-set_false : {X : Type 0} (f : X → Bool) (xs : List X) (c : ℕ) (y : X) → f y ≡ false → list_any f xs ≡ false → list_any f (slice_set xs c y) ≡ false
 any-set_false f [] c y fails none = none
 any-set_false f (z ∷ xs) zero y fails none =
-    let parts = or_false (f z) (list_any f xs) none in
+    let parts = or_parts (f z) (list_any f xs) none in
     ap (λ b. b || list_any f xs) fails ∙ parts.1
 any-set_false f (z ∷ xs) (suc c) y fails none =
-    let parts = or_false (f z) (list_any f xs) none in
+    let parts = or_parts (f z) (list_any f xs) none in
     ap (λ b. b || list_any f (slice_set xs c y)) parts.0 ∙ any-set_false f xs c y fails parts.1
 
-sums-from : {X : Type 0} (f : X → ℕ) (a : ℕ) (xs : List X) → fold (λ b x. b + f x) a xs ≡ a + fold (λ b x. b + f x) 0 xs
-sums-from f a [] = omega arith
-sums-from f a (x ∷ xs) = omega (arith, sums-from f (a + f x) xs, sums-from f (0 + f x) xs)
-
 count-cons : {X : Type 0} (f : X → Bool) (x : X) (xs : List X) → count_by f (x ∷ xs) ≡ cond (f x) 1 0 + count_by f xs
-count-cons f x xs = sums-from (λ y. cond (f y) 1 0) (0 + cond (f x) 1 0) xs ∙ ap (λ n. n + count_by f xs) (zero-add (cond (f x) 1 0))
+count-cons f = sum_by-cons (λ y. cond (f y) 1 0)
 
 -- one element fewer passes
 count-set : {X : Type 0} (f : X → Bool) (xs : List X) (c : ℕ) (x y : X) → slice_get xs c ≡ Some x → f x ≡ true → f y ≡ false → count_by f (slice_set xs c y) + 1 ≡ count_by f xs

@@ -1,5 +1,5 @@
 -- Each clause of the top call, from the reply that it found and whether its text was written whole.
-use Rattle.std.proofs.Common.{◌≡◌, ◌≢◌, ◌<◌, inl, inr, ℕ, Bool, true, false, Option, None, Some, List, [], ◌∷◌, refl, sym, ◌∙◌, ap, subst, arith, IfSome, IsSome, ◌+◌, rules}
+use Rattle.std.proofs.Common.{◌≡◌, ◌≢◌, ◌<◌, inl, inr, ℕ, Bool, true, false, Option, None, Some, List, [], ◌∷◌, refl, sym, ◌∙◌, ap, subst, arith, IfSome, IsSome, ◌+◌}
 use Rattle.std.specs.Prelude.{sum}
 use Rattle.std.specs.Bool.{OnTrue, OnFalse}
 use Rattle.ruby_outside.specs.Sink.{grown, IsCutOff}
@@ -11,11 +11,11 @@ use Rattle.slicc_meaning.specs.declared.record.Verdict.{Verdict}
 use Rattle.slicc_meaning.specs.declared.record.Verdict.TheVariants.{Stop, Quiet, Cycles}
 use Rattle.slicc_meaning.specs.Answer.{Answer, Runs, Refused, Absent, TooLarge, IsAnswer}
 use Rattle.slicc_meaning.specs.Record.{IsWholeRun, setting}
-use Rattle.slicc_meaning.specs.declared.plan.Plan.{Plan}
 use Rattle.run_journal.specs.declared.summary.Account.{Account}
-use Rattle.slicc_meaning.specs.Topology.{HasSeats, plain_of}
+use Rattle.slicc_meaning.specs.Topology.{HasSeats}
 use Rattle.slicc_meaning.proofs.Accounting.{kept, accounted, adds_up}
 use Rattle.slicc_meaning.proofs.InvalidRuns.{invalid_exactly}
+use Rattle.slicc_meaning.proofs.ShortTurns.{plain-seats}
 use Rattle.slicc_meaning.proofs.WokenOnce.{wakes_once}
 use Rattle.ruby_cli.proofs.OneAnswer.{refused_runs, absent_runs, long_runs, absent_refused, long_refused, absent_long}
 use Rattle.ruby_cli.specs.declared.reply.Reply.{Reply}
@@ -33,10 +33,6 @@ verdict_not : (v : Verdict) (n : ℕ) → 1 < n → verdict_status v ≡ n → �
 verdict_not (Quiet cycle) n more is = absurd (omega (arith, more, is))
 verdict_not (Stop cycle c) n more is = absurd (omega (arith, more, is))
 verdict_not (Cycles cycle) n more is = absurd (omega (arith, more, is))
-
--- the plain topology has its seat
-plain-seats : (p : Plan) → HasSeats (plain_of p)
-plain-seats p = search rules
 
 -- what follows for a whole run holds of a record that is one
 pub for_kept : (P : RunRecord → Type 0) → ((r : RunRecord) → IsWholeRun r → P r) → (kept : Option RunRecord) → IfSome kept IsWholeRun → IfSome kept P

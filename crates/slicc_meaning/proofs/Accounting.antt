@@ -1,5 +1,5 @@
 -- A run accounts for each message.
-use Rattle.std.proofs.Common.{◌≡◌, ◌<◌, ◌+◌, ℕ, zero, suc, Bool, true, false, not, ◌&&◌, Option, None, Some, List, [], ◌∷◌, map, length, cond, fold, refl, sym, ◌∙◌, subst, slice_get, replicate, sum, is_some, is_none, eqb, ltb, arith, IsSome}
+use Rattle.std.proofs.Common.{◌≡◌, ◌<◌, ◌+◌, ℕ, zero, suc, Bool, true, false, not, ◌&&◌, Option, None, Some, List, [], ◌∷◌, map, length, refl, sym, ◌∙◌, slice_get, replicate, sum, is_some, eqb, ltb, arith, IsSome}
 use Rattle.std.specs.List.{All}
 use Rattle.std.proofs.lemmas.List.{length-append, length-replicate}
 use Rattle.std.proofs.lemmas.List.Sums.{sum_by-cons}
@@ -14,13 +14,14 @@ use Rattle.slicc_meaning.specs.declared.world.Setting.{Setting}
 use Rattle.slicc_meaning.specs.declared.world.World.{World}
 use Rattle.slicc_meaning.specs.Account.{sent_numbers, consumed_numbers, held_messages, is_queued, is_stalled, is_recycled, account, times, IsAccounted}
 use Rattle.ruby_value.specs.NumberBefore.{same_number}
-use Rattle.slicc_meaning.specs.Run.{Ran, ran_on, go_on, IsRun}
-use Rattle.slicc_meaning.specs.Step.{Stepped, step_lawfully, step}
+use Rattle.slicc_meaning.specs.Run.{IsRun}
+use Rattle.slicc_meaning.specs.Step.{Stepped, step_lawfully}
 use Rattle.slicc_meaning.specs.Topology.{HasSeats}
 use Rattle.slicc_meaning.specs.World.{opening_place, opening_places, opening}
 use Rattle.slicc_meaning.proofs.Tallies.{one, tally, counted, tally-map, tally-true, tally-more}
 use Rattle.slicc_meaning.proofs.Kept.{held, IsKept, IsGoodIf, kept-next, one-le, take-good, release-good, fire-good, done-good}
 use Rattle.slicc_meaning.proofs.Turns.{IsSeated, stands-none, turn-good}
+use Rattle.slicc_meaning.proofs.AlongRuns.{HoldsAfter, hold-along}
 
 -- the opening
 opening-length : (counts : List ℕ) → length (opening_places counts) ≡ sum counts
@@ -54,29 +55,9 @@ module _ (s : Setting) (n : ℕ) (seated : IsSeated s.topology.seats n 0) where
   lawful-good w journal (Release worker c) kept = release-good w worker c (slice_get w.places c) refl
   lawful-good w journal (Turn worker) kept = turn-good s n w journal kept seated
 
-  step-good : (w : World) (journal : List Entry) (e : Event) → IsKept n w journal → IsGoodIf w (step s w e)
-  step-good w journal e kept =
-      elim (is_none w.verdict) as (λ b. IsGoodIf w (cond b (step_lawfully s w e) None)) [
-        | true ↦ lawful-good w journal e kept
-        | false ↦ tt
-      ]
-
-abbrev IsKeptIf : ℕ → Option Ran → Type 0
-IsKeptIf n None = Unit {0}
-IsKeptIf n (Some r) = IsKept n r.world r.journal
-
-ran_on-kept : (n : ℕ) (w : World) (journal : List Entry) (o : Option Stepped) → IsKept n w journal → IsGoodIf w o → IsKeptIf n (ran_on o journal)
-ran_on-kept n w journal None kept good = tt
-ran_on-kept n w journal (Some next) kept good = kept-next n w journal next kept good
-
-module _ (s : Setting) (n : ℕ) (seated : IsSeated s.topology.seats n 0) where
-  go_on-kept : (o : Option Ran) (e : Event) → IsKeptIf n o → IsKeptIf n (go_on s o e)
-  go_on-kept None e kept = tt
-  go_on-kept (Some r) e kept = ran_on-kept n r.world r.journal (step s r.world e) kept (step-good s n seated r.world r.journal e kept)
-
-  run-kept : (o : Option Ran) (history : List Event) → IsKeptIf n o → IsKeptIf n (fold (go_on s) o history)
-  run-kept o [] kept = kept
-  run-kept o (e ∷ history) kept = run-kept (go_on s o e) history (go_on-kept o e kept)
+after-kept : (n : ℕ) (w : World) (journal : List Entry) (o : Option Stepped) → IsKept n w journal → IsGoodIf w o → HoldsAfter (IsKept n) journal o
+after-kept n w journal None kept good = tt
+after-kept n w journal (Some next) kept good = kept-next n w journal next kept good
 
 first-seated : (seats : List Seat) (n : ℕ) → IsSome (slice_get seats 0) → All (λ (seat : Seat). seat.controller < n) seats → IsSeated seats n 0
 first-seated [] n first each = absurd (cc first)
@@ -87,8 +68,7 @@ pub kept : (s : Setting) (history : List Event) (w : World) (journal : List Entr
 kept s history w journal has is =
     let n : ℕ = sum s.topology.counts in
     let seated = first-seated s.topology.seats n has.first has.each in
-    let begun : Ran = record { world = opening s; journal = [] } in
-    subst (λ (o : Option Ran). IsKeptIf n o) is (run-kept s n seated (Some begun) history (opening-kept s))
+    hold-along (IsKept n) s (λ v told e runs keeps. after-kept n v told (step_lawfully s v e) keeps (lawful-good s n seated v told e keeps)) history w journal (opening-kept s) is
 
 pub accounted : (n : ℕ) (w : World) (journal : List Entry) → IsKept n w journal → IsAccounted journal w
 accounted n w journal kept =

@@ -1,12 +1,12 @@
 -- A run by one worker goes on by one event.
 use Rattle.std.proofs.Common.{◌≡◌, List, [], ◌∷◌, ◌++◌, refl, sym, ap, ◌∙◌, subst}
+use Rattle.std.proofs.lemmas.Option.{same_Some}
 use Rattle.slicc_meaning.specs.declared.record.Entry.{Entry}
 use Rattle.run_journal.specs.declared.event.Event.{Event}
 use Rattle.slicc_meaning.specs.declared.world.Setting.{Setting}
 use Rattle.slicc_meaning.specs.declared.world.World.{World}
 use Rattle.slicc_meaning.specs.Alone.{IsAlone, IsAloneEvent}
 use Rattle.slicc_meaning.specs.Run.{Ran, IsRun}
-use Rattle.slicc_meaning.proofs.Optional.{some_same}
 
 -- a list with one more at its end, parted at one of its elements: that is the last one, or an earlier one
 data Parted {A : Type 0} (xs before after : List A) (x y : A) : Type 0 where
@@ -35,7 +35,7 @@ parted (z ∷ xs) (b ∷ before) after x y same =
 
 -- the history determines the world
 same_world : (s : Setting) (history : List Event) (w v : World) (journal told : List Entry) → IsRun s history w journal → IsRun s history v told → w ≡ v
-same_world s history w v journal told one other = ap (λ (r : Ran). r.world) (some_same (sym one ∙ other))
+same_world s history w v journal told one other = ap (λ (r : Ran). r.world) (same_Some _ _ (sym one ∙ other))
 
 pub alone_more : (s : Setting) (history : List Event) (e : Event) (w : World) (journal : List Entry)
     → IsRun s history w journal → IsAlone s history → IsAloneEvent w e → IsAlone s (history ++ e ∷ [])

@@ -1,6 +1,7 @@
 -- At the beginning of a cycle no controller's wake-up has ended, and nobody holds one: so it is in the opening, and after
 -- a turn that leaves no verdict.
-use Rattle.std.proofs.Common.{◌≡◌, ◌||◌, ◌++◌, ℕ, zero, suc, Bool, true, false, Option, None, Some, List, [], ◌∷◌, map, length, refl, ◌∙◌, ap, cond, fold, replicate, is_none, nat_lt, IsTrue}
+use Rattle.std.proofs.Common.{◌≡◌, ◌||◌, ◌++◌, ℕ, zero, suc, Bool, true, false, Option, None, Some, List, [], ◌∷◌, length, refl, ◌∙◌, cond, fold, replicate, is_none, nat_lt, IsTrue}
+use Rattle.std.proofs.lemmas.Bool.{cond_both}
 use Rattle.std.specs.List.{list_any}
 use Rattle.slicc_meaning.specs.declared.record.Entry.{Entry}
 use Rattle.run_journal.specs.declared.event.Event.{Event}
@@ -15,7 +16,7 @@ use Rattle.slicc_meaning.specs.Step.{Stepped, begun, is_busy, next_world, driven
 use Rattle.slicc_meaning.specs.Verdict.{next_cycle, least_stopped, end_of_cycle}
 use Rattle.slicc_meaning.specs.WakesOnce.{is_turn, ends_with_turn}
 use Rattle.slicc_meaning.specs.World.{is_held, opening_place, opening_places}
-use Rattle.slicc_meaning.proofs.Places.{issue_all-held, idle-nobody}
+use Rattle.slicc_meaning.proofs.Places.{any-map, issue_all-held, idle-nobody}
 
 -- its wake-up has ended, or somebody holds it
 abbrev pub is_touched : Place → Bool
@@ -36,16 +37,10 @@ after-ran P None journal holds = tt
 after-ran P (Some st) journal holds = holds
 
 pub where_true : (P : World → Type 0) (b : Bool) (o : Option Stepped) → (b ≡ true → AfterStep P o) → AfterStep P (cond b o None)
-where_true P true o holds = holds refl
-where_true P false o holds = tt
+where_true P b o holds = cond_both b o None (AfterStep P) holds (λ not. tt)
 
 pub where_false : (P : World → Type 0) (b : Bool) (o : Option Stepped) → (b ≡ false → AfterStep P o) → AfterStep P (cond b None o)
-where_false P true o holds = tt
-where_false P false o holds = holds refl
-
-begun-touched : (now : ℕ) (places : List Place) → list_any is_touched (map (begun now) places) ≡ list_any is_held places
-begun-touched now [] = refl
-begun-touched now (p ∷ places) = ap (λ b. is_held p || b) (begun-touched now places)
+where_false P b o holds = cond_both b None o (AfterStep P) (λ is. tt) holds
 
 -- where no verdict stands, nobody is finished or held
 abbrev pub IsCleared : World → Type 0
@@ -53,7 +48,7 @@ IsCleared w = w.verdict ≡ None → list_any is_touched w.places ≡ false
 
 next_world-cleared : (w : World) (now : ℕ) (beyond : Bool) → list_any is_held w.places ≡ false → IsCleared (next_world w (Some now) (cond beyond (Some (Cycles w.now)) None))
 next_world-cleared w now true nobody = λ running. absurd (cc running)
-next_world-cleared w now false nobody = λ running. begun-touched now w.places ∙ nobody
+next_world-cleared w now false nobody = λ running. any-map is_touched (begun now) w.places ∙ nobody
 
 cycle_end-cleared : (w : World) (cycles : ℕ) (next : Option ℕ) → list_any is_held w.places ≡ false → IsCleared (next_world w next (end_of_cycle w.now cycles next))
 cycle_end-cleared w cycles None nobody = λ running. absurd (cc running)

@@ -1,5 +1,6 @@
 -- Each transition that fires has consumed a message, where each written transition has the one action, which dequeues.
 use Rattle.std.proofs.Common.{◌≡◌, ◌⊎◌, inl, inr, ◌≤◌, ℕ, Bool, true, false, Option, None, Some, List, [], ◌∷◌, refl, sym, subst, cond, fold, length, is_some, slice_get, nat_le, All, arith}
+use Rattle.std.proofs.lemmas.Bool.{cond_both}
 use Rattle.std.proofs.lemmas.Bool.Decides.{nat_tests}
 use Rattle.std.proofs.lemmas.List.Elements.{All-filter, All-map, All-cons, All-nil}
 use Rattle.slicc_ast.specs.declared.machine.Machine.{Machine}
@@ -25,7 +26,7 @@ use Rattle.slicc_meaning.specs.Statements.{dequeue, run_action, act, front_of}
 use Rattle.slicc_meaning.specs.Try.{settled, fire_first, peek_front, if_ready}
 use Rattle.slicc_meaning.specs.World.{scan_of}
 use Rattle.slicc_meaning.proofs.Lasting.{at-get}
-use Rattle.slicc_meaning.proofs.ScansKeep.{pick_scanned}
+use Rattle.slicc_meaning.proofs.Folds.{fold-keeps}
 
 abbrev pub ActsOnce : WrittenTransition → Type 0
 ActsOnce t = t.actions ≡ 0 ∷ []
@@ -89,7 +90,7 @@ module _ (m : MachinePlan) (feeds : IsFeeding m) (limit fired now : ℕ) where
 
   if_ready-fed : (i : If) (c : Controller) → IsFed limit fired (if_ready m i c now)
   if_ready-fed i c =
-      pick_scanned (IsFed limit fired) (is_some (front_of m i.port c now)) _ _ (peek_front-fed i.then.then c (front_of m i.then.port c now)) tt
+      cond_both (is_some (front_of m i.port c now)) _ _ (IsFed limit fired) (λ ready. peek_front-fed i.then.then c (front_of m i.then.port c now)) (λ quiet. tt)
 
   run_port-fed : (s : Scanned) (p : PortPlan) → IsFed limit fired s → IsFed limit fired (run_port m now s p)
   run_port-fed Full p fed = fed
@@ -97,14 +98,10 @@ module _ (m : MachinePlan) (feeds : IsFeeding m) (limit fired now : ℕ) where
   run_port-fed (Stop at) p fed = tt
   run_port-fed (Idle after) p fed = if_ready-fed p.body after
 
-  ports-fed : (s : Scanned) (ports : List PortPlan) → IsFed limit fired s → IsFed limit fired (fold (run_port m now) s ports)
-  ports-fed s [] fed = fed
-  ports-fed s (p ∷ ports) fed = ports-fed (run_port m now s p) ports (run_port-fed s p fed)
-
 scan-fed : (m : MachinePlan) (feeds : IsFeeding m) (limit : ℕ) (c : Controller) (now : ℕ) (full : Bool) → nat_le limit c.fired ≡ full
     → IsFed limit c.fired (cond full Full (scan_ports m m.ports c now))
 scan-fed m feeds limit c now true is = grind (arith, nat_tests, is)
-scan-fed m feeds limit c now false is = ports-fed m feeds limit c.fired now (Idle c) m.ports tt
+scan-fed m feeds limit c now false is = fold-keeps (run_port m now) (IsFed limit c.fired) (run_port-fed m feeds limit c.fired now) (Idle c) m.ports tt
 
 pub scan_of-fed : (s : Setting) (k : ℕ) (machines : List MachinePlan) (o : Option MachinePlan) (c : Controller) (now : ℕ) → All IsFeeding machines
     → slice_get machines k ≡ o → IsFed s.limit c.fired (scan_of s o c now)

@@ -3,6 +3,7 @@ use Rattle.std.proofs.Common.{◌≡◌, ◌⊎◌, ◌↔◌, ℕ, Bool, true, 
 use Rattle.std.specs.List.{cons_option, filter_map, last_or}
 use Rattle.std.proofs.lemmas.Bool.Decides.{nat_tests}
 use Rattle.std.proofs.lemmas.List.Elements.{Contains-append_cases, Contains-append_left, Contains-append_right}
+use Rattle.std.proofs.lemmas.Option.{same_Some}
 use Rattle.slicc_meaning.specs.declared.record.Entry.{Entry}
 use Rattle.slicc_meaning.specs.declared.record.Entry.TheVariants.{Fired, Ended, Turned}
 use Rattle.run_journal.specs.declared.summary.Final.{Final}
@@ -12,7 +13,6 @@ use Rattle.run_journal.specs.FinalBefore.{final_before}
 use Rattle.slicc_meaning.specs.Finals.{with_final, after_entry, finals}
 use Rattle.slicc_meaning.specs.LastState.{next_state}
 use Rattle.slicc_meaning.proofs.Orders.{nothing-there, head_or_rest, at-head, in-rest, in-filter, from-filter, put-between}
-use Rattle.slicc_meaning.proofs.Optional.{some_same}
 
 before : (a b : Final) → final_before a b ≡ true → IsBefore a b
 before a b is = grind (arith, nat_tests, is)
@@ -100,7 +100,7 @@ module _ (old : ℕ → ℕ → Option ℕ) (all : List Final) (f : Final) (is :
   from g true key so =
       let c : f.controller ≡ g.controller = one-controller f g.controller g.address key in
       let a : f.address ≡ g.address = one-address f g.controller g.address key in
-      let s : f.state ≡ g.state = some_same so in
+      let s : f.state ≡ g.state = same_Some _ _ so in
       from-new g (λ i. record { controller = c i; address = a i; state = s i })
   from g false key so = from-old g key so
 

@@ -1,5 +1,5 @@
 -- The front of a buffer is a ready message before which no other ready one comes.
-use Rattle.std.proofs.Common.{◌≡◌, ◌⊎◌, ℕ, zero, suc, Bool, true, false, ◌&&◌, ◌==◌, Option, None, Some, List, [], ◌∷◌, cond, nat_le, is_none, refl, sym, subst, ap, inl, inr, ⊎_elim, eq-eqb, le-leb, Contains, filter, arith}
+use Rattle.std.proofs.Common.{◌≡◌, ℕ, Bool, true, false, ◌&&◌, ◌==◌, Option, None, Some, List, [], ◌∷◌, cond, nat_le, is_none, refl, sym, subst, ap, ⊎_elim, eq-eqb, le-leb, filter, arith}
 use Rattle.std.proofs.lemmas.Bool.{and_from}
 use Rattle.std.proofs.lemmas.Bool.Decides.{nat_tests}
 use Rattle.slicc_meaning.specs.declared.controller.Message.{Message}
@@ -8,10 +8,8 @@ use Rattle.ruby_value.specs.NumberBefore.{number_before}
 use Rattle.slicc_meaning.specs.Front.{is_ready, message_before, earlier_message, least_message, front}
 use Rattle.slicc_meaning.specs.IsFront.{IsReady, IsMessageBefore, IsFirstReady, IsFront}
 use Rattle.ruby_value.specs.IsBefore.{IsBefore}
-
-none_is : (o : Option ℕ) → is_none o ≡ true → o ≡ None
-none_is None is = refl
-none_is (Some x) is = absurd (cc is)
+use Rattle.slicc_meaning.proofs.Optional.{none_is}
+use Rattle.slicc_meaning.proofs.Orders.{head_or_rest, in-rest}
 
 ready : (buffer now : ℕ) (m : Message) → is_ready buffer now m ≡ true → IsReady buffer now m
 ready buffer now m is = record {
@@ -47,37 +45,30 @@ opposite a b before after = grind (arith, before, after)
 passing : (a b c : Message) → IsMessageBefore a c → (IsMessageBefore b c → ⊥) → IsMessageBefore a b
 passing a b c before not = grind (arith, before, not)
 
-in_rest : (x m : Message) (xs : List Message) → Contains (x ∷ xs) m → (x ≡ m) ⊎ Contains xs m
-in_rest x m xs (zero, within, is) = inl is
-in_rest x m xs (suc k, within, is) = inr (k, omega arith, is)
-
-in_more : (x m : Message) (xs : List Message) → Contains xs m → Contains (x ∷ xs) m
-in_more x m xs has = (suc has.0, omega (arith, has.1), has.2)
-
 -- a message that isn't ready changes nothing
 passed-over : (x : Message) (xs : List Message) (buffer now : ℕ) (o : Option Message) → (IsReady buffer now x → ⊥) → IsFront xs buffer now o → IsFront (x ∷ xs) buffer now o
 passed-over x xs buffer now None not is =
-    λ m has ready_m. ⊎_elim (λ same. not (subst (IsReady buffer now) (sym same) ready_m)) (λ there. is m there ready_m) (in_rest x m xs has)
+    λ m has ready_m. ⊎_elim (λ same. not (subst (IsReady buffer now) (sym same) ready_m)) (λ there. is m there ready_m) (head_or_rest x m xs has)
 passed-over x xs buffer now (Some m) not is = record {
-  held = in_more x m xs is.held;
+  held = in-rest x m xs is.held;
   ready = is.ready;
   first = λ other has ready_other before.
       ⊎_elim
       (λ same. not (subst (IsReady buffer now) (sym same) ready_other))
       (λ there. is.first other there ready_other before)
-      (in_rest x other xs has);
+      (head_or_rest x other xs has);
 }
 
 -- of a ready message and the front of the rest the earlier is the front
 earlier-of : (x : Message) (xs : List Message) (buffer now : ℕ) (o : Message) (b : Bool) → message_before o x ≡ b → IsReady buffer now x → IsFirstReady xs buffer now o → IsFirstReady (x ∷ xs) buffer now (cond b o x)
 earlier-of x xs buffer now o true is ready_x front_is = record {
-  held = in_more x o xs front_is.held;
+  held = in-rest x o xs front_is.held;
   ready = front_is.ready;
   first = λ other has ready_other before.
       ⊎_elim
       (λ same. opposite o x (comes o x is) (subst (λ (m : Message). IsMessageBefore m o) (sym same) before))
       (λ there. front_is.first other there ready_other before)
-      (in_rest x other xs has);
+      (head_or_rest x other xs has);
 }
 earlier-of x xs buffer now o false is ready_x front_is = record {
   held = (0, omega arith, refl);
@@ -86,7 +77,7 @@ earlier-of x xs buffer now o false is ready_x front_is = record {
       ⊎_elim
       (λ same. itself x (subst (λ (m : Message). IsMessageBefore m x) (sym same) before))
       (λ there. front_is.first other there ready_other (passing other o x before (comes-not o x is)))
-      (in_rest x other xs has);
+      (head_or_rest x other xs has);
 }
 
 taken-in : (x : Message) (xs : List Message) (buffer now : ℕ) (o : Option Message) → IsReady buffer now x → IsFront xs buffer now o → IsFront (x ∷ xs) buffer now (Some (earlier_message x o))
@@ -97,7 +88,7 @@ taken-in x xs buffer now None ready_x is = record {
       ⊎_elim
       (λ same. itself x (subst (λ (m : Message). IsMessageBefore m x) (sym same) before))
       (λ there. is other there ready_other)
-      (in_rest x other xs has);
+      (head_or_rest x other xs has);
 }
 taken-in x xs buffer now (Some o) ready_x is = earlier-of x xs buffer now o (message_before o x) refl ready_x is
 

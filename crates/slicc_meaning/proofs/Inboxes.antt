@@ -9,16 +9,16 @@ use Rattle.ruby_value.specs.NumberBefore.{same_number, number_before}
 use Rattle.slicc_meaning.specs.Front.{with_message, without_message, message_before, earlier_message, least_message, front, is_ready}
 use Rattle.slicc_meaning.proofs.Tallies.{one, tally, tally-append, tally-filter_le}
 
-same-refl : (a : MsgNo) → same_number a a ≡ true
+pub same-refl : (a : MsgNo) → same_number a a ≡ true
 same-refl a = and_from (eqb a.sender a.sender) (eqb a.count a.count) (eq-eqb a.sender a.sender refl) (eq-eqb a.count a.count refl)
+
+pub number-is : (a b : MsgNo) → a.sender ≡ b.sender → a.count ≡ b.count → a ≡ b
+number-is a b sender count = λ i. record { sender = sender i; count = count i }
 
 same-is : (a b : MsgNo) → same_number a b ≡ true → a ≡ b
 same-is a b same =
     let parts = and_parts (eqb a.sender b.sender) (eqb a.count b.count) same in
-    let senders : a.sender ≡ b.sender = eqb-true a.sender b.sender parts.0 in
-    let counts : a.count ≡ b.count = eqb-true a.count b.count parts.1 in
-    ap (λ (n : ℕ). let m : MsgNo = record { sender = n; count = a.count } in m) senders
-    ∙ ap (λ (n : ℕ). let m : MsgNo = record { sender = b.sender; count = n } in m) counts
+    number-is a b (eqb-true a.sender b.sender parts.0) (eqb-true a.count b.count parts.1)
 
 same-sym : (a b : MsgNo) → same_number a b ≡ same_number b a
 same-sym a b = grind (arith, nat_tests)

@@ -1,6 +1,7 @@
 -- A scan stops as invalid exactly where a port triggers a pair that has no written transition.
-use Rattle.std.proofs.Common.{◌≡◌, ◌<◌, ℕ, Bool, true, false, Option, None, Some, List, [], ◌∷◌, ◌++◌, nat_le, is_some, cond, fold, refl, sym, ap, ◌∙◌, append_assoc, slice_get, arith}
-use Rattle.std.proofs.lemmas.Bool.Decides.{nat_tests}
+use Rattle.std.proofs.Common.{◌≡◌, ℕ, Bool, true, false, Option, None, Some, List, [], ◌∷◌, ◌++◌, nat_le, is_some, fold, refl, sym, ap, ◌∙◌, append_assoc, slice_get}
+use Rattle.std.proofs.lemmas.List.Folds.{fold_stays}
+use Rattle.std.proofs.lemmas.Bool.{leb-false, lt-leb, cond-true, cond-false, cond_both}
 use Rattle.std.specs.List.{AllByRecursion}
 use Rattle.slicc_meaning.specs.declared.controller.Acted.{Acted}
 use Rattle.slicc_meaning.specs.declared.controller.Controller.{Controller}
@@ -10,7 +11,6 @@ use Rattle.slicc_meaning.specs.declared.controller.Scanned.{Scanned}
 use Rattle.slicc_meaning.specs.declared.controller.Scanned.TheVariants.{Full, Fired, Stop, Idle}
 use Rattle.slicc_meaning.specs.declared.record.Fault.{Fault}
 use Rattle.slicc_meaning.specs.declared.record.Fault.TheVariants.{Invalid, Front}
-use Rattle.run_journal.specs.declared.entry.FireNote.{FireNote}
 use Rattle.slicc_meaning.specs.declared.record.StopAt.{StopAt}
 use Rattle.slicc_meaning.specs.declared.plan.ActionPlan.{ActionPlan}
 use Rattle.slicc_meaning.specs.declared.plan.MachinePlan.{MachinePlan}
@@ -22,6 +22,7 @@ use Rattle.slicc_meaning.specs.States.{line_of, state_at}
 use Rattle.slicc_meaning.specs.Statements.{dequeue, run_action, act, run_actions, front_of}
 use Rattle.slicc_meaning.specs.Try.{settled, fire_first, peek_front, peek, if_ready}
 use Rattle.slicc_meaning.specs.Scan.{run_port, scan_ports, scan}
+use Rattle.slicc_meaning.proofs.Folds.{fold-keeps}
 
 -- the actions meet no fault `invalid`
 abbrev IsNotInvalid : Option Fault → Type 0
@@ -35,15 +36,9 @@ run_action-fault : (m : MachinePlan) (a : Option ActionPlan) (c : Controller) (c
 run_action-fault m None c consumed now = λ is. absurd (cc is)
 run_action-fault m (Some a) c consumed now = dequeue-fault c consumed (front_of m a.body.port c now)
 
-pick_acted : (P : Acted → Type 0) (b : Bool) (x y : Acted) → P x → P y → P (cond b x y)
-pick_acted P true x y px py = px
-pick_acted P false x y px py = py
-
-acts-fault : (m : MachinePlan) (now : ℕ) (acted : Acted) (actions : List ℕ) → IsNotInvalid acted.fault → IsNotInvalid (fold (act m now) acted actions).fault
-acts-fault m now acted [] none = none
-acts-fault m now acted (a ∷ actions) none =
-    acts-fault m now (act m now acted a) actions
-    (pick_acted (λ r. IsNotInvalid r.fault) (is_some acted.fault) acted _ none (run_action-fault m (slice_get m.actions a) acted.controller acted.consumed now))
+act-fault : (m : MachinePlan) (now : ℕ) (acted : Acted) (a : ℕ) → IsNotInvalid acted.fault → IsNotInvalid (act m now acted a).fault
+act-fault m now acted a none =
+    cond_both (is_some acted.fault) acted _ (λ r. IsNotInvalid r.fault) (λ stopped. none) (λ goes. run_action-fault m (slice_get m.actions a) acted.controller acted.consumed now)
 
 -- what a scan comes to is `invalid` at this pair, or is no `invalid`
 abbrev IsInvalidOf : ℕ → ℕ → ℕ → Scanned → Type 0
@@ -68,12 +63,6 @@ data PortCase (m : MachinePlan) (c : Controller) (now : ℕ) (p : PortPlan) (s :
       → PortCase m c now p s
   Else : IsOther s → ((d : Controller) → s ≡ Idle d → ⊥) → PortCase m c now p s
 
-cond_false : {X : Type 0} (b : Bool) (x y : X) → b ≡ false → cond b x y ≡ y
-cond_false b x y is = ap (λ c. cond c x y) is
-
-cond_true : {X : Type 0} (b : Bool) (x y : X) → b ≡ true → cond b x y ≡ x
-cond_true b x y is = ap (λ c. cond c x y) is
-
 other-is : (s t : Scanned) → s ≡ t → IsOther t → IsOther s
 other-is s t same other = λ at is invalid. other at (sym same ∙ is) invalid
 
@@ -91,7 +80,7 @@ tried m c now p message None ready peeked row =
     let state = state_at m.default c.states line in
     let event = p.body.then.then.event in
     let is : if_ready m p.body c now ≡ Stop (invalid_at line state event) =
-    cond_true (is_some (front_of m p.body.port c now)) (peek m p.body.then c now) (Idle c) ready
+    cond-true (is_some (front_of m p.body.port c now)) (peek m p.body.then c now) (Idle c) ready
     ∙ ap (λ (f : Option Message). peek_front m p.body.then.then c now f) peeked
     ∙ ap (λ (r : Option WrittenTransition). fire_first m line state event c now r) row in
     Tries message ready peeked row is
@@ -101,11 +90,11 @@ tried m c now p message (Some t) ready peeked row =
     let event = p.body.then.then.event in
     let acted : Acted = run_actions m t.actions c now in
     let is : if_ready m p.body c now ≡ settled line state event t.next acted.controller acted.consumed acted.fault =
-    cond_true (is_some (front_of m p.body.port c now)) (peek m p.body.then c now) (Idle c) ready
+    cond-true (is_some (front_of m p.body.port c now)) (peek m p.body.then c now) (Idle c) ready
     ∙ ap (λ (f : Option Message). peek_front m p.body.then.then c now f) peeked
     ∙ ap (λ (r : Option WrittenTransition). fire_first m line state event c now r) row in
     let start : Acted = record { controller = c; consumed = []; fault = None } in
-    let none : IsNotInvalid acted.fault = acts-fault m now start t.actions (λ e. absurd (cc e)) in
+    let none : IsNotInvalid acted.fault = fold-keeps (act m now) (λ r. IsNotInvalid r.fault) (act-fault m now) start t.actions (λ e. absurd (cc e)) in
     Else
     (other-is _ _ is (settled-other line state event t.next acted.controller acted.consumed acted.fault none))
     (λ d idle. settled-busy line state event t.next acted.controller acted.consumed acted.fault d (sym is ∙ idle))
@@ -116,7 +105,7 @@ peeks : (m : MachinePlan) (c : Controller) (now : ℕ) (p : PortPlan) (front : O
 peeks m c now p None ready peeked =
     let nothing : StopAt = record { address = None; state = None; event = None; fault = Front } in
     let is : if_ready m p.body c now ≡ Stop nothing =
-    cond_true (is_some (front_of m p.body.port c now)) (peek m p.body.then c now) (Idle c) ready
+    cond-true (is_some (front_of m p.body.port c now)) (peek m p.body.then c now) (Idle c) ready
     ∙ ap (λ (f : Option Message). peek_front m p.body.then.then c now f) peeked in
     Else
     (λ at stop invalid. let here : nothing ≡ at = cc (is, stop) in absurd (cc (ap (λ (a : StopAt). a.fault) here, invalid)))
@@ -124,26 +113,14 @@ peeks m c now p None ready peeked =
 peeks m c now p (Some message) ready peeked = tried m c now p message _ ready peeked refl
 
 port-case : (m : MachinePlan) (c : Controller) (now : ℕ) (p : PortPlan) (b : Bool) → is_some (front_of m p.body.port c now) ≡ b → PortCase m c now p (if_ready m p.body c now)
-port-case m c now p false is = Passes is (cond_false (is_some (front_of m p.body.port c now)) (peek m p.body.then c now) (Idle c) is)
+port-case m c now p false is = Passes is (cond-false (is_some (front_of m p.body.port c now)) (peek m p.body.then c now) (Idle c) is)
 port-case m c now p true is = peeks m c now p _ is refl
 
 -- once a port did something, the others do nothing
-stays-stop : (m : MachinePlan) (now : ℕ) (at : StopAt) (ports : List PortPlan) → fold (run_port m now) (Stop at) ports ≡ Stop at
-stays-stop m now at [] = refl
-stays-stop m now at (p ∷ ports) = stays-stop m now at ports
-
-stays-full : (m : MachinePlan) (now : ℕ) (ports : List PortPlan) → fold (run_port m now) Full ports ≡ Full
-stays-full m now [] = refl
-stays-full m now (p ∷ ports) = stays-full m now ports
-
-stays-fired : (m : MachinePlan) (now : ℕ) (note : FireNote) (consumed : List MsgNo) (c : Controller) (ports : List PortPlan) → fold (run_port m now) (Fired note consumed c) ports ≡ Fired note consumed c
-stays-fired m now note consumed c [] = refl
-stays-fired m now note consumed c (p ∷ ports) = stays-fired m now note consumed c ports
-
 other-stays : (m : MachinePlan) (now : ℕ) (s : Scanned) (ports : List PortPlan) → IsOther s → ((d : Controller) → s ≡ Idle d → ⊥) → IsOther (fold (run_port m now) s ports)
-other-stays m now Full ports other busy = other-is _ Full (stays-full m now ports) other
-other-stays m now (Fired note consumed c) ports other busy = other-is _ (Fired note consumed c) (stays-fired m now note consumed c ports) other
-other-stays m now (Stop at) ports other busy = other-is _ (Stop at) (stays-stop m now at ports) other
+other-stays m now Full ports other busy = other-is _ Full (fold_stays (run_port m now) Full (λ p. refl) ports) other
+other-stays m now (Fired note consumed c) ports other busy = other-is _ (Fired note consumed c) (fold_stays (run_port m now) (Fired note consumed c) (λ p. refl) ports) other
+other-stays m now (Stop at) ports other busy = other-is _ (Stop at) (fold_stays (run_port m now) (Stop at) (λ p. refl) ports) other
 other-stays m now (Idle d) ports other busy = absurd (busy d refl)
 
 empty_without_first : {X : Type 0} (xs : List X) → slice_get xs 0 ≡ None → xs ≡ []
@@ -174,7 +151,7 @@ find_by m c now at earlier p rest ports passed stop invalid go_on s is (Tries me
     let state = state_at m.default c.states line in
     let event = p.body.then.then.event in
     let here : Stop (invalid_at line state event) ≡ Stop at =
-    sym (stays-stop m now (invalid_at line state event) rest) ∙ sym (ap (λ (x : Scanned). fold (run_port m now) x rest) (is ∙ stopped)) ∙ stop in (
+    sym (fold_stays (run_port m now) (Stop (invalid_at line state event)) (λ q. refl) rest) ∙ sym (ap (λ (x : Scanned). fold (run_port m now) x rest) (is ∙ stopped)) ∙ stop in (
       line,
       state,
       event,
@@ -213,7 +190,7 @@ stops : (m : MachinePlan) (c : Controller) (now address state event : ℕ) → I
     → (pair : IsTriggered m c now address state event) → if_ready m pair.port.body c now ≡ Stop (invalid_at address state event)
 stops m c now address state event first none pair =
     let at : ℕ → ℕ → ℕ → Scanned = λ l s e. fire_first m l s e c now (slice_get (rows m s e) 0) in
-    cond_true (is_some (front_of m pair.port.body.port c now)) (peek m pair.port.body.then c now) (Idle c) pair.ready
+    cond-true (is_some (front_of m pair.port.body.port c now)) (peek m pair.port.body.then c now) (Idle c) pair.ready
     ∙ ap (λ (f : Option Message). peek_front m pair.port.body.then.then c now f) pair.peeked
     ∙ sym (ap (λ (e : ℕ). at (line_of pair.message.line_address) (state_at m.default c.states (line_of pair.message.line_address)) e) pair.triggered)
     ∙ sym (ap (λ (l : ℕ). at l (state_at m.default c.states l) event) pair.line)
@@ -224,33 +201,27 @@ reach : (m : MachinePlan) (c : Controller) (now : ℕ) (at : StopAt) (earlier : 
     → AllByRecursion (IsPassing m c now) earlier → if_ready m p.body c now ≡ Stop at
     → fold (run_port m now) (Idle c) (earlier ++ p ∷ later) ≡ Stop at
 reach m c now at [] p later passed stop =
-    ap (λ (x : Scanned). fold (run_port m now) x later) stop ∙ stays-stop m now at later
+    ap (λ (x : Scanned). fold (run_port m now) x later) stop ∙ fold_stays (run_port m now) (Stop at) (λ q. refl) later
 reach m c now at (q ∷ earlier) p later passed stop =
-    ap (λ (x : Scanned). fold (run_port m now) x (earlier ++ p ∷ later)) (cond_false (is_some (front_of m q.body.port c now)) (peek m q.body.then c now) (Idle c) passed.0)
+    ap (λ (x : Scanned). fold (run_port m now) x (earlier ++ p ∷ later)) (cond-false (is_some (front_of m q.body.port c now)) (peek m q.body.then c now) (Idle c) passed.0)
     ∙ reach m c now at earlier p later passed.1 stop
-
-may_fire : (limit fired : ℕ) → fired < limit → nat_le limit fired ≡ false
-may_fire limit fired below = grind (arith, nat_tests, below)
-
-may_not : (limit fired : ℕ) → nat_le limit fired ≡ false → fired < limit
-may_not limit fired free = grind (arith, nat_tests, free)
 
 -- each `invalid` has its cause
 pub invalid-caused : (m : MachinePlan) (c : Controller) (now limit : ℕ) (at : StopAt) → scan m c now limit ≡ Stop at → at.fault ≡ Invalid
     → (address : ℕ) × (state : ℕ) × (event : ℕ) × (at ≡ invalid_at address state event) × IsInvalidTry m c now limit address state event
 invalid-caused m c now limit at stop invalid = caused (nat_le limit c.fired) refl where
   caused : (b : Bool) → nat_le limit c.fired ≡ b → (address : ℕ) × (state : ℕ) × (event : ℕ) × (at ≡ invalid_at address state event) × IsInvalidTry m c now limit address state event
-  caused true full = absurd (cc (sym (cond_true (nat_le limit c.fired) Full (scan_ports m m.ports c now) full) ∙ stop))
+  caused true full = absurd (cc (sym (cond-true (nat_le limit c.fired) Full (scan_ports m m.ports c now) full) ∙ stop))
   caused false free =
-      let ports : fold (run_port m now) (Idle c) m.ports ≡ Stop at = sym (cond_false (nat_le limit c.fired) Full (scan_ports m m.ports c now) free) ∙ stop in
+      let ports : fold (run_port m now) (Idle c) m.ports ≡ Stop at = sym (cond-false (nat_le limit c.fired) Full (scan_ports m m.ports c now) free) ∙ stop in
       let (address, state, event, found) = find m c now at [] m.ports refl tt ports invalid in
-      (address, state, event, found.known, record { scanned = may_not limit c.fired free; pair = found.pair; no_row = found.no_row })
+      (address, state, event, found.known, record { scanned = leb-false limit c.fired free; pair = found.pair; no_row = found.no_row })
 
 -- and each cause an `invalid`
 pub invalid-comes : (m : MachinePlan) (c : Controller) (now limit address state event : ℕ) → IsInvalidTry m c now limit address state event
     → scan m c now limit ≡ Stop (invalid_at address state event)
 invalid-comes m c now limit address state event cause =
     let pair = cause.pair in
-    cond_false (nat_le limit c.fired) Full (scan_ports m m.ports c now) (may_fire limit c.fired cause.scanned)
+    cond-false (nat_le limit c.fired) Full (scan_ports m m.ports c now) (lt-leb limit c.fired cause.scanned)
     ∙ ap (λ (ps : List PortPlan). fold (run_port m now) (Idle c) ps) pair.ports
     ∙ reach m c now (invalid_at address state event) pair.earlier pair.port pair.later pair.passed (stops m c now address state event pair cause.no_row pair)

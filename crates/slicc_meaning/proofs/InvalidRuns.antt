@@ -1,7 +1,10 @@
 -- Over a run, each end of a wake-up says `invalid` exactly where its scan tried a pair without a transition.
 use Rattle.std.proofs.Common.{◌≡◌, ℕ, Bool, true, false, Option, None, Some, List, [], ◌∷◌, ◌++◌, cond, is_none, fold, refl, sym, ap, ◌∙◌, append_assoc, slice_get}
+use Rattle.std.proofs.lemmas.List.Sums.{fold-append}
+use Rattle.std.proofs.lemmas.List.Folds.{fold_stays}
 use Rattle.std.proofs.lemmas.List.{append-nil}
 use Rattle.std.specs.Option.{option_to_list}
+use Rattle.std.proofs.lemmas.Option.{same_Some}
 use Rattle.slicc_meaning.specs.declared.controller.Controller.{Controller}
 use Rattle.slicc_meaning.specs.declared.controller.Scanned.{Scanned}
 use Rattle.slicc_meaning.specs.declared.controller.Scanned.TheVariants as scanned
@@ -22,12 +25,6 @@ use Rattle.slicc_meaning.specs.Scan.{scan}
 use Rattle.slicc_meaning.specs.Step.{Stepped, step, is_holder, fired_by, fire, ended_by, given_back, done, scan_at}
 use Rattle.slicc_meaning.specs.World.{machine_plan, scan_of, opening}
 use Rattle.slicc_meaning.proofs.Invalid.{invalid-caused, invalid-comes}
-use Rattle.slicc_meaning.proofs.Optional.{some_same}
-
--- a run that broke off stays so
-broken : (s : Setting) (es : List Event) → fold (go_on s) None es ≡ None
-broken s [] = refl
-broken s (e ∷ es) = broken s es
 
 -- more events only add entries
 pub record Extends (before after : List Entry) : Type 0 where
@@ -38,31 +35,27 @@ extends_by : (s : Setting) (e : Event) (es : List Event) (r r' : Ran) → fold (
     → ((next : Ran) → fold (go_on s) (Some next) es ≡ Some r' → Extends next.journal r'.journal)
     → (o : Option Stepped) → step s r.world e ≡ o → Extends r.journal r'.journal
 extends_by s e es r r' same rest None is =
-    absurd (cc (sym (broken s es) ∙ sym (ap (λ (o : Option Stepped). fold (go_on s) (ran_on o r.journal) es) is) ∙ same))
+    absurd (cc (sym (fold_stays (go_on s) None (λ f. refl) es) ∙ sym (ap (λ (o : Option Stepped). fold (go_on s) (ran_on o r.journal) es) is) ∙ same))
 extends_by s e es r r' same rest (Some st) is =
     let next : Ran = record { world = st.world; journal = r.journal ++ option_to_list st.entry } in
     let more = rest next (sym (ap (λ (o : Option Stepped). fold (go_on s) (ran_on o r.journal) es) is) ∙ same) in
     record { later = option_to_list st.entry ++ more.later; is = more.is ∙ append_assoc r.journal (option_to_list st.entry) more.later }
 
 extends : (s : Setting) (es : List Event) (r r' : Ran) → fold (go_on s) (Some r) es ≡ Some r' → Extends r.journal r'.journal
-extends s [] r r' same = record { later = []; is = ap (λ (x : Ran). x.journal) (sym (some_same same)) ∙ sym (append-nil r.journal) }
+extends s [] r r' same = record { later = []; is = ap (λ (x : Ran). x.journal) (sym (same_Some _ _ same)) ∙ sym (append-nil r.journal) }
 extends s (e ∷ es) r r' same = extends_by s e es r r' same (λ next more. extends s es next r' more) (step s r.world e) refl
-
-fold-append : {A B : Type 0} (f : B → A → B) (b : B) (xs ys : List A) → fold f b (xs ++ ys) ≡ fold f (fold f b xs) ys
-fold-append f b [] ys = refl
-fold-append f b (x ∷ xs) ys = fold-append f (f b x) xs ys
 
 -- the end of a wake-up is exact, from the scan that it came of
 exact : (m : MachinePlan) (c after : Controller) (now limit : ℕ) (e : End) (s : Scanned) → scan m c now limit ≡ s → ended_by now c s ≡ Some (after, e) → IsExact m c now limit e
 exact m c after now limit e scanned.Full is ended =
-    let full : e ≡ end.Full = ap (λ (x : Controller × End). x.1) (some_same (sym ended)) in
+    let full : e ≡ end.Full = ap (λ (x : Controller × End). x.1) (same_Some _ _ (sym ended)) in
     record {
       caused = λ at stop invalid. absurd (cc (full, stop));
       comes = λ address state event cause. absurd (cc (sym is ∙ invalid-comes m c now limit address state event cause));
     }
 exact m c after now limit e (scanned.Fired note consumed d) is ended = absurd (cc ended)
 exact m c after now limit e (scanned.Stop at) is ended =
-    let stopped : e ≡ end.Stop at = ap (λ (x : Controller × End). x.1) (some_same (sym ended)) in
+    let stopped : e ≡ end.Stop at = ap (λ (x : Controller × End). x.1) (same_Some _ _ (sym ended)) in
     record {
       caused = λ at' stop invalid.
           let same : at ≡ at' = cc (stopped, stop) in
@@ -72,7 +65,7 @@ exact m c after now limit e (scanned.Stop at) is ended =
           stopped ∙ ap (λ (a : StopAt). end.Stop a) here;
     }
 exact m c after now limit e (scanned.Idle d) is ended =
-    let idle : e ≡ end.Idle = ap (λ (x : Controller × End). x.1) (some_same (sym ended)) in
+    let idle : e ≡ end.Idle = ap (λ (x : Controller × End). x.1) (same_Some _ _ (sym ended)) in
     record {
       caused = λ at stop invalid. absurd (cc (idle, stop));
       comes = λ address state event cause. absurd (cc (sym is ∙ invalid-comes m c now limit address state event cause));
@@ -88,7 +81,7 @@ given : (s : Setting) (w : World) (c : ℕ) (p : Place) (m : MachinePlan) (st : 
     → (o : Option (Controller × End)) → ended_by w.now p.controller scan_is ≡ o → given_back w c o ≡ Some st → IsDone s w c p m st
 given s w c p m st scan_is is None ended back = absurd (cc back)
 given s w c p m st scan_is is (Some (after, e)) ended back =
-    let entry : st.entry ≡ Some (Ended w.now c e) = ap (λ (x : Stepped). x.entry) (sym (some_same back)) in
+    let entry : st.entry ≡ Some (Ended w.now c e) = ap (λ (x : Stepped). x.entry) (sym (same_Some _ _ back)) in
     record { «end» = e; entry = entry; exact = exact m p.controller after w.now s.limit e scan_is is ended }
 
 cond_some : {X : Type 0} (b : Bool) (x : Option X) (y : X) → cond b x None ≡ Some y → x ≡ Some y
@@ -112,7 +105,7 @@ ended_at : (s : Setting) (after : List Event) (worker c : ℕ) (w world : World)
     → slice_get w.places c ≡ Some p → machine_plan s c ≡ Some m
     → (o : Option Stepped) → step s w (Done worker c) ≡ o → (e : End) × IsEndedExactly s w c p m sofar journal e
 ended_at s after worker c w world sofar journal p m whole there plan None is =
-    absurd (cc (sym (broken s after) ∙ sym (ap (λ (o : Option Stepped). fold (go_on s) (ran_on o sofar) after) is) ∙ whole))
+    absurd (cc (sym (fold_stays (go_on s) None (λ e. refl) after) ∙ sym (ap (λ (o : Option Stepped). fold (go_on s) (ran_on o sofar) after) is) ∙ whole))
 ended_at s after worker c w world sofar journal p m whole there plan (Some st) is =
     let done = done_is s w worker c p m st there plan is in
     let next : Ran = record { world = st.world; journal = sofar ++ option_to_list st.entry } in
@@ -154,7 +147,7 @@ fires_never : (s : Setting) (after : List Event) (worker c : ℕ) (w : World) (s
     → slice_get w.places c ≡ Some p → machine_plan s c ≡ Some m → IsInvalidTry m p.controller w.now s.limit address state event
     → (o : Option Stepped) → step s w (Fire worker c) ≡ o → ⊥
 fires_never s after worker c w sofar p m last address state event whole there plan cause None is =
-    absurd (cc (sym (broken s after) ∙ sym (ap (λ (o : Option Stepped). fold (go_on s) (ran_on o sofar) after) is) ∙ whole))
+    absurd (cc (sym (fold_stays (go_on s) None (λ e. refl) after) ∙ sym (ap (λ (o : Option Stepped). fold (go_on s) (ran_on o sofar) after) is) ∙ whole))
 fires_never s after worker c w sofar p m last address state event whole there plan cause (Some st) is =
     fires_not s w worker c p m st address state event there plan cause is
 

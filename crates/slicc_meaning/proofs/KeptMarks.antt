@@ -3,7 +3,7 @@ use Rattle.std.proofs.Common.{◌≡◌, ◌+◌, ℕ, Bool, true, false, Option
 use Rattle.std.specs.List.{filter, list_any}
 use Rattle.std.proofs.lemmas.List.Folds.{list_any-append}
 use Rattle.std.proofs.lemmas.Map.Views.{any-filter_same}
-use Rattle.std.proofs.lemmas.Bool.{ne_eqb}
+use Rattle.std.proofs.lemmas.Bool.{ne_eqb, cond_both}
 use Rattle.std.proofs.lemmas.Bool.Decides.{nat_tests}
 use Rattle.slicc_meaning.specs.declared.controller.Controller.{Controller}
 use Rattle.slicc_meaning.specs.declared.controller.Scanned.{Scanned}
@@ -15,7 +15,7 @@ use Rattle.ruby_value.specs.Ascending.{has_mark, with_mark}
 use Rattle.slicc_meaning.specs.Step.{ended_by}
 use Rattle.slicc_meaning.specs.Scan.{scan_ports}
 use Rattle.slicc_meaning.specs.World.{scan_of}
-use Rattle.slicc_meaning.proofs.ScansKeep.{Keeps, pick_scanned, ports-keep}
+use Rattle.slicc_meaning.proofs.ScansKeep.{Keeps, ports-keep}
 
 abbrev pub KeepsMarks : Controller → Scanned → Type 0
 KeepsMarks c s = Keeps (λ (d : Controller). d.marks) c s
@@ -35,7 +35,7 @@ mark-next marks now =
 pub scan-keeps : (s : Setting) (m : Option MachinePlan) (c : Controller) (now : ℕ) → KeepsMarks c (scan_of s m c now)
 scan-keeps s None c now = refl
 scan-keeps s (Some m) c now =
-    pick_scanned (KeepsMarks c) (nat_le s.limit c.fired) Full (scan_ports m m.ports c now) tt (ports-keep (λ (d : Controller). d.marks) (λ d i. refl) (λ d a. refl) m c now (Idle c) m.ports refl)
+    cond_both (nat_le s.limit c.fired) Full (scan_ports m m.ports c now) (KeepsMarks c) (λ full. tt) (λ free. ports-keep (λ (d : Controller). d.marks) (λ d i. refl) (λ d a. refl) m c now (Idle c) m.ports refl)
 
 -- the controller after its wake-up must wake at this cycle as before it
 abbrev pub EndKeeps : ℕ → Controller → Option (Controller × End) → Type 0

@@ -1,7 +1,9 @@
 -- What each change of a controller keeps holds of every controller of a run.
-use Rattle.std.proofs.Common.{◌≡◌, ◌+◌, ℕ, zero, suc, true, Option, None, Some, List, [], ◌∷◌, is_some, is_none, fold, length, refl, subst, All, slice_get, slice_set, replicate, nat_le}
+use Rattle.std.proofs.Common.{◌≡◌, ◌+◌, ℕ, zero, suc, true, Option, None, Some, List, [], ◌∷◌, is_some, length, refl, subst, All, slice_get, slice_set, replicate, nat_le}
+use Rattle.std.proofs.lemmas.Bool.{cond_both}
 use Rattle.std.specs.List.{list_any}
 use Rattle.std.proofs.lemmas.List.Elements.{All-head, All-tail, All-nil, All-append, All-replicate, All-set, All-map, All-weaker}
+use Rattle.std.proofs.lemmas.Option.{same_Some}
 use Rattle.slicc_meaning.specs.declared.controller.Acted.{Acted}
 use Rattle.slicc_meaning.specs.declared.controller.Controller.{Controller}
 use Rattle.slicc_meaning.specs.declared.controller.Message.{Message}
@@ -26,20 +28,21 @@ use Rattle.slicc_meaning.specs.declared.world.Seat.{Seat}
 use Rattle.slicc_meaning.specs.declared.world.Setting.{Setting}
 use Rattle.slicc_meaning.specs.declared.world.World.{World}
 use Rattle.ruby_value.specs.Ascending.{with_mark, marks_from}
-use Rattle.slicc_meaning.specs.Driver.{request_message, arrive, arrive_at, arrive_at_seat, issue_all, plain_turn}
+use Rattle.slicc_meaning.specs.Driver.{arrive, issue_all, plain_turn}
 use Rattle.slicc_meaning.specs.Front.{with_message, without_message}
 use Rattle.slicc_meaning.specs.Rows.{rows}
-use Rattle.slicc_meaning.specs.Run.{Ran, go_on, IsRun}
+use Rattle.slicc_meaning.specs.Run.{IsRun}
 use Rattle.slicc_meaning.specs.Scan.{run_port, scan_ports}
 use Rattle.slicc_meaning.specs.States.{line_of, state_at, with_state}
 use Rattle.slicc_meaning.specs.Statements.{dequeue, run_action, act, front_of}
-use Rattle.slicc_meaning.specs.Step.{take, is_holder, fired_by, ended_by, given_back, scan_at, fire, done, release, is_busy, begun, next_world, driven, turn_by, turn, step}
+use Rattle.slicc_meaning.specs.Step.{take, is_holder, fired_by, ended_by, given_back, scan_at, fire, done, release, is_busy, begun, next_world, driven, turn_by, turn, step_lawfully}
 use Rattle.slicc_meaning.specs.Try.{settled, fire_first, peek_front, if_ready}
 use Rattle.slicc_meaning.specs.Verdict.{next_cycle, least_stopped, end_of_cycle}
-use Rattle.slicc_meaning.specs.World.{is_free, machine_plan, scan_of, opening_place, opening_places, opening}
-use Rattle.slicc_meaning.proofs.Cleared.{AfterStep, AfterEvents, after-ran, where_true, where_false}
-use Rattle.slicc_meaning.proofs.ScansKeep.{pick, pick_scanned}
-use Rattle.slicc_meaning.proofs.Optional.{some_same}
+use Rattle.slicc_meaning.specs.World.{is_free, machine_plan, scan_of, opening_place, opening_places}
+use Rattle.slicc_meaning.proofs.Places.{issue_all-keeps}
+use Rattle.slicc_meaning.proofs.Cleared.{AfterStep, where_true, where_false}
+use Rattle.slicc_meaning.proofs.Folds.{fold-keeps}
+use Rattle.slicc_meaning.proofs.AlongRuns.{hold-along}
 
 -- a fact of controllers that holds at the opening and that each change of a controller keeps
 pub record IsLasting (P : Controller → Type 0) : Type 0 where
@@ -70,7 +73,7 @@ AllHold P w = All (λ (p : Place). P p.controller) w.places
 
 pub at-get : {X : Type 0} (P : X → Type 0) (xs : List X) (c : ℕ) (x : X) → slice_get xs c ≡ Some x → All P xs → P x
 at-get P [] c x there all = absurd (cc there)
-at-get P (y ∷ ys) zero x there all = subst P (some_same there) (All-head P y ys all)
+at-get P (y ∷ ys) zero x there all = subst P (same_Some _ _ there) (All-head P y ys all)
 at-get P (y ∷ ys) (suc c) x there all = at-get P ys c x there (All-tail P y ys all)
 
 module _ (P : Controller → Type 0) (lasts : IsLasting P) where
@@ -85,11 +88,7 @@ module _ (P : Controller → Type 0) (lasts : IsLasting P) where
 
   act-holds : (m : MachinePlan) (now : ℕ) (acted : Acted) (a : ℕ) → P acted.controller → P (act m now acted a).controller
   act-holds m now acted a holds =
-      pick (λ r. P r.controller) (is_some acted.fault) acted _ holds (run_action-holds m (slice_get m.actions a) acted.controller acted.consumed now holds)
-
-  acts-hold : (m : MachinePlan) (now : ℕ) (acted : Acted) (actions : List ℕ) → P acted.controller → P (fold (act m now) acted actions).controller
-  acts-hold m now acted [] holds = holds
-  acts-hold m now acted (a ∷ actions) holds = acts-hold m now (act m now acted a) actions (act-holds m now acted a holds)
+      cond_both (is_some acted.fault) acted _ (λ r. P r.controller) (λ stopped. holds) (λ goes. run_action-holds m (slice_get m.actions a) acted.controller acted.consumed now holds)
 
   settled-holds : (address state event next : ℕ) (c : Controller) (consumed : List MsgNo) (fault : Option Fault) → P c → AfterScan P (settled address state event next c consumed fault)
   settled-holds address state event next c consumed None holds = lasts.sets c address next holds
@@ -98,7 +97,7 @@ module _ (P : Controller → Type 0) (lasts : IsLasting P) where
   fire_first-holds : (m : MachinePlan) (address state event : ℕ) (c : Controller) (now : ℕ) (row : Option WrittenTransition) → P c → AfterScan P (fire_first m address state event c now row)
   fire_first-holds m address state event c now None holds = tt
   fire_first-holds m address state event c now (Some t) holds =
-      settled-holds address state event t.next _ _ _ (acts-hold m now (record { controller = c; consumed = []; fault = None }) t.actions holds)
+      settled-holds address state event t.next _ _ _ (fold-keeps (act m now) (λ r. P r.controller) (act-holds m now) (record { controller = c; consumed = []; fault = None }) t.actions holds)
 
   peek_front-holds : (m : MachinePlan) (t : Trigger) (c : Controller) (now : ℕ) (front : Option Message) → P c → AfterScan P (peek_front m t c now front)
   peek_front-holds m t c now None holds = tt
@@ -109,7 +108,7 @@ module _ (P : Controller → Type 0) (lasts : IsLasting P) where
 
   if_ready-holds : (m : MachinePlan) (i : If) (c : Controller) (now : ℕ) → P c → AfterScan P (if_ready m i c now)
   if_ready-holds m i c now holds =
-      pick_scanned (AfterScan P) (is_some (front_of m i.port c now)) _ _ (peek_front-holds m i.then.then c now (front_of m i.then.port c now) holds) holds
+      cond_both (is_some (front_of m i.port c now)) _ _ (AfterScan P) (λ ready. peek_front-holds m i.then.then c now (front_of m i.then.port c now) holds) (λ quiet. holds)
 
   run_port-holds : (m : MachinePlan) (now : ℕ) (s : Scanned) (p : PortPlan) → AfterScan P s → AfterScan P (run_port m now s p)
   run_port-holds m now Full p holds = tt
@@ -117,14 +116,10 @@ module _ (P : Controller → Type 0) (lasts : IsLasting P) where
   run_port-holds m now (Stop at) p holds = tt
   run_port-holds m now (Idle after) p holds = if_ready-holds m p.body after now holds
 
-  ports-hold : (m : MachinePlan) (now : ℕ) (s : Scanned) (ports : List PortPlan) → AfterScan P s → AfterScan P (fold (run_port m now) s ports)
-  ports-hold m now s [] holds = holds
-  ports-hold m now s (p ∷ ports) holds = ports-hold m now (run_port m now s p) ports (run_port-holds m now s p holds)
-
   scan_of-holds : (s : Setting) (m : Option MachinePlan) (c : Controller) (now : ℕ) → P c → AfterScan P (scan_of s m c now)
   scan_of-holds s None c now holds = holds
   scan_of-holds s (Some m) c now holds =
-      pick_scanned (AfterScan P) (nat_le s.limit c.fired) Full (scan_ports m m.ports c now) tt (ports-hold m now (Idle c) m.ports holds)
+      cond_both (nat_le s.limit c.fired) Full (scan_ports m m.ports c now) (AfterScan P) (λ full. tt) (λ free. fold-keeps (run_port m now) (AfterScan P) (run_port-holds m now) (Idle c) m.ports holds)
 
   -- one place changes
   at-place : (w : World) (c : ℕ) (p : Place) → slice_get w.places c ≡ Some p → AllHold P w → P p.controller
@@ -176,21 +171,12 @@ module _ (P : Controller → Type 0) (lasts : IsLasting P) where
       (ended_by-holds w.now p.controller (scan_at s w c p) holds (scan_of-holds s (machine_plan s c) p.controller w.now holds)) all)
 
   -- a turn
-  arrive_at-holds : (places : List Place) (c : ℕ) (m : Message) (o : Option Place) → slice_get places c ≡ o → All (λ (p : Place). P p.controller) places → All (λ (p : Place). P p.controller) (arrive_at places c m o)
-  arrive_at-holds places c m None there all = all
-  arrive_at-holds places c m (Some p) there all =
-      All-set (λ (q : Place). P q.controller) places c (arrive m p)
-      (lasts.arrives p.controller m (at-get (λ (q : Place). P q.controller) places c p there all)) all
-
-  seat-holds : (places : List Place) (m : Message) (seat : Option Seat) → All (λ (p : Place). P p.controller) places → All (λ (p : Place). P p.controller) (arrive_at_seat places m seat)
-  seat-holds places m None all = all
-  seat-holds places m (Some seat) all = arrive_at-holds places seat.controller m (slice_get places seat.controller) refl all
-
   issue_all-holds : (seats : List Seat) (sender count now : ℕ) (places : List Place) (rs : List Request) → All (λ (p : Place). P p.controller) places → All (λ (p : Place). P p.controller) (issue_all seats sender count now places rs)
-  issue_all-holds seats sender count now places [] all = all
-  issue_all-holds seats sender count now places (r ∷ rs) all =
-      let m : Message = request_message (record { sender = sender; count = count }) now r in
-      issue_all-holds seats sender (count + 1) now (arrive_at_seat places m (slice_get seats r.seat)) rs (seat-holds places m (slice_get seats r.seat) all)
+  issue_all-holds =
+      issue_all-keeps (All (λ (p : Place). P p.controller))
+      (λ places c p m there all.
+      All-set (λ (q : Place). P q.controller) places c (arrive m p)
+      (lasts.arrives p.controller m (at-get (λ (q : Place). P q.controller) places c p there all)) all)
 
   next_world-holds : (w : World) (next : Option ℕ) (verdict : Option Verdict) → AllHold P w → AllHold P (next_world w next verdict)
   next_world-holds w next (Some verdict) all = all
@@ -213,20 +199,12 @@ module _ (P : Controller → Type 0) (lasts : IsLasting P) where
       where_false (AllHold P) (list_any (is_busy w.now) w.places) _ (λ idle. turn_by-holds s w (least_stopped 0 w.places) all)
 
   -- a run
-  step-holds : (s : Setting) (w : World) (e : Event) → AllHold P w → AfterStep (AllHold P) (step s w e)
-  step-holds s w (Take worker c) all = where_true (AllHold P) (is_none w.verdict) _ (λ running. take-holds w worker c (slice_get w.places c) refl all)
-  step-holds s w (Fire worker c) all = where_true (AllHold P) (is_none w.verdict) _ (λ running. fire-holds s w worker c (slice_get w.places c) refl all)
-  step-holds s w (Done worker c) all = where_true (AllHold P) (is_none w.verdict) _ (λ running. done-holds s w worker c (slice_get w.places c) refl all)
-  step-holds s w (Release worker c) all = where_true (AllHold P) (is_none w.verdict) _ (λ running. release-holds w worker c (slice_get w.places c) refl all)
-  step-holds s w (Turn worker) all = where_true (AllHold P) (is_none w.verdict) _ (λ running. turn-holds s w all)
-
-  go_on-holds : (s : Setting) (o : Option Ran) (e : Event) → AfterEvents (AllHold P) o → AfterEvents (AllHold P) (go_on s o e)
-  go_on-holds s None e holds = tt
-  go_on-holds s (Some r) e holds = after-ran (AllHold P) (step s r.world e) r.journal (step-holds s r.world e holds)
-
-  events-hold : (s : Setting) (o : Option Ran) (history : List Event) → AfterEvents (AllHold P) o → AfterEvents (AllHold P) (fold (go_on s) o history)
-  events-hold s o [] holds = holds
-  events-hold s o (e ∷ history) holds = events-hold s (go_on s o e) history (go_on-holds s o e holds)
+  step-holds : (s : Setting) (w : World) (e : Event) → AllHold P w → AfterStep (AllHold P) (step_lawfully s w e)
+  step-holds s w (Take worker c) all = take-holds w worker c (slice_get w.places c) refl all
+  step-holds s w (Fire worker c) all = fire-holds s w worker c (slice_get w.places c) refl all
+  step-holds s w (Done worker c) all = done-holds s w worker c (slice_get w.places c) refl all
+  step-holds s w (Release worker c) all = release-holds w worker c (slice_get w.places c) refl all
+  step-holds s w (Turn worker) all = turn-holds s w all
 
   opening-holds : (counts : List ℕ) → All (λ (p : Place). P p.controller) (opening_places counts)
   opening-holds [] = All-nil (λ (p : Place). P p.controller)
@@ -236,5 +214,4 @@ module _ (P : Controller → Type 0) (lasts : IsLasting P) where
 
   pub run-holds : (s : Setting) (history : List Event) (w : World) (journal : List Entry) → IsRun s history w journal → AllHold P w
   run-holds s history w journal is_run =
-      let first : Ran = record { world = opening s; journal = [] } in
-      subst (AfterEvents (AllHold P)) is_run (events-hold s (Some first) history (opening-holds s.topology.counts))
+      hold-along (λ v told. AllHold P v) s (λ v told e running all. step-holds s v e all) history w journal (opening-holds s.topology.counts) is_run

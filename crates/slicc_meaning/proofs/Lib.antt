@@ -1,4 +1,5 @@
 pub mod Optional
+mod Folds
 mod ScansKeep
 pub mod FiredCounts
 pub mod Invalid

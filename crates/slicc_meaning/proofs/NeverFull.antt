@@ -1,6 +1,7 @@
 -- In a plain run there is a next cycle only after a request, and in it that request alone is there. So a controller comes
 -- to no limit of two or more transitions, and the run to no cycle beyond the number of requests.
 use Rattle.std.proofs.Common.{◌≡◌, ◌<◌, ◌≤◌, ◌⊎◌, ◌||◌, inl, inr, ◌+◌, ℕ, Bool, true, false, Option, None, Some, List, [], ◌∷◌, length, map, refl, sym, ◌∙◌, ap, subst, cond, is_some, nat_lt, slice_get, IsTrue, All, Contains, arith}
+use Rattle.std.proofs.lemmas.Bool.{or_parts}
 use Rattle.std.specs.List.{list_any}
 use Rattle.std.proofs.lemmas.Bool.Decides.{nat_tests}
 use Rattle.std.proofs.lemmas.List.Elements.{All-contains}
@@ -31,7 +32,6 @@ use Rattle.slicc_meaning.proofs.AlongRuns.{kept-where, along}
 use Rattle.slicc_meaning.proofs.KeptMarks.{scan-keeps}
 use Rattle.slicc_meaning.proofs.NextCycles.{next_cycle-is}
 use Rattle.slicc_meaning.proofs.OneKey.{with_mark-has, marks_from-has}
-use Rattle.slicc_meaning.proofs.Places.{or_false}
 use Rattle.slicc_meaning.proofs.PlainScans.{IsPlainScan, scan-plain}
 use Rattle.slicc_meaning.proofs.ShortRuns.{only-there, keeps_fired}
 use Rattle.slicc_meaning.proofs.ShortTurns.{the_request, next-of, turn_with, arrived}
@@ -51,7 +51,7 @@ settled-mail now p at idle sound =
     ]
 
 or-false : (b : Bool) → (b || false) ≡ false → b ≡ false
-or-false b is = (or_false b false is).0
+or-false b is = (or_parts b false is).0
 
 unstopped : (b : Bool) → cond {A = Option ℕ} b (Some 0) None ≡ None → b ≡ false
 unstopped true is = absurd (cc is)
@@ -196,7 +196,7 @@ module _ (machine : Machine) (s : Setting) (planned : s.plan ≡ plan_of machine
       let b : Bool = nat_lt w.now w.driver.requests in
       let v : World = driven s w (plain_turn w.driver w.now) in
       let rests : is_busy w.now p ≡ false = or-false (is_busy w.now p) (ap (λ (ps : List Place). list_any (is_busy w.now) ps) (sym going.only) ∙ idle) in
-      let waits : is_due w.now p ≡ false = (or_false (is_some p.holder) (is_due w.now p) rests).1 in
+      let waits : is_due w.now p ≡ false = (or_parts (is_some p.holder) (is_due w.now p) rests).1 in
       let sound : p.controller.stopped ≡ false = unstopped p.controller.stopped (ap (λ (ps : List Place). least_stopped 0 ps) (sym going.only) ∙ which) in
       let is_readied : IsReadied n w.now v = readied w p b refl going.requests going.only (settled-mail w.now p going.at waits sound) going.at.past in
       (after-prompt w.now v (next_cycle v.now v.next v.places) is_readied running (next_cycle-is v.now v.next v.places), written _ tt)

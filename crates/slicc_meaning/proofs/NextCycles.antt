@@ -2,11 +2,11 @@
 use Rattle.std.proofs.Common.{◌≡◌, ◌<◌, ◌≤◌, ◌⊎◌, ℕ, zero, suc, Bool, true, false, ◌||◌, ◌==◌, Option, None, Some, List, [], ◌∷◌, min, cond, nat_lt, refl, sym, subst, ap, inl, inr, ⊎_elim, IsTrue, eqb-true, eq-eqb, arith}
 use Rattle.std.proofs.lemmas.Bool.{cases_lt, or_right, or_left}
 use Rattle.std.proofs.lemmas.Bool.Decides.{nat_tests}
+use Rattle.std.proofs.lemmas.Option.{same_Some}
 use Rattle.slicc_meaning.specs.declared.world.Place.{Place}
 use Rattle.ruby_value.specs.Ascending.{has_mark}
 use Rattle.slicc_meaning.specs.NextCycle.{MustAct, IsLeastAboveIfAny, IsNextCycle}
 use Rattle.slicc_meaning.specs.Verdict.{earlier, above, least_above, later, next_cycle}
-use Rattle.slicc_meaning.proofs.Optional.{some_same}
 
 -- two properties that hold of the same cycles
 like : (P Q : ℕ → Type 0) (now : ℕ) → ((m : ℕ) → P m → Q m) → ((m : ℕ) → Q m → P m) → (o : Option ℕ) → IsLeastAboveIfAny P now o → IsLeastAboveIfAny Q now o
@@ -82,7 +82,7 @@ without-places next m (inr (c, p, there, has)) = absurd (cc there)
 split-place : (next : Option ℕ) (p : Place) (places : List Place) (m : ℕ) → MustAct next (p ∷ places) m → IsTrue (has_mark p.controller.marks m) ⊎ MustAct next places m
 split-place next p places m (inl is) = inr (inl is)
 split-place next p places m (inr (zero, q, there, has)) =
-    inl (subst (λ (x : Place). IsTrue (has_mark x.controller.marks m)) (sym (some_same there)) has)
+    inl (subst (λ (x : Place). IsTrue (has_mark x.controller.marks m)) (sym (same_Some _ _ there)) has)
 split-place next p places m (inr (suc c, q, there, has)) = inr (inr (c, q, there, has))
 
 join-place : (next : Option ℕ) (p : Place) (places : List Place) (m : ℕ) → IsTrue (has_mark p.controller.marks m) ⊎ MustAct next places m → MustAct next (p ∷ places) m

@@ -12,6 +12,7 @@ use Rattle.ruby_value.specs.Ascending.{has_mark, with_mark, marks_from}
 use Rattle.ruby_value.specs.NumberBefore.{number_before, same_number}
 use Rattle.slicc_meaning.specs.Front.{with_message, without_message}
 use Rattle.slicc_meaning.specs.States.{state_or, state_at, with_state}
+use Rattle.slicc_meaning.proofs.Inboxes.{same-refl, number-is}
 use Rattle.slicc_meaning.proofs.Orders.{nothing-there, head_or_rest, at-head, in-rest, in-filter, from-filter}
 
 module _ {X : Type 0} (p q : X → Bool) (x : X) (xs : List X) where
@@ -87,7 +88,7 @@ number-three a b = grind (arith, nat_tests)
 numbers-apart : (a b : MsgNo) → a ≢ b → (number_before a b ≡ true) ⊎ (number_before b a ≡ true)
 numbers-apart a b apart =
     ⊎_elim
-    (λ same. let s : a.sender ≡ b.sender = same.0 in let c : a.count ≡ b.count = same.1 in absurd (apart (λ i. record { sender = s i; count = c i })))
+    (λ same. absurd (apart (number-is a b same.0 same.1)))
     (λ other. other)
     (number-three a b)
 
@@ -112,21 +113,18 @@ with_message-contains inbox m other =
       λ is. ⊎_elim (put-new p q m inbox other) (λ so. put-old p q m inbox other so.0 (numbers-apart other.number m.number so.1)) is,
     )
 
-same-itself : (a : MsgNo) → same_number a a ≡ true
-same-itself a = grind (arith, nat_tests)
-
 same-parts : (a b : MsgNo) → ((a.sender ≡ b.sender) × (a.count ≡ b.count)) ⊎ (not (same_number a b) ≡ true)
 same-parts a b = grind (arith, nat_tests)
 
 not-same : (a b : MsgNo) → not (same_number a b) ≡ true → a ≢ b
 not-same a b is = λ same.
-    let one : same_number a b ≡ true = subst (λ (n : MsgNo). same_number a n ≡ true) same (same-itself a) in
+    let one : same_number a b ≡ true = subst (λ (n : MsgNo). same_number a n ≡ true) same (same-refl a) in
     absurd (cc (is, one))
 
 apart-passes : (a b : MsgNo) → a ≢ b → not (same_number a b) ≡ true
 apart-passes a b apart =
     ⊎_elim
-    (λ same. let s : a.sender ≡ b.sender = same.0 in let c : a.count ≡ b.count = same.1 in absurd (apart (λ i. record { sender = s i; count = c i })))
+    (λ same. absurd (apart (number-is a b same.0 same.1)))
     (λ is. is)
     (same-parts a b)
 

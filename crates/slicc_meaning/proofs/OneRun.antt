@@ -1,9 +1,11 @@
 -- One worker makes one run of a setting: in each world there is one thing that it does.
-use Rattle.std.proofs.Common.{◌≡◌, ◌⊎◌, inl, inr, ◌+◌, ◌++◌, ℕ, Bool, true, false, Option, None, Some, List, [], ◌∷◌, refl, sym, ◌∙◌, ap, subst, cond, fold, get_or, slice_get, is_some, is_none, position, arith}
+use Rattle.std.proofs.Common.{◌≡◌, ◌⊎◌, inl, inr, ◌+◌, ◌++◌, ℕ, Bool, true, false, Option, None, Some, List, [], ◌∷◌, refl, sym, ◌∙◌, ap, subst, cond, fold, get_or, slice_get, is_none, position, arith}
+use Rattle.std.proofs.lemmas.Bool.{or_parts}
 use Rattle.std.specs.List.{list_any}
 use Rattle.std.proofs.lemmas.List.{append_assoc}
 use Rattle.std.proofs.lemmas.List.Folds.{list_any_at}
 use Rattle.std.proofs.lemmas.List.Quantifiers.{position-Some}
+use Rattle.std.proofs.lemmas.Option.{same_Some}
 use Rattle.slicc_meaning.specs.declared.controller.Controller.{Controller}
 use Rattle.slicc_meaning.specs.declared.controller.Scanned.{Scanned}
 use Rattle.slicc_meaning.specs.declared.controller.Scanned.TheVariants.{Full, Fired, Stop, Idle}
@@ -25,10 +27,9 @@ use Rattle.slicc_meaning.specs.Step.{Stepped, with_place, take, is_holder, fired
 use Rattle.slicc_meaning.specs.Verdict.{least_stopped}
 use Rattle.slicc_meaning.specs.World.{is_free, is_held, opening_place, opening}
 use Rattle.slicc_meaning.proofs.Cleared.{is_touched, AfterStep, AfterEvents, IsCleared, after-ran, where_true, turn-cleared, opening-cleared}
-use Rattle.slicc_meaning.proofs.Places.{or_false, idle-nobody}
+use Rattle.slicc_meaning.proofs.Places.{holder-held, idle-nobody}
 use Rattle.slicc_meaning.proofs.Waking.{set-at}
 use Rattle.slicc_meaning.proofs.WokenOnce.{at_place, none-at, some-before, split-run, runs-on}
-use Rattle.slicc_meaning.proofs.Optional.{some_same}
 
 abbrev held_at : World → ℕ → Bool
 held_at w c = at_place is_held (slice_get w.places c)
@@ -39,7 +40,7 @@ IsSingle w = w.verdict ≡ None → (c d : ℕ) → held_at w c ≡ true → hel
 
 touched-held : (o : Option Place) → at_place is_touched o ≡ false → at_place is_held o ≡ false
 touched-held None none = refl
-touched-held (Some p) none = let parts = or_false p.finished (is_held p) none in parts.1
+touched-held (Some p) none = let parts = or_parts p.finished (is_held p) none in parts.1
 
 cleared-single : (w : World) → IsCleared w → IsSingle w
 cleared-single w clear running c d first second =
@@ -133,10 +134,6 @@ yields : (b : Bool) (o : Option Stepped) (st : Stepped) → cond b o None ≡ So
 yields true o st is = (refl, is)
 yields false o st is = absurd (cc is)
 
-holder-held : (worker : ℕ) (o : Option ℕ) → is_holder worker o ≡ true → is_some o ≡ true
-holder-held worker None is = absurd (cc is)
-holder-held worker (Some other) is = refl
-
 fired_by-fires : (w : World) (c : ℕ) (p : Place) (s : Scanned) (st : Stepped) → fired_by w c p s ≡ Some st → fires s ≡ true
 fired_by-fires w c p (Fired note consumed after) st is = refl
 fired_by-fires w c p Full st is = absurd (cc is)
@@ -228,10 +225,10 @@ module _ (s : Setting) where
       → one ≡ other
   rest-same history [] [] r a b so_far single alone goes ended also leads closed = refl
   rest-same history [] (f ∷ other) r a b so_far single alone goes ended also leads closed =
-      let here : HasEnded r.world = subst (λ (x : Ran). HasEnded x.world) (sym (some_same goes)) ended in
+      let here : HasEnded r.world = subst (λ (x : Ran). HasEnded x.world) (sym (same_Some _ _ goes)) ended in
       absurd (ended-not r.world here (runs-on s r f other b leads))
   rest-same history (e ∷ one) [] r a b so_far single alone goes ended also leads closed =
-      let here : HasEnded r.world = subst (λ (x : Ran). HasEnded x.world) (sym (some_same leads)) closed in
+      let here : HasEnded r.world = subst (λ (x : Ran). HasEnded x.world) (sym (same_Some _ _ leads)) closed in
       absurd (ended-not r.world here (runs-on s r e one a goes))
   rest-same history (e ∷ one) (f ∷ other) r a b so_far single alone goes ended also leads closed =
       let running = runs-on s r e one a goes in
@@ -276,11 +273,11 @@ one_record r q (w, is, ended) alone (v, also, closed) apart plan topology option
     let history = one_history (setting r) r.history q.history w v r.journal q.journal is.run ended alone also_run closed apart_r in
     let run_q : IsRun (setting r) r.history v q.journal = subst (λ h. IsRun (setting r) h v q.journal) (sym history) also_run in
     let same : Ran = record { world = w; journal = r.journal } in
-    let ran : same ≡ record { world = v; journal = q.journal } = some_same (sym is.run ∙ run_q) in
+    let ran : same ≡ record { world = v; journal = q.journal } = same_Some _ _ (sym is.run ∙ run_q) in
     let world : w ≡ v = ap (λ (x : Ran). x.world) ran in
     let journal : r.journal ≡ q.journal = ap (λ (x : Ran). x.journal) ran in
     let f = is.finals ∙ ap finals journal ∙ sym also.finals in
     let g = is.account ∙ ap (λ j. account j w.places) journal ∙ ap (λ (x : World). account q.journal x.places) world ∙ sym also.account in
-    let h : r.verdict ≡ q.verdict = some_same (sym is.verdict ∙ ap (λ (x : World). x.verdict) world ∙ also.verdict) in
+    let h : r.verdict ≡ q.verdict = same_Some _ _ (sym is.verdict ∙ ap (λ (x : World). x.verdict) world ∙ also.verdict) in
     let i = is.tallies ∙ ap (λ es. tally 0 es ∷ []) history ∙ sym also.tallies in
     record-same r q plan topology options history journal f g h i

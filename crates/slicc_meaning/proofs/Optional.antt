@@ -1,5 +1,6 @@
--- Two values that are there are the same where they are the same as optional values.
-use Rattle.std.proofs.Common.{◌≡◌, Some}
+-- What `is_none` says of an optional value.
+use Rattle.std.proofs.Common.{◌≡◌, true, Option, None, Some, is_none, refl}
 
-pub some_same : {A : Type 0} {x y : A} → Some x ≡ Some y → x ≡ y
-some_same h = cc h
+pub none_is : {X : Type 0} (o : Option X) → is_none o ≡ true → o ≡ None
+none_is None is = refl
+none_is (Some x) is = absurd (cc is)

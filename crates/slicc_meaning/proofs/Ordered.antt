@@ -1,6 +1,6 @@
 -- The lists of each controller ascend along a run.
-use Rattle.std.proofs.Common.{◌≡◌, ◌<◌, ℕ, true, List, not, nat_lt, AllPairs, arith}
-use Rattle.std.proofs.lemmas.Bool.Decides.{nat_tests}
+use Rattle.std.proofs.Common.{◌<◌, ℕ, List, not, nat_lt, AllPairs, arith}
+use Rattle.std.proofs.lemmas.Bool.{ltb-true}
 use Rattle.std.proofs.lemmas.List.Kept.{AllPairs-filter}
 use Rattle.slicc_meaning.specs.declared.controller.Message.{Message}
 use Rattle.slicc_meaning.specs.declared.controller.StateAt.{StateAt}
@@ -28,16 +28,13 @@ ByNumber a b = IsBefore a.number b.number
 abbrev ByAddress : StateAt → StateAt → Type 0
 ByAddress a b = a.address < b.address
 
-less : (a b : ℕ) → nat_lt a b ≡ true → a < b
-less a b is = grind (arith, nat_tests, is)
-
 number-far : (a b c : Message) → ByNumber a b → ByNumber b c → ByNumber a c
 number-far a b c first second = grind (arith, first, second)
 
 mark-ordered : (marks : List ℕ) (cycle : ℕ) → AllPairs ByCycle marks → AllPairs ByCycle (with_mark marks cycle)
 mark-ordered marks cycle is =
     put-between ByCycle (λ a b c first second. omega (arith, first, second)) (λ m. nat_lt m cycle) (λ m. nat_lt cycle m) cycle
-    (λ m. less m cycle) (λ m. less cycle m) marks is
+    (λ m. ltb-true m cycle) (λ m. ltb-true cycle m) marks is
 
 message-ordered : (inbox : List Message) (m : Message) → AllPairs ByNumber inbox → AllPairs ByNumber (with_message inbox m)
 message-ordered inbox m is =
@@ -47,7 +44,7 @@ message-ordered inbox m is =
 state-ordered : (states : List StateAt) (address state : ℕ) → AllPairs ByAddress states → AllPairs ByAddress (with_state states address state)
 state-ordered states address state is =
     put-between ByAddress (λ a b c first second. omega (arith, first, second)) (λ s. nat_lt s.address address) (λ s. nat_lt address s.address)
-    (record { address = address; state = state }) (λ s. less s.address address) (λ s. less address s.address) states is
+    (record { address = address; state = state }) (λ s. ltb-true s.address address) (λ s. ltb-true address s.address) states is
 
 ordered-lasts : IsLasting IsOrdered
 ordered-lasts = record {

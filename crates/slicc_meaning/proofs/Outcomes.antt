@@ -2,9 +2,9 @@
 use Rattle.std.proofs.Common.{◌≡◌, ◌≤◌, ◌+◌, ℕ, zero, suc, Bool, true, false, Option, None, Some, List, [], ◌∷◌, cond, refl, sym, subst, is_none, nat_lt, slice_get, arith}
 use Rattle.std.specs.List.{list_any}
 use Rattle.std.proofs.lemmas.Bool.Decides.{nat_tests}
+use Rattle.std.proofs.lemmas.Option.{same_Some}
 use Rattle.slicc_meaning.specs.declared.record.Entry.{Entry}
 use Rattle.run_journal.specs.declared.event.Event.TheVariants.{Turn}
-use Rattle.slicc_meaning.specs.declared.record.Verdict.{Verdict}
 use Rattle.slicc_meaning.specs.declared.record.Verdict.TheVariants.{Cycles}
 use Rattle.slicc_meaning.specs.declared.world.Place.{Place}
 use Rattle.slicc_meaning.specs.declared.world.Setting.{Setting}
@@ -15,7 +15,7 @@ use Rattle.slicc_meaning.specs.Step.{is_busy, next_world, driven, turn_by, turn,
 use Rattle.slicc_meaning.specs.Verdict.{next_cycle, least_stopped, end_of_cycle}
 use Rattle.slicc_meaning.proofs.Cleared.{AfterStep, where_true, where_false}
 use Rattle.slicc_meaning.proofs.NextCycles.{next_cycle-is}
-use Rattle.slicc_meaning.proofs.Optional.{some_same}
+use Rattle.slicc_meaning.proofs.Optional.{none_is}
 
 abbrev StoppedAt : List Place → ℕ → Type 0
 StoppedAt places k = (p : Place) × (slice_get places k ≡ Some p) × (p.controller.stopped ≡ true)
@@ -32,7 +32,7 @@ StoppedFrom c places (Some n) = IsLeastFrom c places n
 
 head-not : (p : Place) (places : List Place) → p.controller.stopped ≡ false → StoppedAt (p ∷ places) 0 → ⊥
 head-not p places going (q, there, stopped) =
-    let so : p.controller.stopped ≡ true = subst (λ (x : Place). x.controller.stopped ≡ true) (sym (some_same there)) stopped in
+    let so : p.controller.stopped ≡ true = subst (λ (x : Place). x.controller.stopped ≡ true) (sym (same_Some _ _ there)) stopped in
     absurd (cc (so, going))
 
 none-more : (p : Place) (places : List Place) → p.controller.stopped ≡ false → ((k : ℕ) → StoppedAt places k → ⊥) → (k : ℕ) → StoppedAt (p ∷ places) k → ⊥
@@ -73,10 +73,6 @@ least-number w n is =
       least = λ other at. omega (arith, same, is.least other at);
     }
 
-no_verdict : (verdict : Option Verdict) → is_none verdict ≡ true → verdict ≡ None
-no_verdict None is = refl
-no_verdict (Some verdict) is = absurd (cc is)
-
 -- what a turn comes to in the world after it
 abbrev Comes : Setting → World → World → Type 0
 Comes s w v = IsOutcome s w v.now v.verdict
@@ -105,7 +101,7 @@ turn-comes s w worker =
     where_true (Comes s w) (is_none w.verdict) (turn s w)
     (λ running.
     where_false (Comes s w) (list_any (is_busy w.now) w.places) _
-    (λ idle. turned s w (no_verdict w.verdict running) (least_stopped 0 w.places) (stopped-from 0 w.places)))
+    (λ idle. turned s w (none_is w.verdict running) (least_stopped 0 w.places) (stopped-from 0 w.places)))
 
 pub turn-outcome : (s : Setting) (w v : World) (worker : ℕ) (entry : Option Entry) → step s w (Turn worker) ≡ Some (record { world = v; entry = entry }) → IsOutcome s w v.now v.verdict
 turn-outcome s w v worker entry is = subst (AfterStep (Comes s w)) is (turn-comes s w worker)

@@ -4,6 +4,7 @@ use Rattle.std.proofs.Common.{◌≡◌, ◌<◌, ◌≤◌, ◌⊎◌, inl, inr
 use Rattle.std.specs.Option.{option_to_list}
 use Rattle.std.proofs.lemmas.Bool.Decides.{nat_tests}
 use Rattle.std.proofs.lemmas.List.Elements.{All-cons, All-nil}
+use Rattle.std.proofs.lemmas.Option.{same_Some}
 use Rattle.slicc_meaning.specs.declared.controller.Controller.{Controller}
 use Rattle.slicc_meaning.specs.declared.controller.Message.{Message}
 use Rattle.slicc_meaning.specs.declared.controller.Scanned.{Scanned}
@@ -27,7 +28,6 @@ use Rattle.slicc_meaning.proofs.KeptMarks.{KeepsMarks}
 use Rattle.slicc_meaning.proofs.PlainScans.{IsPlainScan}
 use Rattle.slicc_meaning.proofs.ScansKeep.{Keeps}
 use Rattle.slicc_meaning.proofs.ShortRuns.{only-there}
-use Rattle.slicc_meaning.proofs.Optional.{some_same}
 
 abbrev pub IsNotFullEnd : End → Type 0
 IsNotFullEnd end.Idle = Unit {0}
@@ -118,7 +118,7 @@ emptied : (now : ℕ) (c : Controller) (m : Message) (inbox : List Message) → 
     → inbox ≡ without_message c.inbox m.number → (inbox ≡ []) × (c.fired ≡ 0)
 emptied now c m inbox (inl none) is left = absurd (cc is)
 emptied now c m inbox (inr (one, fresh)) is left =
-    let same : one.message ≡ m = some_same (sym one.ready ∙ ap (λ (ms : List Message). front ms 0 now) (sym one.only) ∙ is) in (
+    let same : one.message ≡ m = same_Some _ _ (sym one.ready ∙ ap (λ (ms : List Message). front ms 0 now) (sym one.only) ∙ is) in (
       left ∙ ap (λ (ms : List Message). without_message ms m.number) one.only ∙ ap (λ (x : Message). without_message (x ∷ []) m.number) same ∙ without-itself m,
       fresh,
     )

@@ -24,6 +24,7 @@ use Rattle.slicc_meaning.specs.Scan.{run_port}
 use Rattle.slicc_meaning.specs.World.{scan_of}
 use Rattle.slicc_meaning.proofs.Tallies.{one, tally, tally-append}
 use Rattle.slicc_meaning.proofs.Inboxes.{mail, mail-without, IsIn, front-in}
+use Rattle.slicc_meaning.proofs.Folds.{fold-keeps}
 
 -- no number is there twice
 pub record IsOnce (inbox : List Message) : Type 0 where
@@ -68,10 +69,6 @@ module _ (before : List Message) (once : IsOnce before) where
         | false ↦ run_action-acted m (slice_get m.actions a) acted.controller acted.consumed now moved
       ]
 
-  acts-acted : (m : MachinePlan) (now : ℕ) (acted : Acted) (actions : List ℕ) → IsActed before acted → IsActed before (fold (act m now) acted actions)
-  acts-acted m now acted [] moved = moved
-  acts-acted m now acted (a ∷ actions) moved = acts-acted m now (act m now acted a) actions (act-acted m now acted a moved)
-
 -- what a scan does to the inbox
 abbrev pub KeepsMail : List Message → Scanned → Type 0
 KeepsMail before Full = Unit {0}
@@ -90,7 +87,7 @@ module _ (m : MachinePlan) (now : ℕ) (c : Controller) (once : IsOnce c.inbox) 
   fire_first-mail address state event (Some t) =
       let begun : Acted = record { controller = c; consumed = []; fault = None } in
       let acted : Acted = fold (act m now) begun t.actions in
-      settled-mail c.inbox address state event t.next acted.controller acted.consumed acted.fault (acts-acted c.inbox once m now begun t.actions (unmoved c.inbox))
+      settled-mail c.inbox address state event t.next acted.controller acted.consumed acted.fault (fold-keeps (act m now) (IsActed c.inbox) (act-acted c.inbox once m now) begun t.actions (unmoved c.inbox))
 
   peek_front-mail : (t : Trigger) (front : Option Message) → KeepsMail c.inbox (peek_front m t c now front)
   peek_front-mail t None = tt
@@ -118,14 +115,10 @@ module _ (m : MachinePlan) (now : ℕ) (before : List Message) (once : IsOnce be
       let after_once : IsOnce after.inbox = subst (λ (x : List Message). IsOnce x) (sym keeps) once in
       same_inbox after.inbox before (if_ready m p.body after now) keeps (if_ready-mail m now after after_once p.body)
 
-  ports-mail : (s : Scanned) (ports : List PortPlan) → KeepsMail before s → KeepsMail before (fold (run_port m now) s ports)
-  ports-mail s [] keeps = keeps
-  ports-mail s (p ∷ ports) keeps = ports-mail (run_port m now s p) ports (run_port-mail s p keeps)
-
 scan-mail : (m : MachinePlan) (c : Controller) (now limit : ℕ) (b : Bool) → IsOnce c.inbox
     → KeepsMail c.inbox (cond b Full (fold (run_port m now) (Idle c) m.ports))
 scan-mail m c now limit true once = tt
-scan-mail m c now limit false once = ports-mail m now c.inbox once (Idle c) m.ports refl
+scan-mail m c now limit false once = fold-keeps (run_port m now) (KeepsMail c.inbox) (run_port-mail m now c.inbox once) (Idle c) m.ports refl
 
 pub scan_of-mail : (s : Setting) (m : Option MachinePlan) (c : Controller) (now : ℕ) → IsOnce c.inbox → KeepsMail c.inbox (scan_of s m c now)
 scan_of-mail s None c now once = refl

@@ -1,5 +1,6 @@
 -- A scan changes inboxes and states alone, so it keeps each part of a controller that stands apart from both.
-use Rattle.std.proofs.Common.{◌≡◌, ℕ, Bool, true, false, Option, None, Some, List, [], ◌∷◌, is_some, cond, fold, refl, ◌∙◌, slice_get}
+use Rattle.std.proofs.Common.{◌≡◌, ℕ, Option, None, Some, List, [], is_some, fold, refl, ◌∙◌, slice_get}
+use Rattle.std.proofs.lemmas.Bool.{cond_both}
 use Rattle.slicc_meaning.specs.declared.controller.Acted.{Acted}
 use Rattle.slicc_meaning.specs.declared.controller.Controller.{Controller}
 use Rattle.slicc_meaning.specs.declared.controller.Message.{Message}
@@ -19,6 +20,7 @@ use Rattle.slicc_meaning.specs.States.{line_of, state_at, with_state}
 use Rattle.slicc_meaning.specs.Statements.{dequeue, run_action, act, front_of}
 use Rattle.slicc_meaning.specs.Try.{settled, fire_first, peek_front, if_ready}
 use Rattle.slicc_meaning.specs.Scan.{run_port}
+use Rattle.slicc_meaning.proofs.Folds.{fold-keeps}
 
 -- what a scan leaves of a controller has this part as it was
 abbrev pub Keeps : {X : Type 0} → (Controller → X) → Controller → Scanned → Type 0
@@ -26,14 +28,6 @@ Keeps part c Full = Unit {0}
 Keeps part c (Fired note consumed after) = part after ≡ part c
 Keeps part c (Stop at) = Unit {0}
 Keeps part c (Idle after) = part after ≡ part c
-
-pub pick : (P : Acted → Type 0) (b : Bool) (x y : Acted) → P x → P y → P (cond b x y)
-pick P true x y px py = px
-pick P false x y px py = py
-
-pub pick_scanned : (P : Scanned → Type 0) (b : Bool) (x y : Scanned) → P x → P y → P (cond b x y)
-pick_scanned P true x y px py = px
-pick_scanned P false x y px py = py
 
 module _ {X : Type 0} (part : Controller → X)
     (inbox : (c : Controller) (messages : List Message) → part (record c { inbox = messages }) ≡ part c)
@@ -48,11 +42,11 @@ module _ {X : Type 0} (part : Controller → X)
 
   act-part : (m : MachinePlan) (now : ℕ) (acted : Acted) (a : ℕ) → part (act m now acted a).controller ≡ part acted.controller
   act-part m now acted a =
-      pick (λ r. part r.controller ≡ part acted.controller) (is_some acted.fault) acted _ refl (run_action-part m _ acted.controller acted.consumed now)
+      cond_both (is_some acted.fault) acted _ (λ r. part r.controller ≡ part acted.controller) (λ stopped. refl) (λ goes. run_action-part m _ acted.controller acted.consumed now)
 
   acts-part : (m : MachinePlan) (now : ℕ) (acted : Acted) (actions : List ℕ) → part (fold (act m now) acted actions).controller ≡ part acted.controller
-  acts-part m now acted [] = refl
-  acts-part m now acted (a ∷ actions) = acts-part m now (act m now acted a) actions ∙ act-part m now acted a
+  acts-part m now acted actions =
+      fold-keeps (act m now) (λ r. part r.controller ≡ part acted.controller) (λ r a same. act-part m now r a ∙ same) acted actions refl
 
   settled-keeps : (address state event next : ℕ) (c after : Controller) (consumed : List MsgNo) (fault : Option Fault) → part after ≡ part c → Keeps part c (settled address state event next after consumed fault)
   settled-keeps address state event next c after consumed None same = states after (with_state after.states address next) ∙ same
@@ -72,7 +66,7 @@ module _ {X : Type 0} (part : Controller → X)
 
   if_ready-keeps : (m : MachinePlan) (i : If) (c : Controller) (now : ℕ) → Keeps part c (if_ready m i c now)
   if_ready-keeps m i c now =
-      pick_scanned (Keeps part c) (is_some (front_of m i.port c now)) _ _ (peek_front-keeps m i.then.then c now (front_of m i.then.port c now)) refl
+      cond_both (is_some (front_of m i.port c now)) _ _ (Keeps part c) (λ ready. peek_front-keeps m i.then.then c now (front_of m i.then.port c now)) (λ quiet. refl)
 
   pub keeps_from : (c d : Controller) (s : Scanned) → part d ≡ part c → Keeps part d s → Keeps part c s
   keeps_from c d Full same keeps = tt
@@ -87,5 +81,4 @@ module _ {X : Type 0} (part : Controller → X)
   run_port-keeps m c now (Idle after) p keeps = keeps_from c after _ keeps (if_ready-keeps m p.body after now)
 
   pub ports-keep : (m : MachinePlan) (c : Controller) (now : ℕ) (s : Scanned) (ports : List PortPlan) → Keeps part c s → Keeps part c (fold (run_port m now) s ports)
-  ports-keep m c now s [] keeps = keeps
-  ports-keep m c now s (p ∷ ports) keeps = ports-keep m c now (run_port m now s p) ports (run_port-keeps m c now s p keeps)
+  ports-keep m c now s ports keeps = fold-keeps (run_port m now) (Keeps part c) (run_port-keeps m c now) s ports keeps

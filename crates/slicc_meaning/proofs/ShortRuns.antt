@@ -2,8 +2,10 @@
 -- Fired for each request; and beyond the last request there is a further cycle only where a full controller fired in the
 -- one before.
 use Rattle.std.proofs.Common.{◌≡◌, ◌<◌, ◌≤◌, ◌⊎◌, inl, inr, ◌+◌, ◌++◌, ℕ, zero, suc, Bool, true, false, Option, None, Some, List, [], ◌∷◌, length, refl, sym, ◌∙◌, ap, subst, cond, is_some, is_none, nat_le, slice_get, slice_set, IsTrue, All, arith}
+use Rattle.std.proofs.lemmas.Bool.{cond_both}
 use Rattle.std.specs.Option.{option_to_list}
 use Rattle.std.proofs.lemmas.List.{append-nil}
+use Rattle.std.proofs.lemmas.Option.{same_Some}
 use Rattle.slicc_meaning.specs.declared.controller.Controller.{Controller}
 use Rattle.ruby_value.specs.declared.message.MsgNo.{MsgNo}
 use Rattle.slicc_meaning.specs.declared.controller.Scanned.{Scanned}
@@ -24,9 +26,10 @@ use Rattle.slicc_meaning.specs.World.{is_free, is_held, machine_plan, machine_of
 use Rattle.slicc_meaning.proofs.FedScans.{IsFeeding, IsFed, scan_of-fed}
 use Rattle.slicc_meaning.proofs.KeptMarks.{KeepsMarks, scan-keeps}
 use Rattle.slicc_meaning.proofs.OneKey.{with_mark-has}
-use Rattle.slicc_meaning.proofs.ScansKeep.{Keeps, pick_scanned, ports-keep}
-use Rattle.slicc_meaning.proofs.Tallies.{one, tally, tally-append, tally-more}
-use Rattle.slicc_meaning.proofs.Optional.{some_same}
+use Rattle.slicc_meaning.proofs.Places.{holder-held}
+use Rattle.slicc_meaning.proofs.ScansKeep.{Keeps, ports-keep}
+use Rattle.slicc_meaning.proofs.Tallies.{one, tally, tally-append, tally-true, tally-more}
+use Rattle.slicc_meaning.proofs.AlongRuns.{HoldsAfter}
 
 abbrev pub is_fired : Entry → Bool
 is_fired (entry.Fired cycle c note consumed) = true
@@ -76,11 +79,10 @@ pub record IsShort (s : Setting) (w : World) (journal : List Entry) : Type 0 whe
   pub short : IsShortAt s.driver.requests s.limit w.now (is_none w.verdict) place journal
 
 abbrev pub IsShortAfter : Setting → List Entry → Option Stepped → Type 0
-IsShortAfter s journal None = Unit {0}
-IsShortAfter s journal (Some st) = IsShort s st.world (journal ++ option_to_list st.entry)
+IsShortAfter s = HoldsAfter (IsShort s)
 
 pub only-there : (p q : Place) (c : ℕ) → slice_get (p ∷ []) c ≡ Some q → (c ≡ 0) × (p ≡ q)
-only-there p q zero there = (refl, some_same there)
+only-there p q zero there = (refl, same_Some _ _ there)
 only-there p q (suc c) there = absurd (cc there)
 
 -- the one place changes
@@ -107,8 +109,7 @@ silent : (n limit now : ℕ) (q : Place) (journal : List Entry) → IsShortAt n 
 silent n limit now q journal short = subst (λ j. IsShortAt n limit now true q j) (sym (append-nil journal)) short
 
 pub where_true-short : (s : Setting) (journal : List Entry) (b : Bool) (o : Option Stepped) → (b ≡ true → IsShortAfter s journal o) → IsShortAfter s journal (cond b o None)
-where_true-short s journal true o holds = holds refl
-where_true-short s journal false o holds = tt
+where_true-short s journal b o holds = cond_both b o None (IsShortAfter s journal) holds (λ not. tt)
 
 -- the place changes its holder and nothing else, and nothing is written
 held-by : (n limit now : ℕ) (p : Place) (holder : Option ℕ) (journal : List Entry) → (is_some holder ≡ true → p.finished ≡ false)
@@ -158,15 +159,14 @@ module _ (journal : List Entry) (e : Entry) where
   eaten-more = tally-more each consumed_in journal (e ∷ [])
 
 pub length-each : (numbers : List MsgNo) → tally each (numbers ++ []) ≡ length numbers
-length-each [] = refl
-length-each (n ∷ numbers) = omega (arith, length-each numbers)
+length-each numbers = ap (λ all. tally each all) (append-nil numbers) ∙ tally-true numbers
 
 pub keeps_fired : (s : Setting) (o : Option MachinePlan) (c : Controller) (now : ℕ) → Keeps (λ (d : Controller). d.fired) c (scan_of s o c now)
 keeps_fired s None c now = refl
 keeps_fired s (Some m) c now =
     let fired = λ (d : Controller). d.fired in
-    pick_scanned (Keeps fired c) (nat_le s.limit c.fired) Full (scan_ports m m.ports c now) tt
-    (ports-keep fired (λ d i. refl) (λ d a. refl) m c now (Idle c) m.ports refl)
+    cond_both (nat_le s.limit c.fired) Full (scan_ports m m.ports c now) (Keeps fired c) (λ full. tt)
+    (λ free. ports-keep fired (λ d i. refl) (λ d a. refl) m c now (Idle c) m.ports refl)
 
 fired_by-short : (s : Setting) (w : World) (journal : List Entry) (c : ℕ) (p : Place) (scanned : Scanned) → w.verdict ≡ None → slice_get w.places c ≡ Some p
     → IsShort s w journal → IsFed s.limit p.controller.fired scanned → Keeps (λ (d : Controller). d.fired) p.controller scanned → KeepsMarks p.controller scanned
@@ -246,10 +246,6 @@ given_back-short s w journal c p (Some ended) running there holds is ending =
             | inr fresh ↦ (fresh.0, omega (arith, fresh.1, ending.0))
           ];
     })
-
-holder-held : (worker : ℕ) (o : Option ℕ) → is_holder worker o ≡ true → is_some o ≡ true
-holder-held worker None is = absurd (cc is)
-holder-held worker (Some other) is = refl
 
 module _ (s : Setting) (feeds : All IsFeeding s.plan.machines) where
   at-fed : (w : World) (c : ℕ) (p : Place) → IsFed s.limit p.controller.fired (scan_at s w c p)

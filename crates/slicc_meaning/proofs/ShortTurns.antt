@@ -1,8 +1,9 @@
 -- A turn keeps the counts of a plain run's journal, and so they hold along the run.
-use Rattle.std.proofs.Common.{◌≡◌, ◌<◌, ◌≤◌, ◌⊎◌, inl, inr, ◌+◌, ◌*◌, ◌++◌, ℕ, Bool, true, false, Option, None, Some, List, [], ◌∷◌, length, map, refl, sym, ◌∙◌, ap, subst, cond, fold, is_some, is_none, nat_lt, slice_get, IsTrue, All, arith, rules}
+use Rattle.std.proofs.Common.{◌≡◌, ◌<◌, ◌≤◌, ◌⊎◌, inl, inr, ◌+◌, ◌*◌, ◌++◌, ℕ, Bool, true, false, Option, None, Some, List, [], ◌∷◌, length, map, refl, sym, ◌∙◌, ap, subst, cond, is_some, is_none, nat_lt, slice_get, IsTrue, All, arith, rules}
 use Rattle.std.specs.List.{list_any}
 use Rattle.std.specs.Option.{option_to_list}
 use Rattle.std.proofs.lemmas.Bool.Decides.{nat_tests}
+use Rattle.std.proofs.lemmas.Option.{same_Some}
 use Rattle.slicc_ast.specs.declared.machine.Machine.{Machine}
 use Rattle.slicc_meaning.specs.declared.controller.Message.{Message}
 use Rattle.ruby_value.specs.declared.message.MsgNo.{MsgNo}
@@ -25,8 +26,8 @@ use Rattle.ruby_value.specs.Ascending.{has_mark}
 use Rattle.slicc_meaning.specs.Driver.{request_message, arrive, arrive_at, arrive_at_seat, issue_all, issued_numbers, plain_turn}
 use Rattle.slicc_meaning.specs.NextCycle.{MustAct, IsLeastAbove, IsNextCycle}
 use Rattle.slicc_meaning.specs.Plan.{plan_of}
-use Rattle.slicc_meaning.specs.Run.{Ran, ran_on, go_on, IsRun}
-use Rattle.slicc_meaning.specs.Step.{Stepped, is_busy, begun, next_world, driven, turn_by, turn, step, step_lawfully}
+use Rattle.slicc_meaning.specs.Run.{IsRun}
+use Rattle.slicc_meaning.specs.Step.{is_busy, begun, next_world, driven, turn_by, turn, step_lawfully}
 use Rattle.slicc_meaning.specs.Topology.{HasSeats, plain_of}
 use Rattle.slicc_meaning.specs.Verdict.{next_cycle, least_stopped, end_of_cycle}
 use Rattle.slicc_meaning.specs.World.{opening_place, opening_places, opening}
@@ -35,10 +36,9 @@ use Rattle.slicc_meaning.proofs.Accounting.{kept}
 use Rattle.slicc_meaning.proofs.Kept.{held, one-le}
 use Rattle.slicc_meaning.proofs.NextCycles.{next_cycle-is}
 use Rattle.slicc_meaning.proofs.OneKey.{with_mark-has, marks_from-has}
-use Rattle.slicc_meaning.proofs.ShortRuns.{is_fired, each, sent, IsShortAt, IsShort, IsShortAfter, only-there, fired-more, ended-more, turned-more, sent-more, eaten-more, length-each, where_true-short, take-short, release-short, fire-short, done-short, three-kinds}
+use Rattle.slicc_meaning.proofs.ShortRuns.{is_fired, each, sent, IsShortAt, IsShort, IsShortAfter, only-there, fired-more, ended-more, turned-more, sent-more, eaten-more, length-each, take-short, release-short, fire-short, done-short, three-kinds}
 use Rattle.slicc_meaning.proofs.Tallies.{one, tally, tally-true}
-use Rattle.slicc_meaning.proofs.Optional.{some_same}
-use Rattle.slicc_meaning.proofs.AlongRuns.{runs-none}
+use Rattle.slicc_meaning.proofs.AlongRuns.{hold-along}
 
 -- the world after the driver has acted: its one place may have a message more, which must be seen in the next cycle
 pub record IsDriven (n now : ℕ) (p : Place) (v : World) (numbers : List MsgNo) : Type 0 where
@@ -58,7 +58,7 @@ abbrev IsAhead : ℕ → ℕ → World → Type 0
 IsAhead n now v = (x : ℕ) → v.next ≡ Some x → (x ≡ now + 1) × (now < n)
 
 pub next-of : (now n x : ℕ) (b : Bool) → nat_lt (now + 1) n ≡ b → cond b (Some (now + 1)) None ≡ Some x → (x ≡ now + 1) × (now < n)
-next-of now n x true below is = (sym (some_same is), grind (arith, nat_tests, below))
+next-of now n x true below is = (sym (same_Some _ _ is), grind (arith, nat_tests, below))
 next-of now n x false below is = absurd (cc is)
 
 abbrev pub the_request : Request
@@ -273,26 +273,6 @@ module _ (s : Setting) (seats : s.topology.seats ≡ record { controller = 0 } �
     lawful-short w journal (Release worker c) running is = release-short s w journal worker c (slice_get w.places c) running refl is
     lawful-short w journal (Turn worker) running is = turn-short w journal running is
 
-    step-short : (w : World) (journal : List Entry) (e : Event) → IsShort s w journal → IsShortAfter s journal (step s w e)
-    step-short w journal e is =
-        where_true-short s journal (is_none w.verdict) (step_lawfully s w e) (λ runs. lawful-short w journal e (runs-none w.verdict runs) is)
-
-    abbrev IsShortIf : Option Ran → Type 0
-    IsShortIf None = Unit {0}
-    IsShortIf (Some r) = IsShort s r.world r.journal
-
-    ran_on-short : (journal : List Entry) (o : Option Stepped) → IsShortAfter s journal o → IsShortIf (ran_on o journal)
-    ran_on-short journal None is = tt
-    ran_on-short journal (Some st) is = is
-
-    go_on-short : (o : Option Ran) (e : Event) → IsShortIf o → IsShortIf (go_on s o e)
-    go_on-short None e is = tt
-    go_on-short (Some r) e is = ran_on-short r.journal (step s r.world e) (step-short r.world r.journal e is)
-
-    run-short : (o : Option Ran) (history : List Event) → IsShortIf o → IsShortIf (fold (go_on s) o history)
-    run-short o [] is = is
-    run-short o (e ∷ history) is = run-short (go_on s o e) history (go_on-short o e is)
-
     opening-short : s.topology.counts ≡ 1 ∷ [] → IsShort s (opening s) []
     opening-short counts = record {
       place = opening_place;
@@ -311,11 +291,9 @@ module _ (s : Setting) (seats : s.topology.seats ≡ record { controller = 0 } �
     }
 
     run-is : (history : List Event) (w : World) (journal : List Entry) → s.topology.counts ≡ 1 ∷ [] → IsRun s history w journal → IsShort s w journal
-    run-is history w journal counts is =
-        let first : Ran = record { world = opening s; journal = [] } in
-        subst IsShortIf is (run-short (Some first) history (opening-short counts))
+    run-is history w journal counts is = hold-along (IsShort s) s lawful-short history w journal (opening-short counts) is
 
-plain-seats : (p : Plan) → HasSeats (plain_of p)
+pub plain-seats : (p : Plan) → HasSeats (plain_of p)
 plain-seats p = search rules
 
 -- at most five entries for each request and three more, no more messages than requests, and at most two cycles for each

@@ -1,7 +1,8 @@
 -- How many elements of a list pass a test, counted from the right.
-use Rattle.std.proofs.Common.{◌≡◌, ◌≤◌, ◌+◌, ℕ, zero, suc, Bool, true, false, Some, List, [], ◌∷◌, ◌++◌, map, length, refl, sym, ◌∙◌, ap, cond, fold, zero-add, slice_get, slice_set, arith}
+use Rattle.std.proofs.Common.{◌≡◌, ◌≤◌, ◌+◌, ℕ, zero, suc, Bool, true, false, Some, List, [], ◌∷◌, ◌++◌, map, length, refl, sym, ◌∙◌, ap, cond, zero-add, slice_get, slice_set, arith}
 use Rattle.std.specs.List.{filter, flat_map}
 use Rattle.std.specs.Prelude.{count_by}
+use Rattle.std.proofs.lemmas.List.Sums.{sum_by-cons}
 use Rattle.std.proofs.lemmas.List.Concat.{flat_map-append}
 
 abbrev pub one : Bool → ℕ
@@ -11,16 +12,9 @@ abbrev pub tally : {X : Type 0} → (X → Bool) → List X → ℕ
 tally f [] = 0
 tally f (x ∷ xs) = one (f x) + tally f xs
 
-sums_from : {X : Type 0} (f : X → ℕ) (a : ℕ) (xs : List X) → fold (λ b x. b + f x) a xs ≡ a + fold (λ b x. b + f x) 0 xs
-sums_from f a [] = omega arith
-sums_from f a (x ∷ xs) = omega (arith, sums_from f (a + f x) xs, sums_from f (0 + f x) xs)
-
 pub counted : {X : Type 0} (f : X → Bool) (xs : List X) → count_by f xs ≡ tally f xs
 counted f [] = refl
-counted f (x ∷ xs) =
-    sums_from (λ y. cond (f y) 1 0) (0 + cond (f x) 1 0) xs
-    ∙ ap (λ n. n + count_by f xs) (zero-add (cond (f x) 1 0))
-    ∙ ap (λ n. one (f x) + n) (counted f xs)
+counted f (x ∷ xs) = sum_by-cons (λ y. one (f y)) x xs ∙ ap (λ n. one (f x) + n) (counted f xs)
 
 pub tally-append : {X : Type 0} (f : X → Bool) (xs ys : List X) → tally f (xs ++ ys) ≡ tally f xs + tally f ys
 tally-append f [] ys = sym (zero-add (tally f ys))

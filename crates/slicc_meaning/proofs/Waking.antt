@@ -1,6 +1,6 @@
 -- What each event of a cycle keeps of one controller: whether it must wake at this cycle, how often its wake-up has ended
 -- in it, and that it is held only where it must wake and its wake-up hasn't ended.
-use Rattle.std.proofs.Common.{◌≡◌, ◌≢◌, ◌+◌, not, ℕ, zero, suc, Bool, true, false, Option, None, Some, List, [], ◌∷◌, refl, sym, ◌∙◌, ap, subst, cond, slice_get, slice_set, is_some, is_none, ◌==◌, IsTrue, arith}
+use Rattle.std.proofs.Common.{◌≡◌, ◌≢◌, ◌+◌, not, ℕ, zero, suc, Bool, true, false, Option, None, Some, List, [], ◌∷◌, refl, sym, ◌∙◌, ap, subst, slice_get, slice_set, is_none, ◌==◌, IsTrue, arith}
 use Rattle.std.proofs.lemmas.Bool.{eq-eqb, ne_eqb}
 use Rattle.slicc_meaning.specs.declared.controller.Controller.{Controller}
 use Rattle.slicc_meaning.specs.declared.controller.Scanned.{Scanned}
@@ -17,15 +17,14 @@ use Rattle.slicc_meaning.specs.Step.{with_place, take, is_holder, fired_by, ende
 use Rattle.slicc_meaning.specs.WakesOnce.{is_turn, is_done_of}
 use Rattle.slicc_meaning.specs.World.{is_free, is_held, machine_plan}
 use Rattle.slicc_meaning.proofs.KeptMarks.{KeepsMarks, scan-keeps, EndKeeps, end-keeps}
+use Rattle.slicc_meaning.proofs.Places.{holder-held}
+use Rattle.slicc_meaning.proofs.Tallies.{one}
 use Rattle.slicc_meaning.proofs.Cleared.{AfterStep, AfterEvents, after-ran, where_true}
-
-abbrev pub once : Bool → ℕ
-once b = cond b 1 0
 
 -- of a place, at this cycle, after so many ends of its wake-up in it
 pub record IsWaking (now : ℕ) (must : Bool) (n : ℕ) (p : Place) : Type 0 where
   pub marks : has_mark p.controller.marks now ≡ must
-  pub ends : n ≡ once p.finished
+  pub ends : n ≡ one p.finished
   pub finished : p.finished ≡ true → must ≡ true
   pub held : is_held p ≡ true → (must ≡ true) × (p.finished ≡ false)
 
@@ -93,17 +92,13 @@ ended : (now : ℕ) (must : Bool) (n : ℕ) (p : Place) (after : Controller) →
     → IsWaking now must (n + 1) (record { controller = after; finished = true; holder = None })
 ended now must n p after held kept is =
     let (due, unfinished) = is.held held in
-    let none : n ≡ 0 = is.ends ∙ ap once unfinished in
+    let none : n ≡ 0 = is.ends ∙ ap one unfinished in
     record {
       marks = kept ∙ is.marks;
       ends = omega (arith, none);
       finished = λ yes. due;
       held = λ held. absurd (cc held);
     }
-
-holder-held : (worker : ℕ) (holder : Option ℕ) → is_holder worker holder ≡ true → is_some holder ≡ true
-holder-held worker None is = absurd (cc is)
-holder-held worker (Some other) is = refl
 
 take-keeps : (now : ℕ) (must : Bool) (c n worker d : ℕ) (w : World) (o : Option Place) → slice_get w.places d ≡ o → IsWakingAt now must c n w
     → AfterStep (IsWakingAt now must c (n + 0)) (take w worker d o)
@@ -142,18 +137,18 @@ fire-keeps s now must c n worker d w (Some p) there at =
     where_true (IsWakingAt now must c (n + 0)) (is_holder worker p.holder) _
     (λ holds. fired_by-keeps now must c n d w p (scan_at s w d p) there (scan-keeps s (machine_plan s d) p.controller w.now) at)
 
-one-of : (d c : ℕ) → d ≡ c → once (d == c) ≡ 1
-one-of d c is = ap once (eq-eqb d c is)
+one-of : (d c : ℕ) → d ≡ c → one (d == c) ≡ 1
+one-of d c is = ap one (eq-eqb d c is)
 
-none-of : (d c : ℕ) → d ≢ c → once (d == c) ≡ 0
-none-of d c apart = ap once (ne_eqb d c apart)
+none-of : (d c : ℕ) → d ≢ c → one (d == c) ≡ 0
+none-of d c apart = ap one (ne_eqb d c apart)
 
 given_back-keeps : (now : ℕ) (must : Bool) (c n d : ℕ) (w : World) (p : Place) (e : Option (Controller × End)) → slice_get w.places d ≡ Some p → is_held p ≡ true → EndKeeps w.now p.controller e → IsWakingAt now must c n w
-    → AfterStep (IsWakingAt now must c (n + once (d == c))) (given_back w d e)
+    → AfterStep (IsWakingAt now must c (n + one (d == c))) (given_back w d e)
 given_back-keeps now must c n d w p None there held kept at = tt
 given_back-keeps now must c n d w p (Some e) there held kept at =
     let q : Place = record { controller = e.0; finished = true; holder = None } in
-    let k : ℕ = once (d == c) in
+    let k : ℕ = one (d == c) in
     changed now must c n k d w p q there at
     (λ is same is_p.
     let kept_now = subst (λ i. has_mark e.0.marks i ≡ has_mark p.controller.marks i) same kept in
@@ -161,28 +156,28 @@ given_back-keeps now must c n d w p (Some e) there held kept at =
     (none-of d c)
 
 done-keeps : (s : Setting) (now : ℕ) (must : Bool) (c n worker d : ℕ) (w : World) (o : Option Place) → slice_get w.places d ≡ o → IsWakingAt now must c n w
-    → AfterStep (IsWakingAt now must c (n + once (d == c))) (done s w worker d o)
+    → AfterStep (IsWakingAt now must c (n + one (d == c))) (done s w worker d o)
 done-keeps s now must c n worker d w None there at = tt
 done-keeps s now must c n worker d w (Some p) there at =
-    where_true (IsWakingAt now must c (n + once (d == c))) (is_holder worker p.holder) _
+    where_true (IsWakingAt now must c (n + one (d == c))) (is_holder worker p.holder) _
     (λ holds.
     given_back-keeps now must c n d w p (ended_by w.now p.controller (scan_at s w d p)) there (holder-held worker p.holder holds)
     (end-keeps w.now p.controller (scan_at s w d p) (scan-keeps s (machine_plan s d) p.controller w.now)) at)
 
 step-keeps : (s : Setting) (now : ℕ) (must : Bool) (c n : ℕ) (w : World) (e : Event) → IsTrue (not (is_turn e)) → IsWakingAt now must c n w
-    → AfterStep (IsWakingAt now must c (n + once (is_done_of c e))) (step s w e)
+    → AfterStep (IsWakingAt now must c (n + one (is_done_of c e))) (step s w e)
 step-keeps s now must c n w (Take worker d) is at =
     where_true (IsWakingAt now must c (n + 0)) (is_none w.verdict) _ (λ running. take-keeps now must c n worker d w (slice_get w.places d) refl at)
 step-keeps s now must c n w (Fire worker d) is at =
     where_true (IsWakingAt now must c (n + 0)) (is_none w.verdict) _ (λ running. fire-keeps s now must c n worker d w (slice_get w.places d) refl at)
 step-keeps s now must c n w (Done worker d) is at =
-    where_true (IsWakingAt now must c (n + once (d == c))) (is_none w.verdict) _ (λ running. done-keeps s now must c n worker d w (slice_get w.places d) refl at)
+    where_true (IsWakingAt now must c (n + one (d == c))) (is_none w.verdict) _ (λ running. done-keeps s now must c n worker d w (slice_get w.places d) refl at)
 step-keeps s now must c n w (Release worker d) is at =
     where_true (IsWakingAt now must c (n + 0)) (is_none w.verdict) _ (λ running. release-keeps now must c n worker d w (slice_get w.places d) refl at)
 step-keeps s now must c n w (Turn worker) is at = absurd (cc is)
 
 pub go_on-keeps : (s : Setting) (now : ℕ) (must : Bool) (c n : ℕ) (o : Option Ran) (e : Event) → IsTrue (not (is_turn e)) → AfterEvents (IsWakingAt now must c n) o
-    → AfterEvents (IsWakingAt now must c (n + once (is_done_of c e))) (go_on s o e)
+    → AfterEvents (IsWakingAt now must c (n + one (is_done_of c e))) (go_on s o e)
 go_on-keeps s now must c n None e is at = tt
 go_on-keeps s now must c n (Some r) e is at =
-    after-ran (IsWakingAt now must c (n + once (is_done_of c e))) (step s r.world e) r.journal (step-keeps s now must c n r.world e is at)
+    after-ran (IsWakingAt now must c (n + one (is_done_of c e))) (step s r.world e) r.journal (step-keeps s now must c n r.world e is at)

@@ -1,5 +1,7 @@
 -- In a run each controller that must wake at a cycle ends its wake-up in it once, and no other controller does.
 use Rattle.std.proofs.Common.{◌≡◌, ◌+◌, ◌&&◌, ◌++◌, not, ℕ, zero, suc, Bool, true, false, Option, None, Some, List, [], ◌∷◌, refl, sym, ◌∙◌, ap, subst, cond, fold, slice_get, is_none, IsTrue, add-zero, arith}
+use Rattle.std.proofs.lemmas.List.Folds.{fold_stays}
+use Rattle.std.proofs.lemmas.Bool.{or_parts, and_parts}
 use Rattle.std.specs.Prelude.{count_by}
 use Rattle.std.specs.List.{list_any, list_all}
 use Rattle.std.proofs.lemmas.List.{append_assoc}
@@ -17,21 +19,17 @@ use Rattle.slicc_meaning.specs.Verdict.{least_stopped}
 use Rattle.slicc_meaning.specs.WakesOnce.{is_turn, is_done_of, ends_with_turn, must_place_wake, must_wake, WakesOnce}
 use Rattle.slicc_meaning.specs.World.{is_due, is_held, opening}
 use Rattle.slicc_meaning.proofs.Cleared.{is_touched, AfterEvents, IsCleared, turns-cleared, opening-cleared}
-use Rattle.slicc_meaning.proofs.Places.{or_false}
-use Rattle.slicc_meaning.proofs.Waking.{once, AtPlace, IsWakingAt, go_on-keeps}
-
-and_true : (a b : Bool) → (a && b) ≡ true → (a ≡ true) × (b ≡ true)
-and_true true b both = (refl, both)
-and_true false b both = absurd (cc both)
+use Rattle.slicc_meaning.proofs.Tallies.{one}
+use Rattle.slicc_meaning.proofs.Waking.{AtPlace, IsWakingAt, go_on-keeps}
 
 -- all events of a cycle
 cycle-keeps : (s : Setting) (now : ℕ) (must : Bool) (c n : ℕ) (o : Option Ran) (es : List Event) → IsTrue (list_all (λ e. not (is_turn e)) es) → AfterEvents (IsWakingAt now must c n) o
     → AfterEvents (IsWakingAt now must c (n + count_by (is_done_of c) es)) (fold (go_on s) o es)
 cycle-keeps s now must c n o [] are at = subst (λ i. AfterEvents (IsWakingAt now must c i) o) (sym (add-zero n)) at
 cycle-keeps s now must c n o (e ∷ es) are at =
-    let parts = and_true (not (is_turn e)) (list_all (λ x. not (is_turn x)) es) are in
-    let k : ℕ = once (is_done_of c e) in
-    let count : count_by (is_done_of c) (e ∷ es) ≡ k + count_by (is_done_of c) es = sum_by-cons (λ x. once (is_done_of c x)) e es in
+    let parts = and_parts (not (is_turn e)) (list_all (λ x. not (is_turn x)) es) are in
+    let k : ℕ = one (is_done_of c e) in
+    let count : count_by (is_done_of c) (e ∷ es) ≡ k + count_by (is_done_of c) es = sum_by-cons (λ x. one (is_done_of c x)) e es in
     let n_is : (n + k) + count_by (is_done_of c) es ≡ n + count_by (is_done_of c) (e ∷ es) = omega (arith, count) in
     subst (λ i. AfterEvents (IsWakingAt now must c i) (fold (go_on s) (go_on s o e) es)) n_is
     (cycle-keeps s now must c (n + k) (go_on s o e) es parts.1 (go_on-keeps s now must c n o e parts.0 at))
@@ -43,32 +41,32 @@ at_place f (Some p) = f p
 
 pub none-at : (f : Place → Bool) (places : List Place) (c : ℕ) → list_any f places ≡ false → at_place f (slice_get places c) ≡ false
 none-at f [] c none = refl
-none-at f (p ∷ places) zero none = let parts = or_false (f p) (list_any f places) none in parts.0
-none-at f (p ∷ places) (suc c) none = let parts = or_false (f p) (list_any f places) none in none-at f places c parts.1
+none-at f (p ∷ places) zero none = let parts = or_parts (f p) (list_any f places) none in parts.0
+none-at f (p ∷ places) (suc c) none = let parts = or_parts (f p) (list_any f places) none in none-at f places c parts.1
 
 -- as a cycle begins
 begins : (now : ℕ) (o : Option Place) → at_place is_touched o ≡ false → AtPlace now (must_place_wake now o) 0 o
 begins now None clear = (refl, refl)
 begins now (Some p) clear =
-    let parts = or_false p.finished (is_held p) clear in
+    let parts = or_parts p.finished (is_held p) clear in
     record {
       marks = refl;
-      ends = ap once (sym parts.0);
+      ends = ap one (sym parts.0);
       finished = λ yes. absurd (cc (yes, parts.0));
       held = λ yes. absurd (cc (yes, parts.1));
     }
 
-ends-of : (must finished : Bool) → (finished ≡ true → must ≡ true) → (must && not finished) ≡ false → once finished ≡ once must
+ends-of : (must finished : Bool) → (finished ≡ true → must ≡ true) → (must && not finished) ≡ false → one finished ≡ one must
 ends-of true true back done = refl
 ends-of true false back done = absurd (cc done)
 ends-of false true back done = absurd (cc (back refl))
 ends-of false false back done = refl
 
 -- as it ends
-ends : (now : ℕ) (must : Bool) (n : ℕ) (o : Option Place) → at_place (is_busy now) o ≡ false → AtPlace now must n o → n ≡ once must
-ends now must n None idle at = at.1 ∙ ap once (sym at.0)
+ends : (now : ℕ) (must : Bool) (n : ℕ) (o : Option Place) → at_place (is_busy now) o ≡ false → AtPlace now must n o → n ≡ one must
+ends now must n None idle at = at.1 ∙ ap one (sym at.0)
 ends now must n (Some p) idle at =
-    let parts = or_false (is_held p) (is_due now p) idle in
+    let parts = or_parts (is_held p) (is_due now p) idle in
     let rest : (must && not p.finished) ≡ false = ap (λ b. b && not p.finished) (sym at.marks) ∙ parts.1 in
     at.ends ∙ ends-of must p.finished at.finished rest
 
@@ -82,13 +80,9 @@ turn-idle true true st journal r is = absurd (cc is)
 turn-idle true false st journal r is = refl
 turn-idle false busy st journal r is = absurd (cc is)
 
-fold-none : (s : Setting) (es : List Event) → fold (go_on s) None es ≡ None
-fold-none s [] = refl
-fold-none s (e ∷ es) = fold-none s es
-
 -- events go on only where those before them were lawful
 pub some-before : (s : Setting) (o : Option Ran) (es : List Event) (last : Ran) → fold (go_on s) o es ≡ Some last → (r : Ran) × (o ≡ Some r)
-some-before s None es last is = absurd (cc (fold-none s es, is))
+some-before s None es last is = absurd (cc (fold_stays (go_on s) None (λ e. refl) es, is))
 some-before s (Some r) es last is = (r, refl)
 
 -- a run that goes on after these events
@@ -117,7 +111,7 @@ cleared s (e ∷ es) r is goes =
 -- from the world in which a cycle begins to its turn
 cycle-wakes : (s : Setting) (r : Ran) (cycle : List Event) (worker : ℕ) (after : List Event) (last : Ran) (c : ℕ)
     → IsTrue (list_all (λ e. not (is_turn e)) cycle) → IsCleared r.world → fold (go_on s) (Some r) (cycle ++ Turn worker ∷ after) ≡ Some last
-    → count_by (is_done_of c) cycle ≡ once (must_wake r.world c)
+    → count_by (is_done_of c) cycle ≡ one (must_wake r.world c)
 cycle-wakes s r cycle worker after last c are clear goes =
     let now : ℕ = r.world.now in
     let must : Bool = must_wake r.world c in
@@ -133,7 +127,7 @@ cycle-wakes s r cycle worker after last c are clear goes =
     let (next, turns) = some-before s (go_on s (Some end) (Turn worker)) after last turned in
     let idle = turn-idle (is_none end.world.verdict) (list_any (is_busy end.world.now) end.world.places) (turn_by s end.world (least_stopped 0 end.world.places)) end.journal next turns in
     let idle_now : list_any (is_busy now) end.world.places ≡ false = subst (λ i. list_any (is_busy i) end.world.places ≡ false) at.now idle in
-    let count : 0 + n ≡ once must = ends now must (0 + n) (slice_get end.world.places c) (none-at (is_busy now) end.world.places c idle_now) at.place in
+    let count : 0 + n ≡ one must = ends now must (0 + n) (slice_get end.world.places c) (none-at (is_busy now) end.world.places c idle_now) at.place in
     omega (arith, count)
 
 pub wakes_once : (s : Setting) (history : List Event) (w : World) (journal : List Entry) → IsRun s history w journal → WakesOnce s history

@@ -3,49 +3,25 @@ use Rattle.std.specs.Prelude.{ℕ, Bool, false, List, ◌==◌, count_by}
 use Rattle.run_journal.specs.declared.event.Event.{Event}
 use Rattle.run_journal.specs.declared.event.Event.TheVariants.{Take, Fire, Done, Release, Turn}
 use Rattle.run_journal.specs.declared.summary.Tally.{Tally}
+use Rattle.slicc_meaning.specs.declared.tallying.Kind.{Kind}
+use Rattle.slicc_meaning.specs.declared.tallying.Kind.TheVariants.{Takes, Fires, Dones, Releases, Turns}
 
-abbrev pub is_take_by : ℕ → Event → Bool
-is_take_by worker (Take w c) = w == worker
-is_take_by worker (Fire w c) = false
-is_take_by worker (Done w c) = false
-is_take_by worker (Release w c) = false
-is_take_by worker (Turn w) = false
-
-abbrev pub is_fire_by : ℕ → Event → Bool
-is_fire_by worker (Take w c) = false
-is_fire_by worker (Fire w c) = w == worker
-is_fire_by worker (Done w c) = false
-is_fire_by worker (Release w c) = false
-is_fire_by worker (Turn w) = false
-
-abbrev pub is_done_by : ℕ → Event → Bool
-is_done_by worker (Take w c) = false
-is_done_by worker (Fire w c) = false
-is_done_by worker (Done w c) = w == worker
-is_done_by worker (Release w c) = false
-is_done_by worker (Turn w) = false
-
-abbrev pub is_release_by : ℕ → Event → Bool
-is_release_by worker (Take w c) = false
-is_release_by worker (Fire w c) = false
-is_release_by worker (Done w c) = false
-is_release_by worker (Release w c) = w == worker
-is_release_by worker (Turn w) = false
-
-abbrev pub is_turn_by : ℕ → Event → Bool
-is_turn_by worker (Take w c) = false
-is_turn_by worker (Fire w c) = false
-is_turn_by worker (Done w c) = false
-is_turn_by worker (Release w c) = false
-is_turn_by worker (Turn w) = w == worker
+-- an event of this kind, and by this worker
+abbrev pub is_by : Kind → ℕ → Event → Bool
+is_by Takes worker (Take w c) = w == worker
+is_by Fires worker (Fire w c) = w == worker
+is_by Dones worker (Done w c) = w == worker
+is_by Releases worker (Release w c) = w == worker
+is_by Turns worker (Turn w) = w == worker
+is_by kind worker e = false
 
 abbrev pub tally : ℕ → List Event → Tally
 tally worker history =
     record {
       worker = worker;
-      takes = count_by (is_take_by worker) history;
-      fires = count_by (is_fire_by worker) history;
-      dones = count_by (is_done_by worker) history;
-      releases = count_by (is_release_by worker) history;
-      turns = count_by (is_turn_by worker) history;
+      takes = count_by (is_by Takes worker) history;
+      fires = count_by (is_by Fires worker) history;
+      dones = count_by (is_by Dones worker) history;
+      releases = count_by (is_by Releases worker) history;
+      turns = count_by (is_by Turns worker) history;
     }
