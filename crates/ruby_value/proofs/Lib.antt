@@ -2,3 +2,4 @@ pub mod CacheEdits
 pub mod CacheSets
 pub mod Entries
 mod Members
+pub mod Ordered
