@@ -38,11 +38,15 @@ pub cut_last : (answer : Bool) (before middle : Option (List ℕ)) (first more :
 cut_last true before middle first more after whole cut = tt
 cut_last false before middle first more after whole cut = cut_behind before middle first more after whole cut
 
--- the front of a piece, and then the front of what is left of it
-pub grown_on : (before middle after : Option (List ℕ)) (piece : List ℕ) (done count : ℕ) → middle ≡ grown before (take done piece) → after ≡ grown middle (take count (take (length piece - done) (drop done piece))) → after ≡ grown before (take (done + count) piece)
-grown_on before middle after piece done count first more =
+-- the front of a piece, and then more of what is left of it
+pub grown_more : (before middle after : Option (List ℕ)) (piece : List ℕ) (done count : ℕ) → middle ≡ grown before (take done piece) → after ≡ grown middle (take count (drop done piece)) → after ≡ grown before (take (done + count) piece)
+grown_more before middle after piece done count first more =
     more
-    ∙ ap (λ (rest : List ℕ). grown middle (take count rest)) (take_rest piece done)
     ∙ ap (λ (told : Option (List ℕ)). grown told (take count (drop done piece))) first
     ∙ grown-append before (take done piece) (take count (drop done piece))
     ∙ ap (λ (bytes : List ℕ). grown before bytes) (sym (take-add done count piece))
+
+-- the same where what is left was taken as a slice
+pub grown_on : (before middle after : Option (List ℕ)) (piece : List ℕ) (done count : ℕ) → middle ≡ grown before (take done piece) → after ≡ grown middle (take count (take (length piece - done) (drop done piece))) → after ≡ grown before (take (done + count) piece)
+grown_on before middle after piece done count first more =
+    grown_more before middle after piece done count first (more ∙ ap (λ (rest : List ℕ). grown middle (take count rest)) (take_rest piece done))
