@@ -1,16 +1,14 @@
 -- What holds of a lawful local holds after a callback and after a state is set.
-use Rattle.std.proofs.Common.{◌≡◌, ℕ, ◌≤◌, Bool, true, false, ◌∷◌, IfSome, refl, subst, arith, Option, None, Some, Ok, Err}
+use Rattle.std.proofs.Common.{◌≡◌, ℕ, ◌≤◌, Bool, true, false, IfSome, refl, subst, arith, Option, None, Some, Ok, Err}
 use Rattle.std.proofs.lemmas.Bool.{leb-true, ltb-true}
-use Rattle.std.proofs.lemmas.List.Elements.{All-cons, All-append, All-filter}
 use Rattle.std.specs.Bool.{nat_lt, nat_le}
 use Rattle.std.specs.FinMap as map
-use Rattle.std.specs.List.{filter}
 use Rattle.std.specs.Option.{option_and_then}
 use Rattle.ruby_value.specs.declared.asked.Answer.{Answer}
 use Rattle.ruby_value.specs.declared.asked.Asked.{Asked}
 use Rattle.ruby_value.specs.declared.fault.Fault.TheVariants.{Callback}
 use Rattle.ruby_value.specs.declared.value.Block.{Block}
-use Rattle.ruby_value.proofs.Ordered.{AllPairs-insert}
+use Rattle.ruby_value.proofs.Ordered.{All-insert, AllPairs-insert}
 use Rattle.ctl_face.specs.Callback.{is_store, request_for, finished, with_finished, after_answer, finish_read, read_back, stored_block, finish_write, write_back}
 use Rattle.ctl_face.specs.Ctl.{Requests}
 use Rattle.ctl_face.specs.Fits.{FitsRequests, FitsSequencer, IsLawful, IsLine, IsRequest}
@@ -35,7 +33,7 @@ finished_fits r line a is fits =
     let after = λ (o : Answer). nat_lt a.asked.line o.asked.line in
     record {
       outstanding = remove_keeps Outstanding r.outstanding line fits.outstanding;
-      finished = All-append Answers (filter before r.finished) (a ∷ filter after r.finished) (All-filter before Answers r.finished fits.finished) (All-cons Answers a (filter after r.finished) is (All-filter after Answers r.finished fits.finished));
+      finished = All-insert Answers before after a r.finished fits.finished is;
       finished_ascend = AllPairs-insert NoLater (λ o p q first second. omega arith) before after a (λ o. leb-true o.asked.line a.asked.line) (λ o test. let later = ltb-true a.asked.line o.asked.line test in omega arith) r.finished fits.finished_ascend;
     }
 

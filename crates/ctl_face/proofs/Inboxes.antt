@@ -1,11 +1,10 @@
 -- What stays of an inbox when a message goes out of it, comes into it, or changes but for its number.
-use Rattle.std.proofs.Common.{◌≡◌, not, List, ◌∷◌, map, All, IsTrue, arith}
+use Rattle.std.proofs.Common.{◌≡◌, not, List, map, All, IsTrue, arith}
 use Rattle.std.proofs.lemmas.Grind.{common_steps}
-use Rattle.std.proofs.lemmas.List.Elements.{All-cons, All-append, All-filter, All-map, All-weaker}
+use Rattle.std.proofs.lemmas.List.Elements.{All-filter, All-map, All-weaker}
 use Rattle.std.proofs.lemmas.List.Kept.{AllPairs-filter}
-use Rattle.std.specs.List.{filter}
 use Rattle.ruby_value.specs.declared.message.MsgNo.{MsgNo}
-use Rattle.ruby_value.proofs.Ordered.{AllPairs-insert, AllPairs-map}
+use Rattle.ruby_value.proofs.Ordered.{All-insert, AllPairs-insert, AllPairs-map}
 use Rattle.ctl_face.specs.Ctl.{InboxMessage}
 use Rattle.ctl_face.specs.Fits.{NumbersAscend}
 use Rattle.ruby_value.specs.NumberBefore.{number_before, same_number}
@@ -30,10 +29,8 @@ ascend-with inbox m ascends =
     (λ a is. is) (λ b is. is) inbox ascends
 
 pub all-with : (P : InboxMessage → Type 0) (inbox : List InboxMessage) (m : InboxMessage) → All P inbox → P m → All P (with_message inbox m)
-all-with P inbox m all here =
-    let before = λ (o : InboxMessage). number_before o.message.number m.message.number in
-    let after = λ (o : InboxMessage). number_before m.message.number o.message.number in
-    All-append P (filter before inbox) (m ∷ filter after inbox) (All-filter before P inbox all) (All-cons P m (filter after inbox) here (All-filter after P inbox all))
+all-with P inbox m =
+    All-insert P (λ (o : InboxMessage). number_before o.message.number m.message.number) (λ (o : InboxMessage). number_before m.message.number o.message.number) m inbox
 
 -- a change that leaves the number
 abbrev pub KeepsNumber : (InboxMessage → InboxMessage) → Type 0

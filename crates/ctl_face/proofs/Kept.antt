@@ -84,9 +84,6 @@ tested_fits setup ctl now test change number keeps fits =
     (λ o. cond_both (test o) (change o) o (λ (p : InboxMessage). p.message.number ≡ o.message.number) (λ _. number o) (λ _. refl))
     (λ o here. cond_both (test o) (change o) o (FitsMessage setup ctl.sent) (λ _. keeps o here) (λ _. here)) fits
 
-waits_at : Option ℕ → InboxMessage → InboxMessage
-waits_at line o = record o { waiting = line }
-
 pub waiting_fits : (setup : Setup) (sent : ℕ) (line : Option ℕ) → IfSome line IsLine → (o : InboxMessage) → FitsMessage setup sent o → FitsMessage setup sent (record o { waiting = line })
 waiting_fits setup sent line is o fits = record { fields = fits.fields; own_number = fits.own_number; line = is }
 

@@ -10,7 +10,8 @@ use Rattle.run_journal.specs.IsBefore.{IsBefore}
 use Rattle.slicc_meaning.specs.AreFinals.{AreFinals}
 use Rattle.slicc_meaning.specs.Finals.{final_before, with_final, after_entry, finals}
 use Rattle.slicc_meaning.specs.LastState.{next_state}
-use Rattle.slicc_meaning.proofs.Orders.{nothing-there, head_or_rest, at-head, in-rest, in-filter, from-filter, put-between}
+use Rattle.slicc_meaning.proofs.Orders.{nothing-there, head_or_rest, at-head, in-rest, in-filter, from-filter}
+use Rattle.ruby_value.proofs.Ordered.{AllPairs-insert as put-between}
 use Rattle.slicc_meaning.proofs.Optional.{some_same}
 
 before : (a b : Final) → final_before a b ≡ true → IsBefore a b
