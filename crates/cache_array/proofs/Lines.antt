@@ -52,9 +52,10 @@ pub record IsFound {X : Type 0} (xs : List (ℕ × X)) (line at : ℕ) (e : ℕ 
   pub removed : remove_entry (λ l. eqb l line) xs ≡ remove xs at
   pub written : (w : X) → set_value (λ l. eqb l line) xs w ≡ set xs at (e.0, w)
 
-pub found : {X : Type 0} (xs : List (ℕ × X)) (line at : ℕ) (e : ℕ × X) → position (λ l. eqb l.0 line) xs ≡ Some at → e ≡ get_or xs at e → IsFound xs line at e
-found xs line at e is stands =
-    let here = position-Some (λ l. eqb l.0 line) xs at e is in
+-- the lines that were searched are those of which the entry is read
+pub found : {X : Type 0} {xs seen : List (ℕ × X)} {line at : ℕ} {e : ℕ × X} → xs ≡ seen → Some at ≡ position (λ l. eqb l.0 line) seen → e ≡ get_or xs at e → IsFound xs line at e
+found {X} {xs} {seen} {line} {at} {e} same is stands =
+    let here = position-Some (λ l. eqb l.0 line) xs at e (sym (rw (← same) at is)) in
     let first : IsFirst (λ l. eqb l line) xs at e = record { in_range = here.0; passes = here.1; before = here.2 } in
     record {
       in_range = here.0;

@@ -1,12 +1,13 @@
 -- The marks that an act sets lie ahead.
 use Rattle.std.proofs.Common.{◌≡◌, ◌<◌, ◌⊎◌, inl, inr, ℕ, ℤ, ◌+◌, Bool, true, false, cond, not, Option, None, Some, List, [], ◌∷◌, Result, Ok, Err, nat_abs, refl, arith, length, is_some, unwrap_or}
-use Rattle.std.proofs.lemmas.List.Elements.{All-append, All-cons, All-filter, All-contains_itself, All-weaker}
+use Rattle.std.proofs.lemmas.List.Elements.{All-contains_itself, All-weaker}
 use Rattle.std.specs.Bool.{nat_lt}
 use Rattle.std.specs.List.{fold, list_all, Contains}
 use Rattle.ruby_value.specs.declared.fault.Fault.{Fault}
 use Rattle.ruby_value.specs.declared.fault.Fault.TheVariants.{Front, Latency, Route, Copies}
 use Rattle.ruby_value.specs.declared.message.Message.{Message}
 use Rattle.ruby_value.specs.declared.value.Value.{Value}
+use Rattle.ruby_value.proofs.Ordered.{All-insert}
 use Rattle.ctl_face.specs.declared.setup.BufferPlace.{BufferPlace}
 use Rattle.ctl_face.specs.declared.setup.BufferPlace.TheVariants as place
 use Rattle.ctl_face.specs.declared.setup.Setup.{Setup}
@@ -30,7 +31,7 @@ module _ (before : List ℕ) (now : ℕ) where
   ahead_with : (marks : List ℕ) (mark : ℕ) → now < mark → MarksAhead before now marks → MarksAhead before now (with_mark marks mark)
   ahead_with marks mark later ahead =
       let P : ℕ → Type 0 = λ m. (now < m) ⊎ Contains before m in
-      All-append P _ _ (All-filter (λ m. nat_lt m mark) P marks ahead) (All-cons P mark _ (inl later) (All-filter (λ m. nat_lt mark m) P marks ahead))
+      All-insert P (λ m. nat_lt m mark) (λ m. nat_lt mark m) mark marks ahead (inl later)
 
   ahead_delivered : (b : Bool) (ctl : Ctl) (m : Message) → now < m.arrival → MarksAhead before now ctl.marks → MarksAhead before now (delivered b ctl m).marks
   ahead_delivered false ctl m later ahead = ahead

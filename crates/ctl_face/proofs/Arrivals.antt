@@ -1,5 +1,6 @@
 -- Each copy that a send makes arrives after the cycle of the send.
-use Rattle.std.proofs.Common.{◌≡◌, ℕ, ℤ, pos, negsuc, ◌+◌, ◌<◌, Bool, true, false, cond, not, max, List, [], ◌∷◌, Option, Some, None, Ok, Err, nat_abs, All, arith, unwrap_or, length, is_some}
+use Rattle.std.proofs.Common.{◌≡◌, ℕ, ℤ, pos, negsuc, ◌+◌, ◌<◌, Bool, true, cond, not, max, List, [], ◌∷◌, Option, Some, None, Ok, Err, nat_abs, All, arith, unwrap_or, length, is_some}
+use Rattle.std.proofs.lemmas.Bool.{cond_both}
 use Rattle.std.proofs.lemmas.List.Elements.{All-nil, All-cons, All-push}
 use Rattle.std.specs.Bool.{nat_lt}
 use Rattle.std.specs.List.{fold, list_all}
@@ -18,8 +19,7 @@ use Rattle.ctl_face.specs.Send.{Sending, next_copy, next_jitter, copy_limit, rec
 use Rattle.ctl_face.proofs.Cases.{Good, good_ok, good_err, good_cond, good_unless}
 
 pub raised : (ordered : Bool) (arrival last now : ℕ) → now < arrival → now < cond ordered (max arrival last) arrival
-raised true arrival last now above = omega arith
-raised false arrival last now above = above
+raised ordered arrival last now above = cond_both ordered (max arrival last) arrival (λ t. now < t) (λ _. omega arith) (λ _. above)
 
 pub positive : (latency : ℤ) → is_latency latency ≡ true → 0 < nat_abs latency
 positive (pos n) is = grind arith

@@ -1,14 +1,14 @@
 -- What holds of a lawful local holds after a callback and after a state is set.
-use Rattle.std.proofs.Common.{◌≡◌, ℕ, ◌≤◌, Bool, true, false, ◌∷◌, IfSome, refl, subst, arith, Option, None, Some, Ok, Err}
-use Rattle.std.proofs.lemmas.List.Elements.{All-cons, All-append, All-filter}
+use Rattle.std.proofs.Common.{◌≡◌, ℕ, ◌≤◌, Bool, true, false, IfSome, refl, subst, arith, Option, None, Some, Ok, Err}
+use Rattle.std.proofs.lemmas.Bool.{leb-true, ltb-true}
 use Rattle.std.specs.Bool.{nat_lt, nat_le}
 use Rattle.std.specs.FinMap as map
-use Rattle.std.specs.List.{filter}
 use Rattle.std.specs.Option.{option_and_then}
 use Rattle.ruby_value.specs.declared.asked.Answer.{Answer}
 use Rattle.ruby_value.specs.declared.asked.Asked.{Asked}
 use Rattle.ruby_value.specs.declared.fault.Fault.TheVariants.{Callback}
 use Rattle.ruby_value.specs.declared.value.Block.{Block}
+use Rattle.ruby_value.proofs.Ordered.{All-insert, AllPairs-insert}
 use Rattle.ctl_face.specs.Callback.{is_store, request_for, finished, with_finished, after_answer, finish_read, read_back, stored_block, finish_write, write_back}
 use Rattle.ctl_face.specs.Ctl.{Requests}
 use Rattle.ctl_face.specs.Fits.{FitsRequests, FitsSequencer, IsLawful, IsLine, IsRequest}
@@ -16,13 +16,6 @@ use Rattle.ctl_face.specs.LocalView.{LocalView}
 use Rattle.ctl_face.specs.State.{set_state}
 use Rattle.ctl_face.proofs.Cases.{Good, good_ok, good_err, good_cond}
 use Rattle.ctl_face.proofs.Maps.{insert_keeps, remove_keeps}
-use Rattle.ctl_face.proofs.Ordered.{AllPairs-insert}
-
-up_to : (a b : ℕ) → nat_le a b ≡ true → a ≤ b
-up_to a b is = grind arith
-
-above : (a b : ℕ) → nat_lt a b ≡ true → a ≤ b
-above a b is = grind arith
 
 abbrev NoLater : Answer → Answer → Type 0
 NoLater a b = a.asked.line ≤ b.asked.line
@@ -30,7 +23,8 @@ NoLater a b = a.asked.line ≤ b.asked.line
 abbrev Answers : Answer → Type 0
 Answers a = IsRequest a.asked
 
-abbrev Outstanding : ℕ → Asked → Type 0
+-- what is outstanding under a line asks for bytes of it
+abbrev pub Outstanding : ℕ → Asked → Type 0
 Outstanding line a = (a.line ≡ line) × IsRequest a
 
 finished_fits : (r : Requests) (line : ℕ) (a : Answer) → IsRequest a.asked → FitsRequests r → FitsRequests (finished r line a)
@@ -39,8 +33,8 @@ finished_fits r line a is fits =
     let after = λ (o : Answer). nat_lt a.asked.line o.asked.line in
     record {
       outstanding = remove_keeps Outstanding r.outstanding line fits.outstanding;
-      finished = All-append Answers (filter before r.finished) (a ∷ filter after r.finished) (All-filter before Answers r.finished fits.finished) (All-cons Answers a (filter after r.finished) is (All-filter after Answers r.finished fits.finished));
-      finished_ascend = AllPairs-insert NoLater before after a (λ o test. up_to o.asked.line a.asked.line test) (λ o test. above a.asked.line o.asked.line test) (λ o p first second. omega arith) r.finished fits.finished_ascend;
+      finished = All-insert Answers before after a r.finished fits.finished is;
+      finished_ascend = AllPairs-insert NoLater (λ o p q first second. omega arith) before after a (λ o. leb-true o.asked.line a.asked.line) (λ o test. let later = ltb-true a.asked.line o.asked.line test in omega arith) r.finished fits.finished_ascend;
     }
 
 sequencer_fits : (has : Bool) (r s : Requests) → (FitsRequests r → FitsRequests s) → FitsSequencer has (Some r) → FitsSequencer has (Some s)

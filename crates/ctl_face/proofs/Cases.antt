@@ -1,5 +1,6 @@
 -- What holds of the good answer of a call that goes by cases.
-use Rattle.std.proofs.Common.{◌≡◌, Bool, true, false, cond, Result, Ok, Err, refl, subst}
+use Rattle.std.proofs.Common.{◌≡◌, Bool, true, false, cond, Result, Ok, Err, subst}
+use Rattle.std.proofs.lemmas.Bool.{cond_both}
 
 pub record Good {X E : Type 0} (P : X → Type 0) (r : Result X E) : Type 0 where
   pub good : (x : X) → r ≡ Ok x → P x
@@ -12,10 +13,8 @@ module _ {X E : Type 0} (P : X → Type 0) where
   good_err e = record { good = λ y is. let wrong : ⊥ = cc in absurd wrong }
 
   pub good_cond : (b : Bool) (x y : Result X E) → (b ≡ true → Good P x) → (b ≡ false → Good P y) → Good P (cond b x y)
-  good_cond true x y first second = first refl
-  good_cond false x y first second = second refl
+  good_cond b x y = cond_both b x y (Good P)
 
   -- a fault where the test holds
   pub good_unless : (b : Bool) (e : E) (y : Result X E) → Good P y → Good P (cond b (Err e) y)
-  good_unless true e y good = good_err e
-  good_unless false e y good = good
+  good_unless b e y good = good_cond b (Err e) y (λ _. good_err e) (λ _. good)

@@ -1,15 +1,14 @@
 -- What stays of an inbox when a message goes out of it, comes into it, or changes but for its number.
-use Rattle.std.proofs.Common.{◌≡◌, Bool, true, false, cond, not, List, ◌∷◌, map, All, IsTrue, refl, arith}
+use Rattle.std.proofs.Common.{◌≡◌, not, List, map, All, IsTrue, arith}
 use Rattle.std.proofs.lemmas.Grind.{common_steps}
-use Rattle.std.proofs.lemmas.List.Elements.{All-cons, All-append, All-filter, All-map, All-weaker}
+use Rattle.std.proofs.lemmas.List.Elements.{All-filter, All-map, All-weaker}
 use Rattle.std.proofs.lemmas.List.Kept.{AllPairs-filter}
-use Rattle.std.specs.List.{filter}
 use Rattle.ruby_value.specs.declared.message.MsgNo.{MsgNo}
+use Rattle.ruby_value.proofs.Ordered.{All-insert, AllPairs-insert, AllPairs-map}
 use Rattle.ctl_face.specs.Ctl.{InboxMessage}
 use Rattle.ctl_face.specs.Fits.{NumbersAscend}
 use Rattle.ruby_value.specs.NumberBefore.{number_before, same_number}
 use Rattle.ctl_face.specs.Inbox.{with_message, without_message}
-use Rattle.ctl_face.proofs.Ordered.{AllPairs-insert, AllPairs-map}
 
 pub number_before_trans : (a b c : MsgNo) → IsTrue (number_before a b) → IsTrue (number_before b c) → IsTrue (number_before a c)
 number_before_trans a b c first second = grind (arith, common_steps)
@@ -25,15 +24,13 @@ all-without P inbox number all = All-filter (λ (o : InboxMessage). not (same_nu
 
 pub ascend-with : (inbox : List InboxMessage) (m : InboxMessage) → NumbersAscend inbox → NumbersAscend (with_message inbox m)
 ascend-with inbox m ascends =
-    AllPairs-insert Before (λ (o : InboxMessage). number_before o.message.number m.message.number) (λ (o : InboxMessage). number_before m.message.number o.message.number) m
-    (λ a is. is) (λ b is. is)
-    (λ a b first second. number_before_trans a.message.number m.message.number b.message.number first second) inbox ascends
+    AllPairs-insert Before (λ a b c. number_before_trans a.message.number b.message.number c.message.number)
+    (λ (o : InboxMessage). number_before o.message.number m.message.number) (λ (o : InboxMessage). number_before m.message.number o.message.number) m
+    (λ a is. is) (λ b is. is) inbox ascends
 
 pub all-with : (P : InboxMessage → Type 0) (inbox : List InboxMessage) (m : InboxMessage) → All P inbox → P m → All P (with_message inbox m)
-all-with P inbox m all here =
-    let before = λ (o : InboxMessage). number_before o.message.number m.message.number in
-    let after = λ (o : InboxMessage). number_before m.message.number o.message.number in
-    All-append P (filter before inbox) (m ∷ filter after inbox) (All-filter before P inbox all) (All-cons P m (filter after inbox) here (All-filter after P inbox all))
+all-with P inbox m =
+    All-insert P (λ (o : InboxMessage). number_before o.message.number m.message.number) (λ (o : InboxMessage). number_before m.message.number o.message.number) m inbox
 
 -- a change that leaves the number
 abbrev pub KeepsNumber : (InboxMessage → InboxMessage) → Type 0
@@ -45,12 +42,3 @@ ascend-map change keeps inbox ascends =
 
 pub all-map : (P : InboxMessage → Type 0) (change : InboxMessage → InboxMessage) → ((o : InboxMessage) → P o → P (change o)) → (inbox : List InboxMessage) → All P inbox → All P (map change inbox)
 all-map P change keeps inbox all = All-map P change inbox (All-weaker P (λ o. P (change o)) keeps inbox all)
-
--- a change where a test holds
-pub cond_keeps_number : (b : Bool) (x o : InboxMessage) → x.message.number ≡ o.message.number → (cond b x o).message.number ≡ o.message.number
-cond_keeps_number true x o same = same
-cond_keeps_number false x o same = refl
-
-pub cond_keeps : (P : InboxMessage → Type 0) (b : Bool) (x o : InboxMessage) → P x → P o → P (cond b x o)
-cond_keeps P true x o first second = first
-cond_keeps P false x o first second = second

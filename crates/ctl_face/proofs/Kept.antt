@@ -1,5 +1,6 @@
 -- What holds of a lawful local holds after each act on its messages.
 use Rattle.std.proofs.Common.{◌≡◌, ℕ, ℤ, ◌+◌, Bool, true, cond, List, map, All, IfSome, refl, Option, None, Some, Err, nat_abs, is_some}
+use Rattle.std.proofs.lemmas.Bool.{cond_both}
 use Rattle.ruby_value.specs.declared.fault.Fault.TheVariants.{Front, Latency}
 use Rattle.ruby_value.specs.declared.message.Message.{Message}
 use Rattle.ctl_face.specs.declared.setup.Setup.{Setup}
@@ -8,16 +9,17 @@ use Rattle.ruby_value.specs.Ascending.{with_mark}
 use Rattle.ctl_face.specs.Ctl.{Ctl, InboxMessage}
 use Rattle.ctl_face.specs.Fits.{Fits, FitsMessage, NumbersAscend, IsLawful, IsLine}
 use Rattle.ruby_value.specs.NumberBefore.{same_number}
-use Rattle.ctl_face.specs.Inbox.{without_message, changed_message}
+use Rattle.ctl_face.specs.Inbox.{with_message, without_message, changed_message}
 use Rattle.ctl_face.specs.Latency.{is_latency}
 use Rattle.ctl_face.specs.LocalView.{LocalView}
 use Rattle.ctl_face.specs.Pop.{pop, consumed}
 use Rattle.ctl_face.specs.Ready.{front_now}
 use Rattle.ctl_face.specs.Recycle.{recycle, recycled_until}
+use Rattle.ctl_face.specs.Send.{delivered}
 use Rattle.ctl_face.specs.Stall.{stall, stalled_under}
 use Rattle.ctl_face.specs.Wake.{wake, wake_all, woken_where, is_under}
 use Rattle.ctl_face.proofs.Cases.{Good, good_ok, good_err, good_cond}
-use Rattle.ctl_face.proofs.Inboxes.{ascend-without, all-without, ascend-map, all-map, cond_keeps_number, cond_keeps}
+use Rattle.ctl_face.proofs.Inboxes.{ascend-with, all-with, ascend-without, all-without, ascend-map, all-map}
 use Rattle.ctl_face.proofs.Marks.{IsStrictlyIncreasing-with_mark}
 
 -- another inbox and other marks of the same controller
@@ -55,6 +57,14 @@ mark_fits setup ctl now cycle fits = record {
   drawn = fits.drawn;
 }
 
+-- a message comes in, and the controller is to look at it when it arrives
+pub delivered_fits : (setup : Setup) (ctl : Ctl) (now : ℕ) (m : Message) → FitsMessage setup ctl.sent (record { message = m; waiting = None }) → Fits setup ctl now → Fits setup (delivered true ctl m) now
+delivered_fits setup ctl now m fits_new fits =
+    let new : InboxMessage = record { message = m; waiting = None } in
+    let inbox = with_message ctl.inbox new in
+    mark_fits setup (with_inbox ctl inbox) now m.arrival
+    (inbox_fits setup ctl now inbox (ascend-with ctl.inbox new fits.inbox_ascends) (all-with (FitsMessage setup ctl.sent) ctl.inbox new fits.messages fits_new) fits)
+
 -- a change that leaves the number and what fits
 pub changed_fits : (setup : Setup) (ctl : Ctl) (now : ℕ) (change : InboxMessage → InboxMessage)
     → ((o : InboxMessage) → (change o).message.number ≡ o.message.number)
@@ -71,11 +81,8 @@ pub tested_fits : (setup : Setup) (ctl : Ctl) (now : ℕ) (test : InboxMessage �
     → Fits setup ctl now → Fits setup (with_inbox ctl (map (λ (o : InboxMessage). cond (test o) (change o) o) ctl.inbox)) now
 tested_fits setup ctl now test change number keeps fits =
     changed_fits setup ctl now (λ (o : InboxMessage). cond (test o) (change o) o)
-    (λ o. cond_keeps_number (test o) (change o) o (number o))
-    (λ o here. cond_keeps (FitsMessage setup ctl.sent) (test o) (change o) o (keeps o here) here) fits
-
-waits_at : Option ℕ → InboxMessage → InboxMessage
-waits_at line o = record o { waiting = line }
+    (λ o. cond_both (test o) (change o) o (λ (p : InboxMessage). p.message.number ≡ o.message.number) (λ _. number o) (λ _. refl))
+    (λ o here. cond_both (test o) (change o) o (FitsMessage setup ctl.sent) (λ _. keeps o here) (λ _. here)) fits
 
 pub waiting_fits : (setup : Setup) (sent : ℕ) (line : Option ℕ) → IfSome line IsLine → (o : InboxMessage) → FitsMessage setup sent o → FitsMessage setup sent (record o { waiting = line })
 waiting_fits setup sent line is o fits = record { fields = fits.fields; own_number = fits.own_number; line = is }

@@ -8,7 +8,6 @@ pub mod Lines
 pub mod Maps
 pub mod Marks
 pub mod Opened
-pub mod Ordered
 pub mod OwnBuffers
 pub mod Paths
 pub mod Reading

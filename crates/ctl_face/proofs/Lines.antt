@@ -1,6 +1,6 @@
 -- What holds of each line of a list, and of a map, after an edit; and the kinds of fields of which one is written.
-use Rattle.std.proofs.Common.{◌≡◌, ℕ, zero, suc, Bool, true, false, cond, ◌&&◌, eqb, List, [], ◌∷◌, All, IsTrue, IfSome, IsSomeAnd, refl, subst, Option, Some, slice_get, set, unwrap_or}
-use Rattle.std.proofs.lemmas.Bool.{eqb-true}
+use Rattle.std.proofs.Common.{◌≡◌, ℕ, zero, suc, Bool, true, false, cond, eqb, List, [], ◌∷◌, All, IsTrue, IfSome, IsSomeAnd, refl, subst, Option, Some, slice_get, set, unwrap_or}
+use Rattle.std.proofs.lemmas.Bool.{and_from, and_parts, eqb-true}
 use Rattle.std.proofs.lemmas.List.Elements.{All-nil, All-cons, All-head, All-tail}
 use Rattle.std.specs.Map.{lookup, remove_entry, set_value}
 use Rattle.ruby_value.specs.declared.kind.Kind.{Kind}
@@ -56,19 +56,11 @@ holds_after_set P (y ∷ ys) zero x holds here (suc j) = holds (suc j)
 holds_after_set P (y ∷ ys) (suc place) x holds here zero = holds 0
 holds_after_set P (y ∷ ys) (suc place) x holds here (suc j) = holds_after_set (λ k. P (suc k)) ys place x (λ k. holds (suc k)) here j
 
-pub both_true : (a b : Bool) → IsTrue a → IsTrue b → IsTrue (a && b)
-both_true true b first second = second
-both_true false b first second = first
-
-pub parts_true : (a b : Bool) → IsTrue (a && b) → IsTrue a × IsTrue b
-parts_true true b both = (refl, both)
-parts_true false b both = cc
-
 -- a field takes a value of its kind
 pub has_kinds-set : (setup : Setup) (kinds : List Kind) (fields : List Value) (field : ℕ) (value : Value) → IsSomeAnd (slice_get kinds field) (λ k. IsTrue (holds_kind setup k value)) → IsTrue (has_kinds setup kinds fields) → IsTrue (has_kinds setup kinds (set fields field value))
 has_kinds-set setup [] fields field value is all = absurd is
 has_kinds-set setup (k ∷ ks) [] field value is all = all
-has_kinds-set setup (k ∷ ks) (v ∷ vs) zero value is all = both_true (holds_kind setup k value) (has_kinds setup ks vs) is (parts_true (holds_kind setup k v) (has_kinds setup ks vs) all).1
+has_kinds-set setup (k ∷ ks) (v ∷ vs) zero value is all = and_from (holds_kind setup k value) (has_kinds setup ks vs) is (and_parts (holds_kind setup k v) (has_kinds setup ks vs) all).1
 has_kinds-set setup (k ∷ ks) (v ∷ vs) (suc field) value is all =
-    let parts = parts_true (holds_kind setup k v) (has_kinds setup ks vs) all in
-    both_true (holds_kind setup k v) (has_kinds setup ks (set vs field value)) parts.0 (has_kinds-set setup ks vs field value is parts.1)
+    let parts = and_parts (holds_kind setup k v) (has_kinds setup ks vs) all in
+    and_from (holds_kind setup k v) (has_kinds setup ks (set vs field value)) parts.0 (has_kinds-set setup ks vs field value is parts.1)

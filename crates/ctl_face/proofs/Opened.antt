@@ -1,14 +1,14 @@
 -- A controller as a run begins fits its machine.
-use Rattle.std.proofs.Common.{◌≡◌, ℕ, zero, suc, ◌≤◌, Bool, true, false, List, [], ◌∷◌, map, All, IsTrue, IfSome, refl, arith, slice_get}
+use Rattle.std.proofs.Common.{ℕ, zero, suc, ◌≤◌, Bool, true, false, List, [], ◌∷◌, map, All, IsTrue, IfSome, refl, arith, slice_get}
 use Rattle.std.proofs.lemmas.List.{length-replicate}
 use Rattle.std.proofs.lemmas.List.Elements.{All-nil, All-head, All-tail, All-replicate}
 use Rattle.std.specs.FinMap.{empty, get, get-empty, len-empty}
 use Rattle.std.specs.Ordering.{nat_cmp}
 use Rattle.ruby_value.specs.declared.asked.Answer.{Answer}
-use Rattle.ruby_value.specs.declared.asked.Asked.{Asked}
 use Rattle.ruby_value.specs.declared.kind.Kind.{Kind}
 use Rattle.ruby_value.specs.declared.value.Value.{Value}
 use Rattle.ruby_value.proofs.CacheEdits.{empty_cache}
+use Rattle.ruby_value.proofs.Ordered.{AllPairs-nil}
 use Rattle.ctl_face.specs.declared.setup.Setup.{Setup}
 use Rattle.ctl_face.specs.declared.setup.TableSetup.{TableSetup}
 use Rattle.ctl_face.specs.declared.setup.TableSize.{TableSize}
@@ -19,7 +19,7 @@ use Rattle.ctl_face.specs.HasKinds.{has_kinds}
 use Rattle.ruby_value.specs.NumberBefore.{number_before}
 use Rattle.ctl_face.specs.IsSetup.{HasPlaces, IsSetup, IsTableSetup, network_count}
 use Rattle.ctl_face.specs.Opening.{opening_table, no_requests, opening_ctl}
-use Rattle.ctl_face.proofs.Ordered.{AllPairs-nil}
+use Rattle.ctl_face.proofs.Callbacks.{Outstanding}
 
 none_kept : {X : Type 0} (P : ℕ → X → Type 0) (line : ℕ) → IfSome (get (empty {X = X} {R = nat_cmp}) line) (P line)
 none_kept P line = rw (get-empty nat_cmp line) tt
@@ -46,7 +46,7 @@ opened_fits setup (s ∷ tables) all (suc j) = opened_fits setup tables (All-tai
 no_requests_fit : (has : Bool) → FitsSequencer has (no_requests has)
 no_requests_fit false = tt
 no_requests_fit true = record {
-  outstanding = none_kept (λ line (a : Asked). (a.line ≡ line) × IsRequest a);
+  outstanding = none_kept Outstanding;
   finished = All-nil (λ (a : Answer). IsRequest a.asked);
   finished_ascend = AllPairs-nil (λ (a b : Answer). a.asked.line ≤ b.asked.line);
 }

@@ -1,7 +1,7 @@
 -- What is read of a lawful local has its kinds.
 use Rattle.std.proofs.Common.{◌≡◌, ℕ, zero, suc, Bool, true, false, cond, List, [], ◌∷◌, All, IsTrue, IfSome, IsSomeAnd, subst, Option, None, Some, Ok, Err, length, ◌%◌, slice_get, unwrap_or, is_none, eqb, ◌&&◌}
 use Rattle.std.proofs.lemmas.List.Elements.{All-head, All-tail, All-filter, All-weaker, filter_passes}
-use Rattle.std.proofs.lemmas.Bool.{eqb-true}
+use Rattle.std.proofs.lemmas.Bool.{and_parts, cond_both, eqb-true}
 use Rattle.std.specs.Bool.{nat_le}
 use Rattle.std.specs.List.{filter}
 use Rattle.std.specs.Option.{option_and_then, option_map, ok_or}
@@ -27,7 +27,7 @@ use Rattle.ctl_face.specs.LocalView.{LocalView}
 use Rattle.ctl_face.specs.Ready.{peek, front_now}
 use Rattle.ctl_face.specs.Served.{TakesField, TakesMessage}
 use Rattle.ctl_face.specs.Table.{Table, CacheTable, DirectoryTable, TbeTable, ParameterTable}
-use Rattle.ctl_face.proofs.Lines.{All-at, parts_true}
+use Rattle.ctl_face.proofs.Lines.{All-at}
 use Rattle.ctl_face.proofs.TableCalls.{kinds_in}
 
 field_kind : (setup : Setup) (kinds : List Kind) (fields : List Value) (field : ℕ) (value : Value) → IsTrue (has_kinds setup kinds fields) → slice_get fields field ≡ Some value → IsSomeAnd (slice_get kinds field) (λ k. IsTrue (holds_kind setup k value))
@@ -36,8 +36,8 @@ field_kind setup [] (v ∷ vs) field value all is = cc
 field_kind setup (k ∷ ks) (v ∷ vs) zero value all is =
     let same : v ≡ value = cc in
     let Q : Value → Type 0 = λ w. IsTrue (holds_kind setup k w) in
-    subst Q same (parts_true (holds_kind setup k v) (has_kinds setup ks vs) all).0
-field_kind setup (k ∷ ks) (v ∷ vs) (suc field) value all is = field_kind setup ks vs field value (parts_true (holds_kind setup k v) (has_kinds setup ks vs) all).1 is
+    subst Q same (and_parts (holds_kind setup k v) (has_kinds setup ks vs) all).0
+field_kind setup (k ∷ ks) (v ∷ vs) (suc field) value all is = field_kind setup ks vs field value (and_parts (holds_kind setup k v) (has_kinds setup ks vs) all).1 is
 
 ok_is : {X : Type 0} (o : Option X) (x : X) → ok_or o Reference ≡ Ok x → o ≡ Some x
 ok_is None x is = cc
@@ -61,10 +61,6 @@ get_kind v r field value lawful is =
 
 -- the least message is one of them
 module _ (P : Message → Type 0) where
-  earlier_holds : (b : Bool) (m o : Message) → P m → P o → P (cond b o m)
-  earlier_holds true m o first second = second
-  earlier_holds false m o first second = first
-
   least_holds : (ms : List InboxMessage) → All (λ (m : InboxMessage). P m.message) ms → IfSome (least_message ms) P
   least_holds [] all = tt
   least_holds (m ∷ ms) all =
@@ -72,7 +68,7 @@ module _ (P : Message → Type 0) where
       let rest = least_holds ms (All-tail (λ (m : InboxMessage). P m.message) m ms all) in
       elim (least_message ms) as (λ o. IfSome o P → P (earlier_message m.message o)) [
         | None ↦ λ _. here
-        | Some o ↦ λ there. earlier_holds (message_before o m.message) m.message o here there
+        | Some o ↦ λ there. cond_both (message_before o m.message) o m.message P (λ _. there) (λ _. here)
       ] rest
 
 message_kinds_fit : (setup : Setup) (s : Option BufferSetup) (fields : List Value) → IsSomeAnd s (λ (b : BufferSetup). IsTrue (has_kinds setup b.kinds fields)) → IsTrue (has_kinds setup (unwrap_or (option_map (λ (b : BufferSetup). b.kinds) s) []) fields)
@@ -93,8 +89,8 @@ peek_kinds v buffer m lawful is =
 of_buffer : (buffer now : ℕ) (o : InboxMessage) → is_ready buffer now o ≡ true → o.message.buffer ≡ buffer
 of_buffer buffer now o is =
     eqb-true o.message.buffer buffer
-    (parts_true (eqb o.message.buffer buffer) (nat_le o.message.arrival now)
-    (parts_true (eqb o.message.buffer buffer && nat_le o.message.arrival now) (is_none o.waiting) is).0).0
+    (and_parts (eqb o.message.buffer buffer) (nat_le o.message.arrival now)
+    (and_parts (eqb o.message.buffer buffer && nat_le o.message.arrival now) (is_none o.waiting) is).0).0
 
 pub peek_buffer : (v : LocalView) (buffer : ℕ) (m : Message) → peek v buffer ≡ Ok m → m.buffer ≡ buffer
 peek_buffer v buffer m is =

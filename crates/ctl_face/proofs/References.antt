@@ -1,6 +1,6 @@
 -- A reference that is read of a lawful local is to a line of a table that lines are looked up in.
 use Rattle.std.proofs.Common.{◌≡◌, ℕ, eqb, ltb, IsTrue, IfSome, IsSomeAnd, Option, None, Some, Ok, slice_get}
-use Rattle.std.proofs.lemmas.Bool.{ltb-true}
+use Rattle.std.proofs.lemmas.Bool.{and_parts, ltb-true}
 use Rattle.std.specs.Option.{option_map}
 use Rattle.ruby_value.specs.declared.kind.Kind.{Kind}
 use Rattle.ruby_value.specs.declared.kind.Kind.TheVariants as kind
@@ -17,7 +17,6 @@ use Rattle.ctl_face.specs.HoldsKind.{has_entries, has_tbes, holds_kind, leads_to
 use Rattle.ctl_face.specs.LocalView.{LocalView}
 use Rattle.ctl_face.specs.OfMachine.{field_kinds, table_size}
 use Rattle.ctl_face.specs.Served.{looks_up}
-use Rattle.ctl_face.proofs.Lines.{parts_true}
 use Rattle.ctl_face.proofs.Reading.{get_kind}
 
 entries_look_up : (z : TableSize) → IsTrue (has_entries z) → IsTrue (looks_up (Some z))
@@ -34,8 +33,8 @@ tbes_look_up size.Parameters is = is
 
 led_to : (k : Kind) (o : Option TableSetup) → IsTrue (leads_to_one k o) → IsTrue (looks_up (option_map (λ (s : TableSetup). s.size) o))
 led_to k None is = is
-led_to (kind.Entry structure) (Some s) is = entries_look_up s.size (parts_true (has_entries s.size) (eqb s.structure structure) is).0
-led_to (kind.Tbe structure) (Some s) is = tbes_look_up s.size (parts_true (has_tbes s.size) (eqb s.structure structure) is).0
+led_to (kind.Entry structure) (Some s) is = entries_look_up s.size (and_parts (has_entries s.size) (eqb s.structure structure) is).0
+led_to (kind.Tbe structure) (Some s) is = tbes_look_up s.size (and_parts (has_tbes s.size) (eqb s.structure structure) is).0
 led_to kind.Bool (Some s) is = cc
 led_to kind.Int (Some s) is = cc
 led_to (kind.Enum enumeration member) (Some s) is = cc
@@ -52,14 +51,14 @@ referred : (setup : Setup) (k : Kind) (o : Option Ref) → IsTrue (may_refer set
 referred setup k None is = tt
 referred setup k (Some r) is =
     let there = leads_to_one k (slice_get setup.tables r.table) in
-    let parts = parts_true (ltb r.line line_limit) there is in
+    let parts = and_parts (ltb r.line line_limit) there is in
     (ltb-true r.line line_limit parts.0, led_to k (slice_get setup.tables r.table) parts.1)
 
 held : (setup : Setup) (o : Option Kind) (value : Value) → IsSomeAnd o (λ k. IsTrue (holds_kind setup k value)) → LeadsOn setup (reference_in value)
 held setup None value is = absurd is
 held setup (Some k) value is =
     let to = reference_in value in
-    referred setup k to (parts_true (has_kind k value) (may_refer setup k to) is).1
+    referred setup k to (and_parts (has_kind k value) (may_refer setup k to) is).1
 
 pub get_through : (v : LocalView) (r : Ref) (field : ℕ) (value : Value) → IsLawful v → get v r field ≡ Ok value → LeadsOn v.setup (reference_in value)
 get_through v r field value lawful is =

@@ -1,6 +1,6 @@
 -- What holds of a lawful controller holds after a send.
-use Rattle.std.proofs.Common.{◌≡◌, ℕ, ℤ, ◌+◌, ◌*◌, ◌≤◌, Bool, true, false, cond, not, ◌&&◌, eqb, List, [], ◌∷◌, length, All, IsTrue, IfSome, IsSomeAnd, refl, sym, ap, subst, ◌∙◌, arith, Option, None, Some, Result, Ok, Err, nat_abs, is_some, slice_get, unwrap_or}
-use Rattle.std.proofs.lemmas.Bool.{eqb-true}
+use Rattle.std.proofs.Common.{◌≡◌, ℕ, ℤ, ◌+◌, ◌*◌, ◌≤◌, Bool, true, false, cond, not, eqb, List, [], ◌∷◌, length, All, IsTrue, IfSome, IsSomeAnd, refl, sym, ap, subst, ◌∙◌, arith, Option, None, Some, Result, Ok, Err, nat_abs, is_some, slice_get, unwrap_or}
+use Rattle.std.proofs.lemmas.Bool.{and_parts, cond_both, eqb-true, ltb-false, not-false}
 use Rattle.std.proofs.lemmas.List.{length-set}
 use Rattle.std.proofs.lemmas.List.Elements.{All-weaker}
 use Rattle.std.specs.Bool.{nat_lt}
@@ -28,9 +28,8 @@ use Rattle.ctl_face.specs.OfMachine.{buffer_place, message_kinds}
 use Rattle.ctl_face.specs.Routing.{receiving_buffer, is_ordered}
 use Rattle.ctl_face.specs.Send.{Sending, send, sent_from, copy_limit, receivers_of, delivered, counted, next_copy, has_jitter, after_network_copy, network_arrival, with_network_copy, local_arrival, local_copy}
 use Rattle.ctl_face.proofs.Cases.{Good, good_ok, good_err, good_cond}
-use Rattle.ctl_face.proofs.Inboxes.{ascend-with, all-with}
+use Rattle.ctl_face.proofs.Kept.{delivered_fits}
 use Rattle.ctl_face.proofs.Lines.{All-found}
-use Rattle.ctl_face.proofs.Marks.{IsStrictlyIncreasing-with_mark}
 
 -- the buffer is there, and its messages have these fields
 abbrev pub TakesFields : Setup → ℕ → List Value → Type 0
@@ -48,28 +47,10 @@ own_fits setup sent buffer arrival fields takes = record { fields = takes; own_n
 older_fits : (setup : Setup) (sent : ℕ) (m : InboxMessage) → FitsMessage setup sent m → FitsMessage setup (sent + 1) m
 older_fits setup sent m fits = record { fields = fits.fields; own_number = λ own. let before = fits.own_number own in omega arith; line = fits.line }
 
-and_true : (a b : Bool) → (a && b) ≡ true → (a ≡ true) × (b ≡ true)
-and_true true b is = (refl, is)
-and_true false b is = cc
-
 -- one copy more
 module _ (setup : Setup) (now : ℕ) where
-  counted_fits : (ctl : Ctl) (mine : Bool) (m : Message) → ctl.copies + 1 ≤ copy_limit → (mine ≡ true → FitsMessage setup (ctl.sent + 1) (record { message = m; waiting = None })) → Fits setup ctl now
-      → Fits setup (record (delivered mine ctl m) { sent = ctl.sent + 1; copies = ctl.copies + 1 }) now
-  counted_fits ctl true m room own fits = record {
-    tables = fits.tables;
-    states = fits.states;
-    inbox_ascends = ascend-with ctl.inbox (record { message = m; waiting = None }) fits.inbox_ascends;
-    messages = all-with (FitsMessage setup (ctl.sent + 1)) ctl.inbox (record { message = m; waiting = None })
-        (All-weaker (FitsMessage setup ctl.sent) (FitsMessage setup (ctl.sent + 1)) (older_fits setup ctl.sent) ctl.inbox fits.messages) (own refl);
-    marks_ascend = IsStrictlyIncreasing-with_mark ctl.marks m.arrival fits.marks_ascend;
-    sequencer = fits.sequencer;
-    networks = fits.networks;
-    copies = room;
-    sent = (let before = fits.sent in omega arith);
-    drawn = (let before = fits.drawn in omega arith);
-  }
-  counted_fits ctl false m room own fits = record {
+  numbered_fits : (ctl : Ctl) → ctl.copies + 1 ≤ copy_limit → Fits setup ctl now → Fits setup (record ctl { sent = ctl.sent + 1; copies = ctl.copies + 1 }) now
+  numbered_fits ctl room fits = record {
     tables = fits.tables;
     states = fits.states;
     inbox_ascends = fits.inbox_ascends;
@@ -82,45 +63,40 @@ module _ (setup : Setup) (now : ℕ) where
     drawn = (let before = fits.drawn in omega arith);
   }
 
-  last_fits : (ctl : Ctl) (lasts : Lasts) → Fits setup ctl now → Fits setup (record ctl { local_last = lasts }) now
-  last_fits ctl lasts fits = record {
-    tables = fits.tables;
-    states = fits.states;
-    inbox_ascends = fits.inbox_ascends;
-    messages = fits.messages;
-    marks_ascend = fits.marks_ascend;
-    sequencer = fits.sequencer;
-    networks = fits.networks;
-    copies = fits.copies;
-    sent = fits.sent;
-    drawn = fits.drawn;
-  }
+  counted_fits : (ctl : Ctl) (mine : Bool) (m : Message) → ctl.copies + 1 ≤ copy_limit → (mine ≡ true → FitsMessage setup (ctl.sent + 1) (record { message = m; waiting = None })) → Fits setup ctl now
+      → Fits setup (record (delivered mine ctl m) { sent = ctl.sent + 1; copies = ctl.copies + 1 }) now
+  counted_fits ctl true m room own fits = delivered_fits setup (record ctl { sent = ctl.sent + 1; copies = ctl.copies + 1 }) now m (own refl) (numbered_fits ctl room fits)
+  counted_fits ctl false m room own fits = numbered_fits ctl room fits
 
   delivered_drawn : (mine : Bool) (ctl : Ctl) (m : Message) → (delivered mine ctl m).drawn ≡ ctl.drawn
   delivered_drawn true ctl m = refl
   delivered_drawn false ctl m = refl
 
-  cond_le : (b : Bool) (x y n : ℕ) → x ≤ n → y ≤ n → cond b x y ≤ n
-  cond_le true x y n first second = first
-  cond_le false x y n first second = second
-
-  cond_length : {X : Type 0} (b : Bool) (xs ys : List X) (n : ℕ) → length xs ≡ n → length ys ≡ n → length (cond b xs ys) ≡ n
-  cond_length true xs ys n first second = first
-  cond_length false xs ys n first second = second
-
-  drawn_fits : (ctl : Ctl) (network receiver arrival : ℕ) → ctl.drawn + 1 ≤ copy_limit * now + ctl.copies → Fits setup ctl now → Fits setup (after_network_copy setup ctl network receiver arrival) now
-  drawn_fits ctl network receiver arrival room fits = record {
+  -- other last arrivals, and more or less of the jitter drawn
+  kept_fits : (ctl : Ctl) (lasts : Lasts) (networks : List Lasts) (drawn : ℕ) → length networks ≡ network_count → drawn ≤ copy_limit * now + ctl.copies → Fits setup ctl now
+      → Fits setup (record ctl { local_last = lasts; network_last = networks; drawn = drawn }) now
+  kept_fits ctl lasts networks drawn all few fits = record {
     tables = fits.tables;
     states = fits.states;
     inbox_ascends = fits.inbox_ascends;
     messages = fits.messages;
     marks_ascend = fits.marks_ascend;
     sequencer = fits.sequencer;
-    networks = cond_length (is_ordered setup.routes network) (with_last ctl.network_last network receiver arrival) ctl.network_last network_count (length-set ctl.network_last network _ ∙ fits.networks) fits.networks;
+    networks = all;
     copies = fits.copies;
     sent = fits.sent;
-    drawn = cond_le (has_jitter setup) (ctl.drawn + 1) ctl.drawn (copy_limit * now + ctl.copies) room fits.drawn;
+    drawn = few;
   }
+
+  last_fits : (ctl : Ctl) (lasts : Lasts) → Fits setup ctl now → Fits setup (record ctl { local_last = lasts }) now
+  last_fits ctl lasts fits = kept_fits ctl lasts ctl.network_last ctl.drawn fits.networks fits.drawn fits
+
+  drawn_fits : (ctl : Ctl) (network receiver arrival : ℕ) → ctl.drawn + 1 ≤ copy_limit * now + ctl.copies → Fits setup ctl now → Fits setup (after_network_copy setup ctl network receiver arrival) now
+  drawn_fits ctl network receiver arrival room fits =
+      kept_fits ctl ctl.local_last _ _
+      (cond_both (is_ordered setup.routes network) (with_last ctl.network_last network receiver arrival) ctl.network_last (λ (lasts : List Lasts). length lasts ≡ network_count)
+      (λ _. length-set ctl.network_last network _ ∙ fits.networks) (λ _. fits.networks))
+      (cond_both (has_jitter setup) (ctl.drawn + 1) ctl.drawn (λ n. n ≤ copy_limit * now + ctl.copies) (λ _. room) (λ _. fits.drawn)) fits
 
   -- what a copy to the controller itself needs
   abbrev MineTakes : ℕ → List Value → ℕ → Type 0
@@ -143,7 +119,7 @@ module _ (setup : Setup) (now : ℕ) where
       → Fits setup s.sender now → Fits setup (fold (with_network_copy setup network latency fields now) s members).sender now
   each_fits network latency fields [] s room routed mine fits = fits
   each_fits network latency fields (receiver ∷ members) s room routed mine fits =
-      let both = and_true (is_some (receiving_buffer setup.routes receiver network)) (list_all (λ r. is_some (receiving_buffer setup.routes r network)) members) routed in
+      let both = and_parts (is_some (receiving_buffer setup.routes receiver network)) (list_all (λ r. is_some (receiving_buffer setup.routes r network)) members) routed in
       let room_here : s.sender.copies + 1 ≤ copy_limit = omega arith in
       let room_then : length members + (s.sender.copies + 1) ≤ copy_limit = omega arith in
       each_fits network latency fields members (with_network_copy setup network latency fields now s receiver) room_then both.1 mine
@@ -185,13 +161,6 @@ module _ (setup : Setup) (lawful : IsSetup setup) (network : ℕ) (destination :
       let Q : ℕ → Type 0 = λ r. is_some (receiving_buffer setup.routes r network) ≡ true → TakesFields setup (unwrap_or (receiving_buffer setup.routes r network) 0) fields in
       subst Q (sym mine) (own_buffer_takes (receiving_buffer setup.routes setup.me network) refl) there
 
-not_false : (b : Bool) → not b ≡ false → b ≡ true
-not_false true is = refl
-not_false false is = cc
-
-not_above : (a b : ℕ) → nat_lt a b ≡ false → b ≤ a
-not_above a b is = grind arith
-
 abbrev SenderFits : Setup → ℕ → Sending → Type 0
 SenderFits setup now s = Fits setup s.sender now
 
@@ -208,7 +177,7 @@ sent_fits (Some (place.Local ordered)) setup ctl buffer latency fields now is la
     good_cond (SenderFits setup now) b (Err Copies) (Ok sending) (λ _. good_err (SenderFits setup now) Copies)
     (λ few. good_ok (SenderFits setup now) sending
     (last_fits setup now (counted setup ctl copy) (cond ordered (map.insert ctl.local_last buffer arrival) ctl.local_last)
-    (counted_fits setup now ctl (eqb setup.me setup.me) copy.message (not_above copy_limit (ctl.copies + 1) few) (λ _. own_fits setup ctl.sent buffer arrival fields takes) fits)))
+    (counted_fits setup now ctl (eqb setup.me setup.me) copy.message (ltb-false copy_limit (ctl.copies + 1) few) (λ _. own_fits setup ctl.sent buffer arrival fields takes) fits)))
 sent_fits (Some (place.To network destination)) setup ctl buffer latency fields now is lawful here fits =
     let members = receivers_of destination fields in
     let sending = fold (with_network_copy setup network latency fields now) (record { sender = ctl; copies = [] }) members in
@@ -216,10 +185,10 @@ sent_fits (Some (place.To network destination)) setup ctl buffer latency fields 
     let many = nat_lt copy_limit (ctl.copies + length members) in
     good_cond (SenderFits setup now) (not routed) (Err Route) (cond many (Err Copies) (Ok sending)) (λ _. good_err (SenderFits setup now) Route)
     (λ are_routed. good_cond (SenderFits setup now) many (Err Copies) (Ok sending) (λ _. good_err (SenderFits setup now) Copies)
-    (λ few. let room = not_above copy_limit (ctl.copies + length members) few in
+    (λ few. let room = ltb-false copy_limit (ctl.copies + length members) few in
     let total : length members + ctl.copies ≤ copy_limit = omega arith in
     good_ok (SenderFits setup now) sending
-    (each_fits setup now network latency fields members (record { sender = ctl; copies = [] }) total (not_false routed are_routed) (own_takes setup lawful network destination buffer fields is here) fits)))
+    (each_fits setup now network latency fields members (record { sender = ctl; copies = [] }) total (not-false routed are_routed) (own_takes setup lawful network destination buffer fields is here) fits)))
 
 after_keeps : (v : LocalView) (r : Result Sending Fault) → Good (SenderFits v.setup v.now) r → IsLawful v → Good IsLawful (after_sending v r)
 after_keeps v (Ok s) fits lawful = good_ok IsLawful _ (record { setup = lawful.setup; now = lawful.now; fits = fits.good s refl })

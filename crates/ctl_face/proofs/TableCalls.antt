@@ -1,5 +1,6 @@
 -- What holds of a lawful local holds after each call on its tables.
 use Rattle.std.proofs.Common.{◌≡◌, ℕ, ◌+◌, ◌-◌, ◌<◌, ◌≤◌, ◌%◌, Bool, true, false, cond, not, ◌||◌, eqb, List, [], ◌∷◌, ◌++◌, length, set, All, IsTrue, IfSome, IsSomeAnd, refl, sym, ap, subst, ◌∙◌, arith, Option, None, Some, Ok, Err, is_some, slice_get, unwrap_or}
+use Rattle.std.proofs.lemmas.Bool.{cond_both, leb-false, not-false}
 use Rattle.std.proofs.lemmas.List.{get_or_default, length-set}
 use Rattle.std.proofs.lemmas.List.Elements.{All-nil, All-cons, All-append, All-set, All-push}
 use Rattle.std.specs.Bool.{nat_le, nat_lt}
@@ -154,19 +155,10 @@ module _ (setup : Setup) (kinds : List Kind) where
 inserted_len : (m : map.FinMap nat_cmp (List Value)) (line : ℕ) (fields : List Value) (there : Bool) → map.contains_key m line ≡ there → map.len (map.insert m line fields) ≡ cond there (map.len m) (map.len m + 1)
 inserted_len m line fields there is = map.len-insert nat_cmp_total m line fields ∙ ap (λ b. cond b (map.len m) (map.len m + 1)) is
 
-less : (b : Bool) (n : ℕ) → cond b (n - 1) n ≤ n
-less true n = omega arith
-less false n = omega arith
-
-not_false : (b : Bool) → not b ≡ false → b ≡ true
-not_false true is = refl
-not_false false is = cc
-
-not_up_to : (a b : ℕ) → nat_le a b ≡ false → b < a
-not_up_to a b is = grind arith
-
 removed_len : (m : map.FinMap nat_cmp (List Value)) (line : ℕ) → map.len (map.remove m line) ≤ map.len m
-removed_len m line = rw (map.len-remove nat_cmp_total m line) (less (map.contains_key m line) (map.len m))
+removed_len m line =
+    let n = map.len m in
+    rw (map.len-remove nat_cmp_total m line) (cond_both (map.contains_key m line) (n - 1) n (λ k. k ≤ n) (λ _. omega arith) (λ _. omega arith))
 
 tbes_fit : (setup : Setup) (s : TableSetup) (tbes : Tbes) (line : ℕ) (fields : List Value) → IsLine line → KindsAre setup s.kinds fields → (map.len tbes.held ≤ tbes.entries → map.len (map.insert tbes.held line fields) ≤ tbes.entries) → FitsTable setup s (TbeTable tbes) → FitsTable setup s (TbeTable (record tbes { held = map.insert tbes.held line fields }))
 tbes_fit setup s tbes line fields is here room fits = record {
@@ -209,7 +201,7 @@ allocated setup s (CacheTable cache) line fields is here fits =
     let new = CacheTable (with_set cache line (set_of cache line ++ (line, fields) ∷ [])) in
     good_cond (FitsTable setup s) there (Err Present) (cond (not (available cache line)) (Err Full) (Ok new)) (λ _. good_err (FitsTable setup s) Present)
     (λ absent. good_cond (FitsTable setup s) (not (available cache line)) (Err Full) (Ok new) (λ _. good_err (FitsTable setup s) Full)
-    (λ room. good_ok (FitsTable setup s) new (pushed_fits setup s cache line fits fields is here absent (not_false (available cache line) room))))
+    (λ room. good_ok (FitsTable setup s) new (pushed_fits setup s cache line fits fields is here absent (not-false (available cache line) room))))
 allocated setup s (DirectoryTable directory) line fields is here fits = good_ok (FitsTable setup s) (DirectoryTable directory) fits
 allocated setup s (TbeTable tbes) line fields is here fits =
     let there = map.contains_key tbes.held line in
@@ -219,7 +211,7 @@ allocated setup s (TbeTable tbes) line fields is here fits =
     (λ absent. good_cond (FitsTable setup s) full (Err Full) (Ok new) (λ _. good_err (FitsTable setup s) Full)
     (λ room. good_ok (FitsTable setup s) new
     (let more = inserted_len tbes.held line fields false absent in
-    let below = not_up_to tbes.entries (map.len tbes.held) room in
+    let below = leb-false tbes.entries (map.len tbes.held) room in
     tbes_fit setup s tbes line fields is here (λ small. omega arith) fits)))
 allocated setup s (ParameterTable values) line fields is here fits = good_ok (FitsTable setup s) (ParameterTable values) fits
 

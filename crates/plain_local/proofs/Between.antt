@@ -7,16 +7,15 @@ use Rattle.ruby_value.specs.declared.message.Message.{Message}
 use Rattle.ruby_value.specs.declared.value.Value.{Value}
 use Rattle.ctl_face.specs.declared.setup.BufferSetup.{BufferSetup}
 use Rattle.ctl_face.specs.declared.setup.Setup.{Setup}
-use Rattle.ctl_face.specs.Ctl.{InboxMessage, Requests}
+use Rattle.ctl_face.specs.Ctl.{Requests}
 use Rattle.ctl_face.specs.Fits.{FitsMessage, FitsSequencer, IsLawful, IsRequest, last_cycle}
 use Rattle.ctl_face.specs.HasKinds.{has_kinds}
 use Rattle.ctl_face.specs.LocalView.{LocalView}
 use Rattle.ctl_face.specs.Send.{copy_limit, delivered}
 use Rattle.ctl_face.specs.Served.{receives, Receives, TakesMessage}
-use Rattle.ctl_face.proofs.Callbacks.{with_requests_fits}
-use Rattle.ctl_face.proofs.Inboxes.{ascend-with, all-with}
+use Rattle.ctl_face.proofs.Callbacks.{Outstanding, with_requests_fits}
+use Rattle.ctl_face.proofs.Kept.{delivered_fits}
 use Rattle.ctl_face.proofs.Maps.{insert_keeps}
-use Rattle.ctl_face.proofs.Marks.{IsStrictlyIncreasing-with_mark}
 use Rattle.plain_local.specs.Asking.{with_request}
 
 takes : (setup : Setup) (o : Option BufferSetup) (fields : List Value) → IsTrue (receives (option_map (λ (s : BufferSetup). s.place) o)) → IsTrue (has_kinds setup (unwrap_or (option_map (λ (s : BufferSetup). s.kinds) o) []) fields)
@@ -26,37 +25,18 @@ takes setup (Some s) fields there here = here
 
 pub delivered_lawful : (v : LocalView) (m : Message) → Receives v m.buffer → TakesMessage v m.buffer m.fields → ¬ (m.number.sender ≡ v.setup.me) → IsLawful v → IsLawful (record v { ctl = delivered true v.ctl m })
 delivered_lawful v m there here other lawful =
-    let new : InboxMessage = record { message = m; waiting = None } in
-    let fits_new : FitsMessage v.setup v.ctl.sent new = record {
+    let fits_new : FitsMessage v.setup v.ctl.sent (record { message = m; waiting = None }) = record {
       fields = takes v.setup (slice_get v.setup.buffers m.buffer) m.fields there here;
       own_number = λ own. absurd (other own);
       line = tt;
     } in
-    record {
-      setup = lawful.setup;
-      now = lawful.now;
-      fits = record {
-        tables = lawful.fits.tables;
-        states = lawful.fits.states;
-        inbox_ascends = ascend-with v.ctl.inbox new lawful.fits.inbox_ascends;
-        messages = all-with (FitsMessage v.setup v.ctl.sent) v.ctl.inbox new lawful.fits.messages fits_new;
-        marks_ascend = IsStrictlyIncreasing-with_mark v.ctl.marks m.arrival lawful.fits.marks_ascend;
-        sequencer = lawful.fits.sequencer;
-        networks = lawful.fits.networks;
-        copies = lawful.fits.copies;
-        sent = lawful.fits.sent;
-        drawn = lawful.fits.drawn;
-      };
-    }
-
-abbrev IsRequestFor : ℕ → Asked → Type 0
-IsRequestFor line a = (a.line ≡ line) × IsRequest a
+    record { setup = lawful.setup; now = lawful.now; fits = delivered_fits v.setup v.ctl v.now m fits_new lawful.fits }
 
 requested : (has : Bool) (o : Option Requests) (asked : Asked) → IsRequest asked → FitsSequencer has o
     → FitsSequencer has (option_map (λ (r : Requests). record r { outstanding = map.insert r.outstanding asked.line asked }) o)
 requested false None asked is fits = tt
 requested true (Some r) asked is fits = record {
-  outstanding = insert_keeps IsRequestFor r.outstanding asked.line asked fits.outstanding (refl, is);
+  outstanding = insert_keeps Outstanding r.outstanding asked.line asked fits.outstanding (refl, is);
   finished = fits.finished;
   finished_ascend = fits.finished_ascend;
 }

@@ -10,7 +10,7 @@ mod rows;
 use super::*;
 use calls::{Call, ShowsSetup, came_of};
 use ctl_face::Local;
-use node::{COUNT, QUEUE, node};
+use node::{COUNT, QUEUE, node, one_field};
 use rows::{
     LATE, ON_JITTER, ON_NEXT_CYCLE, ON_REQUESTS, ON_RETURNED, ON_SENDS, ON_TABLES, ON_TOO_MANY,
     ON_WAITING, SENT, TO_ALL,
@@ -60,9 +60,7 @@ fn deliver<R: Abort>(
     requires lawful { IsLawful (view_of local.old) }
     ensures lawful { IsLawful (view_of local.new) }
 {
-    let mut values = Vec::new(alloc);
-    values.push(Value::Addr(0))?;
-    let fields = Fields::of(values);
+    let fields = one_field(alloc, Value::Addr(0))?;
     assert!(rt; local.setup().me != COUNT);
     assert!(rt; local.setup().receives(QUEUE));
     assert!(rt; local.setup().takes_message(QUEUE, &fields));

@@ -1,7 +1,7 @@
 -- How what a sink tells grows over several calls.
-use Rattle.std.proofs.Common.{◌≡◌, ℕ, ◌+◌, ◌-◌, ◌<◌, List, [], ◌++◌, length, take, drop, Option, Some, None, is_some, Bool, true, false, refl, ◌∙◌, sym, ap, arith, append_assoc, length-append, length-drop}
+use Rattle.std.proofs.Common.{◌≡◌, ℕ, ◌+◌, ◌-◌, ◌<◌, List, [], ◌++◌, length, take, drop, Option, Some, None, is_some, Bool, true, false, refl, ◌∙◌, sym, ap, arith, append_assoc, length-append}
 use Rattle.std.proofs.Math.Seq.{take-add, take-append-add}
-use Rattle.std.proofs.lemmas.List.{append-nil, take-append-le, take_all}
+use Rattle.std.proofs.lemmas.List.{append-nil, take-append-le, take_rest}
 use Rattle.std.specs.Bool.{OnFalse}
 use Rattle.ruby_outside.specs.Sink.{grown, IsCutOff}
 
@@ -38,11 +38,15 @@ pub cut_last : (answer : Bool) (before middle : Option (List ℕ)) (first more :
 cut_last true before middle first more after whole cut = tt
 cut_last false before middle first more after whole cut = cut_behind before middle first more after whole cut
 
--- the front of a piece, and then the front of what is left of it
-pub grown_on : (before middle after : Option (List ℕ)) (piece : List ℕ) (done count : ℕ) → middle ≡ grown before (take done piece) → after ≡ grown middle (take count (take (length piece - done) (drop done piece))) → after ≡ grown before (take (done + count) piece)
-grown_on before middle after piece done count first more =
+-- the front of a piece, and then more of what is left of it
+pub grown_more : (before middle after : Option (List ℕ)) (piece : List ℕ) (done count : ℕ) → middle ≡ grown before (take done piece) → after ≡ grown middle (take count (drop done piece)) → after ≡ grown before (take (done + count) piece)
+grown_more before middle after piece done count first more =
     more
-    ∙ ap (λ (rest : List ℕ). grown middle (take count rest)) (take_all (length piece - done) (drop done piece) (omega (arith, length-drop done piece)))
     ∙ ap (λ (told : Option (List ℕ)). grown told (take count (drop done piece))) first
     ∙ grown-append before (take done piece) (take count (drop done piece))
     ∙ ap (λ (bytes : List ℕ). grown before bytes) (sym (take-add done count piece))
+
+-- the same where what is left was taken as a slice
+pub grown_on : (before middle after : Option (List ℕ)) (piece : List ℕ) (done count : ℕ) → middle ≡ grown before (take done piece) → after ≡ grown middle (take count (take (length piece - done) (drop done piece))) → after ≡ grown before (take (done + count) piece)
+grown_on before middle after piece done count first more =
+    grown_more before middle after piece done count first (more ∙ ap (λ (rest : List ℕ). grown middle (take count rest)) (take_rest piece done))

@@ -3,6 +3,7 @@ use Rattle.std.proofs.Common.{◌≡◌, ℕ, ◌<◌, ◌≤◌, ◌%◌, false
 use mathlib.Core.Bool.{false≢true}
 use Rattle.std.proofs.Math.ListN.{length-set}
 use Rattle.std.proofs.lemmas.List.{get_or_default, length-replicate}
+use Rattle.std.proofs.lemmas.Map.{length-set_value}
 use Rattle.ruby_value.specs.declared.value.Value.{Value}
 use Rattle.ruby_value.specs.AreLinesOf.{AreLinesOf}
 use Rattle.ruby_value.specs.Cache.{Cache, Line}
@@ -13,7 +14,7 @@ use Rattle.ruby_value.specs.SetOf.{set_of}
 use Rattle.ruby_value.specs.WithFields.{with_fields}
 use Rattle.ruby_value.specs.WithSet.{with_set}
 use Rattle.ruby_value.specs.WithoutLine.{without_line}
-use Rattle.ruby_value.proofs.CacheSets.{lines_push, lines_without, lines_with_fields, lines_recent, length_removed, length_written, length_recent, set_is, set_lines, lawful_with_set, lawful_empty}
+use Rattle.ruby_value.proofs.CacheSets.{lines_push, lines_without, lines_with_fields, lines_recent, length_removed, length_recent, set_is, set_lines, lawful_with_set, lawful_empty}
 
 none_from : {X : Type 0} (o : Option X) → is_some o ≡ false → o ≡ None
 none_from None is = refl
@@ -61,10 +62,7 @@ module _ (cache : Cache) (line at : ℕ) (lines : List Line) (r : IsRead cache l
     cache_recent new is = rw is (edited _ (omega (arith, within, length_recent lines line)) (lines_recent _ _ lines line own refl))
 
     pub cache_with_fields : (new : List Line) (f : List Value) → new ≡ with_fields lines line f → IsCache (record { ways = cache.ways; sets = set cache.sets at new })
-    cache_with_fields new f is = rw is (edited _ (omega (arith, within, length_written (λ l. eqb l line) lines f)) (lines_with_fields _ _ lines line f own))
-
-    pub cache_same : (new : List Line) → new ≡ lines → IsCache (record { ways = cache.ways; sets = set cache.sets at new })
-    cache_same new is = rw is (edited lines within own)
+    cache_with_fields new f is = rw is (edited _ (omega (arith, within, length-set_value (λ l. eqb l line) lines f)) (lines_with_fields _ _ lines line f own))
 
     pub cache_push : (new : List Line) (f : List Value) → is_some (fields_of (set_of cache line) line) ≡ false → length (set_of cache line) < cache.ways → new ≡ lines ++ (line, f) ∷ [] → IsCache (record { ways = cache.ways; sets = set cache.sets at new })
     cache_push new f absent room is =

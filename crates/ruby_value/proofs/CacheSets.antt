@@ -1,12 +1,13 @@
 -- What an edit of one set leaves of the lines that belong there, and of the cache.
-use Rattle.std.proofs.Common.{◌≡◌, ℕ, zero, suc, ◌+◌, ◌<◌, ◌≤◌, ◌%◌, Bool, true, false, cond, eqb, List, [], ◌∷◌, ◌++◌, length, get_or, set, replicate, Some, None, refl, sym, ap, subst, inl, inr, arith, length-append}
+use Rattle.std.proofs.Common.{◌≡◌, ℕ, zero, suc, ◌+◌, ◌<◌, ◌≤◌, ◌%◌, Bool, true, false, cond, eqb, List, [], ◌∷◌, ◌++◌, length, get_or, set, replicate, Some, None, refl, sym, subst, inl, inr, arith, length-append}
 use Rattle.std.specs.Option.{option_map, option_to_list}
 use Rattle.std.specs.Map.{lookup, remove_entry, set_value}
 use Rattle.std.proofs.Math.ListN.{length-set}
 use Rattle.std.proofs.Common.{get_or-set_same, get_or-set_other}
 use Rattle.std.proofs.lemmas.Bool.{eqb-true, eqb-false, ne_eqb, cases_eq}
 use Rattle.std.proofs.lemmas.List.{append-nil}
-use Rattle.std.proofs.lemmas.Option.{none-some, unwrap_or-slice_get}
+use Rattle.std.proofs.lemmas.Map.{lookup-none, none_passes_from_lookup}
+use Rattle.std.proofs.lemmas.Option.{unwrap_or-slice_get}
 use Rattle.ruby_value.specs.declared.value.Value.{Value}
 use Rattle.ruby_value.specs.AreLinesOf.{AreLinesOf}
 use Rattle.ruby_value.specs.Cache.{Cache, Line}
@@ -21,10 +22,8 @@ module _ {X : Type 0} where
   -- no entry passes: neither the first nor a later one
   none_head : (test : ℕ → Bool) (x : ℕ × X) (xs : List (ℕ × X)) → lookup test (x ∷ xs) ≡ None → (test x.0 ≡ false) × (lookup test xs ≡ None)
   none_head test x xs none =
-      elim (test x.0) as (λ b. cond b (Some x.1) (lookup test xs) ≡ None → (b ≡ false) × (lookup test xs ≡ None)) [
-        | true ↦ λ wrong. absurd (none-some x.1 (sym wrong))
-        | false ↦ λ rest. (refl, rest)
-      ] none
+      let fails = none_passes_from_lookup test (x ∷ xs) none in
+      (fails.0, lookup-none test xs fails.1)
 
   none_push : (test : ℕ → Bool) (xs : List (ℕ × X)) (y : ℕ × X) → lookup test xs ≡ None → test y.0 ≡ false → lookup test (xs ++ y ∷ []) ≡ None
   none_push test [] y none fails = rw fails refl
@@ -56,14 +55,6 @@ module _ {X : Type 0} where
       elim (test x.0) as (λ b. length (cond b xs (x ∷ remove_entry test xs)) + length (option_to_list (cond b (Some x.1) (lookup test xs))) ≡ suc (length xs)) [
         | true ↦ omega arith
         | false ↦ omega (arith, length_removed test xs)
-      ]
-
-  pub length_written : (test : ℕ → Bool) (xs : List (ℕ × X)) (w : X) → length (set_value test xs w) ≡ length xs
-  length_written test [] w = refl
-  length_written test (x ∷ xs) w =
-      elim (test x.0) as (λ b. length (cond b ((x.0, w) ∷ xs) (x ∷ set_value test xs w)) ≡ suc (length xs)) [
-        | true ↦ refl
-        | false ↦ ap suc (length_written test xs w)
       ]
 
 -- a line that isn't there goes to the end

@@ -1,5 +1,5 @@
 -- Lists of final states: those that an ordered map's entries give, and that two of one journal are equal.
-use Rattle.std.proofs.Common.{◌≡◌, ℕ, zero, suc, ◌<◌, ◌⊎◌, List, [], ◌∷◌, map, refl, sym, ap, subst, ◌∙◌, inl, inr, arith, AllPairs, Contains, All, Result, Ok, Err, IfOk}
+use Rattle.std.proofs.Common.{◌≡◌, ℕ, suc, ◌<◌, ◌⊎◌, List, [], ◌∷◌, map, refl, sym, ap, subst, ◌∙◌, inl, inr, arith, AllPairs, Contains, All, Result, Ok, Err, IfOk}
 use Rattle.std.specs.declared.cmp.Ordering.{Ordering}
 use Rattle.std.specs.declared.cmp.Ordering.TheVariants.{Less, Equal, Greater}
 use Rattle.std.specs.Ordering.{nat_cmp, ordering_then}
@@ -8,12 +8,14 @@ use Rattle.std.specs.List.Sorted.{IsStrictlySortedBy}
 use Rattle.std.specs.Map.{keys_of, lookup}
 use Rattle.std.specs.BTreeMap.{is_at}
 use Rattle.std.proofs.lemmas.List.Kept.{AllPairs-cons}
-use Rattle.std.proofs.lemmas.List.Elements.{All-cons, All-nil}
+use Rattle.std.proofs.lemmas.List.Elements.{All-cons, All-contains, All-nil, Contains-append_right}
 use Rattle.std.proofs.Math.ListN.{get_or-map}
 use Rattle.std.proofs.lemmas.List.{length-map}
 use Rattle.std.proofs.lemmas.Map.Lookups.{CmpEqualImpliesEq, exact_pairs, exact_unsigned}
 use Rattle.std.proofs.lemmas.Map.Views.{All-after_first, lookup-from_Contains, Contains-from_lookup, tells_apart}
 use Rattle.std.proofs.lemmas.Map.Keys.{sorted_tail, IsDistinct-from_sorted}
+use Rattle.ruby_value.proofs.Contained.{Contains-cons_cases}
+use Rattle.ruby_value.proofs.Ordered.{AllPairs-head, AllPairs-nil, AllPairs-tail}
 use Rattle.run_journal.specs.declared.entry.Entry.{Entry}
 use Rattle.run_journal.specs.declared.summary.Final.{Final}
 use Rattle.run_journal.specs.AreFinals.{AreFinals}
@@ -46,7 +48,7 @@ before_all p s (e ∷ es) h =
     (before_all p s es (λ i d l. h (suc i) d (omega arith)))
 
 ascending : (es : List ((ℕ × ℕ) × ℕ)) → IsStrictlySortedBy place_cmp (keys_of es) → AllPairs IsBefore (map final_at es)
-ascending [] s = λ i j d l k. absurd (omega arith)
+ascending [] s = AllPairs-nil IsBefore
 ascending (e ∷ es) s =
     AllPairs-cons IsBefore (final_at e) (map final_at es) (before_all e.0 e.1 es (All-after_first place_cmp e.0 (keys_of es) s))
     (ascending es (sorted_tail place_cmp _ _ s))
@@ -82,18 +84,8 @@ not_both a b (inl h) (inr k) = omega arith
 not_both a b (inr h) (inl k) = omega arith
 not_both a b (inr h) (inr k) = omega arith
 
-head_or_later : (x f : Final) (xs : List Final) → Contains (x ∷ xs) f → (x ≡ f) ⊎ Contains xs f
-head_or_later x f xs (zero, l, e) = inl e
-head_or_later x f xs (suc i, l, e) = inr (i, omega arith, e)
-
-later : (x f : Final) (xs : List Final) → Contains xs f → Contains (x ∷ xs) f
-later x f xs has = (suc has.0, omega arith, has.2)
-
 before_rest : (x : Final) (xs : List Final) → AllPairs IsBefore (x ∷ xs) → (f : Final) → Contains xs f → IsBefore x f
-before_rest x xs p f has = subst (IsBefore x) has.2 (p 0 (suc has.0) f (omega arith) (omega arith))
-
-rest_ascends : (x : Final) (xs : List Final) → AllPairs IsBefore (x ∷ xs) → AllPairs IsBefore xs
-rest_ascends x xs p i j d l k = p (suc i) (suc j) d (omega arith) (omega arith)
+before_rest x xs p f = All-contains (IsBefore x) xs f (AllPairs-head IsBefore x xs p)
 
 same_head : (x y : Final) (xs ys : List Final) → AllPairs IsBefore (x ∷ xs) → AllPairs IsBefore (y ∷ ys) → (x ≡ y) ⊎ Contains xs y → (y ≡ x) ⊎ Contains ys x → x ≡ y
 same_head x y xs ys p q (inl e) k = e
@@ -109,11 +101,11 @@ same_lists [] [] p q to from = refl
 same_lists [] (y ∷ ys) p q to from = absurd (omega (arith, (from y (0, omega arith, refl)).1))
 same_lists (x ∷ xs) [] p q to from = absurd (omega (arith, (to x (0, omega arith, refl)).1))
 same_lists (x ∷ xs) (y ∷ ys) p q to from =
-    let e : x ≡ y = same_head x y xs ys p q (head_or_later x y xs (from y (0, omega arith, refl))) (head_or_later y x ys (to x (0, omega arith, refl))) in
+    let e : x ≡ y = same_head x y xs ys p q (Contains-cons_cases x y xs (from y (0, omega arith, refl))) (Contains-cons_cases y x ys (to x (0, omega arith, refl))) in
     let rest : xs ≡ ys =
-    same_lists xs ys (rest_ascends x xs p) (rest_ascends y ys q)
-    (λ f has. in_rest x y f xs ys p e has (head_or_later y f ys (to f (later x f xs has))))
-    (λ f has. in_rest y x f ys xs q (sym e) has (head_or_later x f xs (from f (later y f ys has)))) in
+    same_lists xs ys (AllPairs-tail IsBefore x xs p) (AllPairs-tail IsBefore y ys q)
+    (λ f has. in_rest x y f xs ys p e has (Contains-cons_cases y f ys (to f (Contains-append_right (x ∷ []) xs f has))))
+    (λ f has. in_rest y x f ys xs q (sym e) has (Contains-cons_cases x f xs (from f (Contains-append_right (y ∷ []) ys f has)))) in
     λ i. e i ∷ rest i
 
 pub same_finals : (journal : List Entry) (a b : List Final) → AreFinals journal a → AreFinals journal b → a ≡ b

@@ -3,13 +3,13 @@ use Rattle.std.proofs.Common.{◌≡◌, ℕ, cond, Bool, true, false, ◌&&◌,
 use Rattle.std.specs.declared.cmp.Ordering.{Ordering}
 use Rattle.std.specs.declared.cmp.Ordering.TheVariants.{Less, Equal, Greater}
 use Rattle.std.specs.Cmp.{eq_by_cmp_equiv}
-use Rattle.std.specs.FinMap.{FinMap, get, insert, empty, entries, entries_sorted, get-empty, get-entries, get-insert, find, is_sorted}
+use Rattle.std.specs.FinMap.{FinMap, get, insert, empty, entries, entries_sorted, get-empty, get-entries, get-insert, is_sorted}
 use Rattle.std.specs.FinMap.Entries.{below_all}
 use Rattle.std.specs.List.{AllByRecursion, filter_map, last_or}
 use Rattle.std.specs.List.Sorted.{IsStrictlySortedBy}
-use Rattle.std.specs.Map.{keys_of, lookup}
-use Rattle.std.specs.BTreeMap.{is_at}
+use Rattle.std.specs.Map.{keys_of}
 use Rattle.std.specs.Ordering.{is_lt}
+use Rattle.ruby_value.proofs.Entries.{find_is_lookup}
 use Rattle.run_journal.specs.declared.entry.Entry.{Entry}
 use Rattle.run_journal.specs.declared.entry.Entry.TheVariants.{Fired, Ended, Turned}
 use Rattle.run_journal.specs.declared.summary.Final.{Final}
@@ -60,16 +60,12 @@ unfolding IsStrictlySortedBy
 sorted_keys [] h = tt
 sorted_keys (e ∷ es) h = (below_keys e.0 es (first_so _ _ h), sorted_keys es (second_so _ _ h))
 
-find_is_lookup : (es : List ((ℕ × ℕ) × ℕ)) (q : ℕ × ℕ) → find place_cmp q es ≡ lookup (is_at (place_cmp q)) es
-find_is_lookup [] q = refl
-find_is_lookup (e ∷ es) q = ap (cond (is_at (place_cmp q) e.0) (Some e.1)) (find_is_lookup es q)
-
 pub some_finals : (journal : List Entry) → (all : List Final) × AreFinals journal all
 some_finals journal =
     let m : States = states_after empty journal in (
       map final_at (entries m),
       finals_of_entries journal (entries m) (sorted_keys (entries m) (entries_sorted m))
           (λ c a.
-          sym (find_is_lookup (entries m) (c, a)) ∙ sym (get-entries m (c, a)) ∙ get_after empty journal c a
+          sym (find_is_lookup place_cmp (entries m) (c, a)) ∙ sym (get-entries m (c, a)) ∙ get_after empty journal c a
           ∙ ap (λ o. last_or o (filter_map (next_state c a) journal)) (get-empty place_cmp (c, a))),
     )

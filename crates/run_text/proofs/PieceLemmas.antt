@@ -2,7 +2,7 @@
 use Rattle.std.proofs.Common.{◌≡◌, ℕ, ◌+◌, ◌-◌, ◌≤◌, List, ◌++◌, take, drop, Option, ◌∙◌, sym, ap, subst, arith}
 use Rattle.std.proofs.Math.Seq.{take-add}
 use Rattle.std.proofs.lemmas.List.{take-append-drop}
-use Rattle.ruby_outside.proofs.Growth.{grown-append, cut_before, cut_behind}
+use Rattle.ruby_outside.proofs.Growth.{grown_more, cut_before, cut_behind}
 use Rattle.ruby_outside.specs.Sink.{grown, IsCutOff}
 
 front_and_piece : (text : List ℕ) (done end : ℕ) → done ≤ end → take done text ++ take (end - done) (drop done text) ≡ take end text
@@ -13,10 +13,8 @@ front_and_piece text done end on =
 -- a piece that was written whole
 pub piece_written : (before middle after : Option (List ℕ)) (text : List ℕ) (done end : ℕ) → done ≤ end → middle ≡ grown before (take done text) → after ≡ grown middle (take (end - done) (drop done text)) → after ≡ grown before (take end text)
 piece_written before middle after text done end on front piece =
-    piece
-    ∙ ap (λ (told : Option (List ℕ)). grown told (take (end - done) (drop done text))) front
-    ∙ grown-append before (take done text) (take (end - done) (drop done text))
-    ∙ ap (λ (bytes : List ℕ). grown before bytes) (front_and_piece text done end on)
+    let sum : done + (end - done) ≡ end = omega arith in
+    grown_more before middle after text done (end - done) front piece ∙ ap (λ (count : ℕ). grown before (take count text)) sum
 
 -- a piece that was cut off cuts off the text
 pub piece_cut_off : (before middle after : Option (List ℕ)) (text : List ℕ) (done end : ℕ) → done ≤ end → middle ≡ grown before (take done text) → IsCutOff middle (take (end - done) (drop done text)) after → IsCutOff before text after

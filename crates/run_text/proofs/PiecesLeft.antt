@@ -1,19 +1,16 @@
 -- How one piece more goes on with what is left of a text.
-use Rattle.std.proofs.Common.{◌≡◌, ℕ, ◌+◌, ◌-◌, ◌≤◌, ◌<◌, Bool, true, false, List, length, take, drop, ap, subst, sym, ◌∙◌, arith, length-drop}
+use Rattle.std.proofs.Common.{◌≡◌, ℕ, ◌+◌, ◌-◌, ◌≤◌, ◌<◌, Bool, true, false, List, length, take, drop, ap, subst, sym, ◌∙◌, arith}
 use Rattle.std.proofs.Math.ListN.{drop_of_length-le}
-use Rattle.std.proofs.lemmas.List.{drop-drop}
+use Rattle.std.proofs.lemmas.List.{drop-drop, take_rest}
 use Rattle.ruby_outside.specs.declared.sink.Wrote.{Wrote}
 use Rattle.ruby_outside.specs.Put.{IsPut}
-use Rattle.ruby_outside.proofs.Puts.{left_of}
+use Rattle.ruby_outside.proofs.Puts.{left_some}
 use Rattle.run_text.specs.Pieces.{piece_length, IsPutInPieces, all_put, went_on, cut_off}
-
-left_some : (text : List ℕ) (done : ℕ) → done < length text → 0 < length (drop done text)
-left_some text done more = omega (arith, more, length-drop done text)
 
 -- the piece that is put is the first one of what is left
 piece_is : (text : List ℕ) (done end : ℕ) → end ≡ done + piece_length (take (length text - done) (drop done text)) → end - done ≡ piece_length (drop done text)
 piece_is text done end is =
-    let n : piece_length (take (length text - done) (drop done text)) ≡ piece_length (drop done text) = ap piece_length (left_of text done) in
+    let n : piece_length (take (length text - done) (drop done text)) ≡ piece_length (drop done text) = ap piece_length (take_rest text done) in
     omega (arith, is, n)
 
 pub one_more : {S : Type 0} (writes : S → List ℕ → Wrote → S → Type 0) (before middle after : S) (text : List ℕ) (done end : ℕ) (whole : Bool)

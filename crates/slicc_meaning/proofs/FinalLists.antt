@@ -12,7 +12,8 @@ use Rattle.slicc_meaning.specs.AreFinals.{AreFinals}
 use Rattle.run_journal.specs.FinalBefore.{final_before}
 use Rattle.slicc_meaning.specs.Finals.{with_final, after_entry, finals}
 use Rattle.slicc_meaning.specs.LastState.{next_state}
-use Rattle.slicc_meaning.proofs.Orders.{nothing-there, head_or_rest, at-head, in-rest, in-filter, from-filter, put-between}
+use Rattle.slicc_meaning.proofs.Orders.{nothing-there, head_or_rest, at-head, in-rest, in-filter, from-filter}
+use Rattle.ruby_value.proofs.Ordered.{AllPairs-insert as put-between}
 
 before : (a b : Final) → final_before a b ≡ true → IsBefore a b
 before a b is = grind (arith, nat_tests, is)

@@ -17,7 +17,7 @@ use Rattle.slicc_meaning.specs.Run.{IsRun}
 use Rattle.slicc_meaning.specs.States.{with_state}
 use Rattle.slicc_meaning.proofs.Fronts.{number-comes}
 use Rattle.slicc_meaning.proofs.Lasting.{IsLasting, run-holds}
-use Rattle.slicc_meaning.proofs.Orders.{put-between}
+use Rattle.ruby_value.proofs.Ordered.{AllPairs-insert as put-between}
 
 abbrev ByCycle : ℕ → ℕ → Type 0
 ByCycle a b = a < b

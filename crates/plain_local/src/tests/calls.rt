@@ -2,6 +2,7 @@
 ghost use Rattle.std.specs.Prelude.{◌≡◌, ◌↔◌, ◌^◌, ◌<◌, IsTrue};
 ghost use Rattle.ctl_face.specs.Fits.{IsLawful};
 
+use super::node::one_field;
 use crate::PlainLocal;
 use ctl_face::{Local, Setup};
 use ruby_value::{Block, Fields, NetDest, Ref, Value};
@@ -145,15 +146,11 @@ fn to_all(alloc: Global, receivers: &[u32]) -> Result<Fields, Fail> {
     for receiver in receivers {
         named.add(*receiver)?;
     }
-    let mut values = Vec::new(alloc);
-    values.push(Value::Dest(named))?;
-    Ok(Fields::of(values))
+    Ok(one_field(alloc, Value::Dest(named))?)
 }
 
 fn of_line(alloc: Global, line: u64) -> Result<Fields, Fail> {
-    let mut values = Vec::new(alloc);
-    values.push(Value::Addr(line.wrapping_mul(64)))?;
-    Ok(Fields::of(values))
+    Ok(one_field(alloc, Value::Addr(line.wrapping_mul(64)))?)
 }
 
 fn send<L: ShowsSetup>(

@@ -32,10 +32,11 @@ pub(super) const ORDERED_IN: u16 = 5;
 
 pub(super) const NOWHERE: u16 = 6;
 
-fn one_field(alloc: Global, kind: Kind, value: Value) -> Result<(Seq<Kind>, Fields), NoMemory> {
+/// The fields that have this value alone.
+pub(super) fn one_field(alloc: Global, value: Value) -> Result<Fields, NoMemory> {
     let mut values = Vec::new(alloc);
     values.push(value)?;
-    Ok((Seq::copied(alloc, &[kind])?, Fields::of(values)))
+    Ok(Fields::of(values))
 }
 
 fn table(
@@ -44,12 +45,11 @@ fn table(
     size: TableSize,
     initial: i64,
 ) -> Result<TableSetup, NoMemory> {
-    let (kinds, initial) = one_field(alloc, Kind::Int, Value::Int(initial))?;
     Ok(TableSetup {
         structure,
         size,
-        kinds,
-        initial,
+        kinds: Seq::copied(alloc, &[Kind::Int])?,
+        initial: one_field(alloc, Value::Int(initial))?,
     })
 }
 

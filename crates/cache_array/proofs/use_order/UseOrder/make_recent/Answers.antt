@@ -13,9 +13,9 @@ returns-in_default-clause-after c =
     rw (none, remove_nowhere _ _ none) (sym (append-nil _))
 
 pub returns-clause-found : goal.returns-clause-found
-returns-clause-found c = rw (← c.self.view_is) (ap is_some (sym (found c.self.inside.lines.items c.args.line _ c.remove-used.result (sym (rw (← c.self.view_is) at c.in-Some.ensures)) c.remove-used.ensures.value).looked_up))
+returns-clause-found c = rw (← c.self.view_is) (ap is_some (sym (found c.self.view_is c.in-Some.ensures c.remove-used.ensures.value).looked_up))
 
 pub returns-clause-after : goal.returns-clause-after
 returns-clause-after c =
-    let f = found c.self.inside.lines.items c.args.line _ c.remove-used.result (sym (rw (← c.self.view_is) at c.in-Some.ensures)) c.remove-used.ensures.value in
+    let f = found c.self.view_is c.in-Some.ensures c.remove-used.ensures.value in
     rw (rw c.unwrap.ensures at c.push.ensures.items, c.remove-used.ensures.items, ← c.self.view_is, f.looked_up, f.removed, ← f.is_line) refl

@@ -9,8 +9,8 @@ pub returns-in_err-at-clause-after : goal.returns-in_err-at-clause-after
 returns-in_err-at-clause-after c = sym (remove_nowhere (λ l. eqb l c.args.line) c.args.self.now (absent c.args.self.now c.args.line (sym c.in_err-at.ensures)))
 
 pub returns-clause-fields : goal.returns-clause-fields
-returns-clause-fields c = rw (← c.self.view_is) (sym (found c.self.inside.lines.items c.args.line _ c.remove.result (sym (rw (← c.self.view_is) at c.in_ok-at.ensures)) c.remove.ensures.value).looked_up)
+returns-clause-fields c = rw (← c.self.view_is) (sym (found c.self.view_is c.in_ok-at.ensures c.remove.ensures.value).looked_up)
 
 pub returns-clause-after : goal.returns-clause-after
 returns-clause-after c =
-    rw (c.remove.ensures.items, ← c.self.view_is) (sym (found c.self.inside.lines.items c.args.line _ c.remove.result (sym (rw (← c.self.view_is) at c.in_ok-at.ensures)) c.remove.ensures.value).removed)
+    rw (c.remove.ensures.items, ← c.self.view_is) (sym (found c.self.view_is c.in_ok-at.ensures c.remove.ensures.value).removed)

@@ -1,6 +1,7 @@
 use Rattle.std.proofs.Common.{Ok, Err, sym}
-use Rattle.ruby_value.proofs.Members.{place_of, with_member_found, with_member_gap, not_contained, rises_insert}
+use Rattle.ruby_value.proofs.Members.{IsGapFor, place_of, with_member_found, with_member_gap, not_contained, rises_insert}
 use Rattle.ruby_value.proofs.net_dest.NetDest.add.Goals as goal
+use Rattle.ruby_value.proofs.net_dest.NetDest.add.Goals.{In-Err}
 
 -- the number is there, so the set with it is the set
 pub returns-in-Ok-clause-ok : goal.returns-in-Ok-clause-ok
@@ -8,19 +9,20 @@ returns-in-Ok-clause-ok c =
     let at = place_of c.deref.result.now c.args.m (Ok c.in-Ok.field-0) (rw c.deref.ensures.value c.self.invariant) c.in-Ok.ensures.position in
     rw (← c.self.view_is, ← c.deref.ensures.value) (sym (with_member_found _ _ _ at))
 
--- it isn't there, and goes to its gap
+-- the number isn't there, and this is its gap
+gap : (c : In-Err) → IsGapFor c.deref.result.now c.args.m c.in-Err.at
+gap c = place_of c.deref.result.now c.args.m (Err c.in-Err.at) (rw c.deref.ensures.value c.self.invariant) c.in-Err.ensures.position
+
+-- it goes to its gap
 pub returns-in_ok-insert-in-Err-clause-ok : goal.returns-in_ok-insert-in-Err-clause-ok
 returns-in_ok-insert-in-Err-clause-ok c =
-    let gap = place_of c.deref.result.now c.args.m (Err c.in-Err.at) (rw c.deref.ensures.value c.self.invariant) c.in-Err.ensures.position in
-    rw (c.in_ok-insert-in-Err.ensures.items, ← c.self.view_is, ← c.deref.ensures.value) (sym (with_member_gap _ _ _ gap))
+    rw (c.in_ok-insert-in-Err.ensures.items, ← c.self.view_is, ← c.deref.ensures.value) (sym (with_member_gap _ _ _ (gap (goal.at.returns-in_ok-insert-in-Err-clause-ok c).In-Err)))
 
 pub invariant_of-self-in-Err : goal.invariant_of-self-in-Err
 invariant_of-self-in-Err c =
-    let gap = place_of c.deref.result.now c.args.m (Err c.in-Err.at) (rw c.deref.ensures.value c.self.invariant) c.in-Err.ensures.position in
-    rw (c.in_ok-insert-in-Err.ensures.items, ← c.deref.ensures.value) (rises_insert _ _ _ gap (rw c.deref.ensures.value c.self.invariant))
+    rw (c.in_ok-insert-in-Err.ensures.items, ← c.deref.ensures.value) (rises_insert _ _ _ (gap (goal.at.invariant_of-self-in-Err c).In-Err) (rw c.deref.ensures.value c.self.invariant))
 
 -- memory is wanted only for a number that isn't there
 pub returns-in_err-insert-in-Err-clause-there_already : goal.returns-in_err-insert-in-Err-clause-there_already
 returns-in_err-insert-in-Err-clause-there_already c contained =
-    let gap = place_of c.deref.result.now c.args.m (Err c.in-Err.at) (rw c.deref.ensures.value c.self.invariant) c.in-Err.ensures.position in
-    absurd (not_contained _ _ _ gap (rw (c.deref.ensures.value, c.self.view_is) contained))
+    absurd (not_contained _ _ _ (gap (goal.at.returns-in_err-insert-in-Err-clause-there_already c).In-Err) (rw (c.deref.ensures.value, c.self.view_is) contained))
