@@ -49,6 +49,7 @@ older_fits setup sent m fits = record { fields = fits.fields; own_number = λ ow
 
 -- one copy more
 module _ (setup : Setup) (now : ℕ) where
+  -- its number is given away
   numbered_fits : (ctl : Ctl) → ctl.copies + 1 ≤ copy_limit → Fits setup ctl now → Fits setup (record ctl { sent = ctl.sent + 1; copies = ctl.copies + 1 }) now
   numbered_fits ctl room fits = record {
     tables = fits.tables;
@@ -72,7 +73,7 @@ module _ (setup : Setup) (now : ℕ) where
   delivered_drawn true ctl m = refl
   delivered_drawn false ctl m = refl
 
-  -- other last arrivals, and more or less of the jitter drawn
+  -- with other last arrivals, and another count of draws
   kept_fits : (ctl : Ctl) (lasts : Lasts) (networks : List Lasts) (drawn : ℕ) → length networks ≡ network_count → drawn ≤ copy_limit * now + ctl.copies → Fits setup ctl now
       → Fits setup (record ctl { local_last = lasts; network_last = networks; drawn = drawn }) now
   kept_fits ctl lasts networks drawn all few fits = record {

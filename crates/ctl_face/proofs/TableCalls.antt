@@ -141,15 +141,11 @@ module _ (setup : Setup) (kinds : List Kind) where
   or_initial line None initial first here = first
   or_initial line (Some fields) initial first here = here.1
 
-  if_zero : (b : Bool) (values : List Value) → KindsAre setup kinds values → IfSome (cond b (Some values) None) (KindsAre setup kinds)
-  if_zero true values here = here
-  if_zero false values here = tt
-
   pub kinds_in : (t : Table) (line : ℕ) → FitsLines setup kinds t → IfSome (fields_in t line) (KindsAre setup kinds)
   kinds_in (CacheTable cache) line fits = second line (fields_of (set_of cache line) line) (lookup_holds (FitsLine setup kinds) line (set_of cache line) (All-at (FitsLine setup kinds) cache.sets (line % length cache.sets) fits))
   kinds_in (DirectoryTable directory) line fits = or_initial line (map.get directory.written line) directory.initial fits.0 (fits.1 line)
   kinds_in (TbeTable tbes) line fits = second line (map.get tbes.held line) (fits line)
-  kinds_in (ParameterTable values) line fits = if_zero (eqb line 0) values fits
+  kinds_in (ParameterTable values) line fits = cond_both (eqb line 0) (Some values) None (λ o. IfSome o (KindsAre setup kinds)) (λ _. fits) (λ _. tt)
 
 -- as many lines as before where the line is there, and at most one more
 inserted_len : (m : map.FinMap nat_cmp (List Value)) (line : ℕ) (fields : List Value) (there : Bool) → map.contains_key m line ≡ there → map.len (map.insert m line fields) ≡ cond there (map.len m) (map.len m + 1)
