@@ -11,14 +11,23 @@ same_test : (a b : Bool) → (a ≡ true → b ≡ true) → (b ≡ true → a �
 same_test true b to from = sym (to refl)
 same_test false b to from = sym (false_from_ne_true b (λ holds. let clash : false ≡ true = from holds in cc))
 
+-- a text that none of the states makes
+none_makes : (text : List ℕ) (make : List ℕ → List ℕ) (states : List (List ℕ)) → ((state : List ℕ) → text ≢ make state) → false ≡ list_any (λ state. bytes_eq text (make state)) states
+none_makes text make [] other = refl
+none_makes text make (state ∷ states) other =
+    let not_this = false_from_ne_true (bytes_eq text (make state)) (λ same. other state ((bytes_eq-Decides text (make state)).0 same)) in
+    sym (or_from (bytes_eq text (make state)) _ not_this (sym (none_makes text make states other)))
+
 -- a text that doesn't begin with a name is made of it with no state
 pub default_of_none : (text name middle : List ℕ) (states : List (List ℕ)) → ((rest : List ℕ) → text ≢ name ++ rest) → false ≡ list_any (λ state. bytes_eq text (name ++ middle ++ state)) states
-default_of_none text name middle [] other = refl
-default_of_none text name middle (state ∷ states) other =
-    let not_this : bytes_eq text (name ++ middle ++ state) ≡ false =
-    false_from_ne_true (bytes_eq text (name ++ middle ++ state))
-    (λ same. other (middle ++ state) ((bytes_eq-Decides text (name ++ middle ++ state)).0 same ∙ append_assoc name middle state)) in
-    sym (or_from (bytes_eq text (name ++ middle ++ state)) _ not_this (sym (default_of_none text name middle states other)))
+default_of_none text name middle states other =
+    none_makes text (λ state. name ++ middle ++ state) states (λ state same. other (middle ++ state) (same ∙ append_assoc name middle state))
+
+-- a text that begins with the name, and goes on otherwise, is made of it with no state
+pub default_of_other : (text name middle behind : List ℕ) (states : List (List ℕ)) → text ≡ name ++ behind → ((rest : List ℕ) → behind ≢ middle ++ rest) → false ≡ list_any (λ state. bytes_eq text (name ++ middle ++ state)) states
+default_of_other text name middle behind states is other =
+    none_makes text (λ state. name ++ middle ++ state) states
+    (λ state same. other state (append_cancel_left name behind (middle ++ state) (sym is ∙ same ∙ append_assoc name middle state)))
 
 -- what is behind the name and the middle is the state
 pub default_of_state : (text name middle found : List ℕ) (states : List (List ℕ)) → text ≡ name ++ (middle ++ found) → list_any (bytes_eq found) states ≡ list_any (λ state. bytes_eq text (name ++ middle ++ state)) states
@@ -31,14 +40,3 @@ default_of_state text name middle found (state ∷ states) is =
     (λ same. (bytes_eq-Decides found state).1 (append_cancel_left (name ++ middle) found state (sym whole ∙ (bytes_eq-Decides text (name ++ middle ++ state)).0 same))) in
     ap (λ b. b || list_any (bytes_eq found) states) here
     ∙ ap (λ b. bytes_eq text (name ++ middle ++ state) || b) (default_of_state text name middle found states is)
-
--- a text that begins with the name, and goes on otherwise, is made of it with no state
-pub default_of_other : (text name middle behind : List ℕ) (states : List (List ℕ)) → text ≡ name ++ behind → ((rest : List ℕ) → behind ≢ middle ++ rest) → false ≡ list_any (λ state. bytes_eq text (name ++ middle ++ state)) states
-default_of_other text name middle behind [] is other = refl
-default_of_other text name middle behind (state ∷ states) is other =
-    let not_this : bytes_eq text (name ++ middle ++ state) ≡ false =
-    false_from_ne_true (bytes_eq text (name ++ middle ++ state))
-    (λ same.
-    other state
-    (append_cancel_left name behind (middle ++ state) (sym is ∙ (bytes_eq-Decides text (name ++ middle ++ state)).0 same ∙ append_assoc name middle state))) in
-    sym (or_from (bytes_eq text (name ++ middle ++ state)) _ not_this (sym (default_of_other text name middle behind states is other)))

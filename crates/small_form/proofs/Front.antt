@@ -28,10 +28,7 @@ cut_word bytes n = Some (token_of_word (take n bytes), drop n bytes)
 
 cut_word_is : (bytes word rest : List ℕ) (n : ℕ) (token : Token) → token ≡ token_of_word word → word ≡ take n bytes → rest ≡ drop n bytes → let found : Option (Token × List ℕ) = Some (token, rest) in found ≡ cut_word bytes n
 unfolding cut_word
-cut_word_is bytes word rest n token token_is word_is rest_is =
-    let whole : token ≡ token_of_word (take n bytes) = token_is ∙ ap token_of_word word_is in
-    ap (λ (t : Token). let found : Option (Token × List ℕ) = Some (t, rest) in found) whole
-    ∙ ap (λ (r : List ℕ). let found : Option (Token × List ℕ) = Some (token_of_word (take n bytes), r) in found) rest_is
+cut_word_is bytes word rest n token token_is word_is rest_is = cc
 
 pub word_front_short : (bytes word rest : List ℕ) (n : ℕ) (token : Token) → n ≡ prefix_len is_word_byte bytes → n ≤ 128 → token ≡ token_of_word word → word ≡ take n bytes → rest ≡ drop n bytes → let found : Option (Token × List ℕ) = Some (token, rest) in found ≡ word_front bytes
 unfolding word_front cut_word

@@ -1,5 +1,5 @@
 -- The invariant of reading a list: some parts are read, and the list is these and then those of what is left.
-use Rattle.std.proofs.Common.{◌≡◌, ◌≢◌, false, List, [], ◌∷◌, ◌++◌, drop, refl, sym, ap, ◌∙◌, append_assoc, append-nil}
+use Rattle.std.proofs.Common.{◌≡◌, ◌≢◌, false, List, [], ◌∷◌, ◌++◌, drop, sym, ap, ◌∙◌, append_assoc, append-nil}
 use Rattle.std.specs.List.{flat_map}
 use Rattle.std.proofs.lemmas.Bool.{true≢false}
 use Rattle.std.proofs.lemmas.List.Concat.{flat_map-append}
@@ -11,9 +11,6 @@ use Rattle.small_form.specs.Parsing.{IsRead, IsUnread, begins_closed, list_token
 pub record Listed {X : Type 0} (spell : X → List Token) (tokens : List Token) (done : List X) (rest : List Token) : Type 0 where
   pub spelled : tokens ≡ flat_map spell done ++ rest
   pub only : (all : List X) (behind : List Token) → tokens ≡ list_tokens spell all ++ behind → (more : List X) × (all ≡ done ++ more) × (rest ≡ list_tokens spell more ++ behind)
-
-pub listed_none : {X : Type 0} (spell : X → List Token) (tokens : List Token) → Listed spell tokens [] tokens
-listed_none spell tokens = record { spelled = refl; only = λ all behind are. (all, refl, are) }
 
 pub more_tokens : {X : Type 0} (spell : X → List Token) (part : X) (parts : List X) (behind : List Token) → list_tokens spell (part ∷ parts) ++ behind ≡ spell part ++ (list_tokens spell parts ++ behind)
 more_tokens spell part parts behind =

@@ -1,5 +1,5 @@
 -- A machine's tokens, part behind part, and the machine that is made of parts that were read.
-use Rattle.std.proofs.Common.{◌≡◌, ℕ, true, List, [], ◌∷◌, ◌++◌, length, drop, sym, ap, ◌∙◌, append_assoc, append-nil}
+use Rattle.std.proofs.Common.{◌≡◌, ℕ, List, [], ◌∷◌, ◌++◌, length, drop, sym, ap, ◌∙◌, append_assoc, append-nil}
 use Rattle.std.specs.List.{flat_map}
 use Rattle.slicc_ast.specs.declared.token.Token.{Token}
 use Rattle.slicc_ast.specs.declared.token.Token.TheVariants.{Sign}
@@ -12,7 +12,7 @@ use Rattle.slicc_ast.specs.declared.machine.Action.{Action}
 use Rattle.slicc_ast.specs.declared.machine.Transition.{Transition}
 use Rattle.slicc_ast.specs.Spelling.{states_tokens, events_tokens, port_tokens, action_tokens, transition_tokens, header_tokens, machine_tokens}
 use Rattle.small_form.specs.declared.pattern.Piece.{Piece}
-use Rattle.small_form.specs.Parsing.{IsRead, Begins, fits, text_at, list_tokens}
+use Rattle.small_form.specs.Parsing.{IsRead, Begins, text_at, list_tokens}
 use Rattle.small_form.proofs.Patterns.{filled, begins_filled}
 
 -- the tokens from the transitions on, from the action on, and so on
@@ -50,7 +50,6 @@ machine_of name title states events port action transitions =
 
 -- a pattern is that of a machine's tokens up to its `{`
 pub record IsMachinePattern (pattern : List Piece) : Type 0 where
-  pub fit : (m : Machine) (rest : List Token) → fits pattern (opening m rest) ≡ true
   pub cut : (m : Machine) (rest : List Token) → drop (length pattern) (opening m rest) ≡ rest
   pub named : (m : Machine) (rest : List Token) → text_at (opening m rest) 4 ≡ m.name
   pub titled : (m : Machine) (rest : List Token) → text_at (opening m rest) 6 ≡ m.title
@@ -82,32 +81,17 @@ pub action_is : {tokens rest : List Token} {action : Action} → IsRead action_t
 action_is read m = read_is read m.action (from_transitions m)
 
 -- the parts of a machine that were read one behind the other
-pub record AreParts (inside : List Token) (states : States) (events : Events) (port : InPort) (action : Action) (transitions : List Transition) (end : List Token) : Type 0 where
-  pub behind_states : List Token
-  pub behind_events : List Token
-  pub behind_port : List Token
-  pub behind_action : List Token
-  pub states_read : IsRead states_tokens inside states behind_states
-  pub events_read : IsRead events_tokens behind_states events behind_events
-  pub port_read : IsRead port_tokens behind_events port behind_port
-  pub action_read : IsRead action_tokens behind_port action behind_action
-  pub transitions_read : IsRead (list_tokens transition_tokens) behind_action transitions end
-
-pub parts_of : {inside behind_states behind_events behind_port behind_action end : List Token} {states : States} {events : Events} {port : InPort} {action : Action} {transitions : List Transition} → IsRead states_tokens inside states behind_states → IsRead events_tokens behind_states events behind_events → IsRead port_tokens behind_events port behind_port → IsRead action_tokens behind_port action behind_action → IsRead (list_tokens transition_tokens) behind_action transitions end → AreParts inside states events port action transitions end
-parts_of {behind_states = bs} {behind_events = be} {behind_port = bp} {behind_action = ba} s e p a t =
-    record { behind_states = bs; behind_events = be; behind_port = bp; behind_action = ba; states_read = s; events_read = e; port_read = p; action_read = a; transitions_read = t }
-
-module _ {pattern : List Piece} {tokens inside : List Token} (begins : Begins pattern tokens inside) (of : IsMachinePattern pattern) {states : States} {events : Events} {port : InPort} {action : Action} {transitions : List Transition} {end : List Token} {name title : List ℕ} (parts : AreParts inside states events port action transitions end) (name_is : name ≡ text_at tokens 4) (title_is : title ≡ text_at tokens 6) where
+module _ {pattern : List Piece} {tokens inside behind_states behind_events behind_port behind_action end : List Token} {states : States} {events : Events} {port : InPort} {action : Action} {transitions : List Transition} {name title : List ℕ} (begins : Begins pattern tokens inside) (of : IsMachinePattern pattern) (states_read : IsRead states_tokens inside states behind_states) (events_read : IsRead events_tokens behind_states events behind_events) (port_read : IsRead port_tokens behind_events port behind_port) (action_read : IsRead action_tokens behind_port action behind_action) (transitions_read : IsRead (list_tokens transition_tokens) behind_action transitions end) (name_is : name ≡ text_at tokens 4) (title_is : title ≡ text_at tokens 6) where
   inside_is : end ≡ [] → inside ≡ from_states (machine_of name title states events port action transitions)
   inside_is none =
-      parts.states_read.spelled
+      states_read.spelled
       ∙ ap (λ r. states_tokens states ++ r)
-      (parts.events_read.spelled
+      (events_read.spelled
       ∙ ap (λ r. events_tokens events ++ r)
-      (parts.port_read.spelled
+      (port_read.spelled
       ∙ ap (λ r. port_tokens port ++ r)
-      (parts.action_read.spelled
-      ∙ ap (λ r. action_tokens action ++ r) (parts.transitions_read.spelled ∙ ap (λ r. list_tokens transition_tokens transitions ++ r) none))))
+      (action_read.spelled
+      ∙ ap (λ r. action_tokens action ++ r) (transitions_read.spelled ∙ ap (λ r. list_tokens transition_tokens transitions ++ r) none))))
 
   pub machine_sound : end ≡ [] → tokens ≡ machine_tokens (machine_of name title states events port action transitions)
   machine_sound none =
@@ -120,11 +104,11 @@ module _ {pattern : List Piece} {tokens inside : List Token} (begins : Begins pa
 
   pub machine_only : (m : Machine) → tokens ≡ machine_tokens m → (machine_of name title states events port action transitions ≡ m) × (end ≡ [])
   machine_only m are =
-      let s = states_are parts.states_read m (to_states begins of.cut m are) in
-      let e = events_are parts.events_read m s.1 in
-      let p = port_is parts.port_read m e.1 in
-      let a = action_is parts.action_read m p.1 in
-      let t = read_is parts.transitions_read m.transitions [] a.1 in
+      let s = states_are states_read m (to_states begins of.cut m are) in
+      let e = events_are events_read m s.1 in
+      let p = port_is port_read m e.1 in
+      let a = action_is action_read m p.1 in
+      let t = read_is transitions_read m.transitions [] a.1 in
       let spelled : tokens ≡ opening m (from_states m) = are ∙ machine_spelled m in (
         machine_made m name title states events port action transitions
             (name_is ∙ ap (λ ts. text_at ts 4) spelled ∙ of.named m (from_states m)) (title_is ∙ ap (λ ts. text_at ts 6) spelled ∙ of.titled m (from_states m))

@@ -95,7 +95,6 @@ reads_as spell tokens reads is = subst (λ f. Reads spell tokens f) is reads
 
 -- a pattern is that of a part's spelling, and this is how the part is made of tokens
 pub record IsPatternOf {X : Type 0} (pattern : List Piece) (spell : X → List Token) (make : List Token → X) : Type 0 where
-  pub fit : (part : X) (behind : List Token) → fits pattern (spell part ++ behind) ≡ true
   pub made : (part : X) (behind : List Token) → part ≡ make (spell part ++ behind)
   pub cut : (part : X) (behind : List Token) → behind ≡ drop (length pattern) (spell part ++ behind)
   pub full : (tokens : List Token) → filled pattern tokens 0 ≡ spell (make tokens)
@@ -111,7 +110,6 @@ reads_pattern {X} {pattern} {tokens} {rest} spell make part begins of part_is = 
 
 -- a pattern is that of a part's spelling up to a list in it, which a `}` ends
 pub record IsOpeningOf {X Y : Type 0} (pattern : List Piece) (spell : X → List Token) (item : Y → List Token) (members : X → List Y) (make : List Token → List Y → X) : Type 0 where
-  pub fit : (part : X) (behind : List Token) → fits pattern (spell part ++ behind) ≡ true
   pub made : (part : X) (behind : List Token) → part ≡ make (spell part ++ behind) (members part)
   pub cut : (part : X) (behind : List Token) → drop (length pattern) (spell part ++ behind) ≡ list_tokens item (members part) ++ behind
   pub full : (tokens : List Token) (inner : List Y) (behind : List Token) → filled pattern tokens 0 ++ (list_tokens item inner ++ behind) ≡ spell (make tokens inner) ++ behind

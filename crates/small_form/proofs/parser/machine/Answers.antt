@@ -2,7 +2,7 @@ use Rattle.std.proofs.Common.{[], Some, ap, sym, refl}
 use Rattle.slicc_ast.specs.declared.machine.Machine.{Machine}
 use Rattle.small_form.proofs.Lexed.{empty_from, not_empty_from}
 use Rattle.small_form.proofs.Patterns.{reads_as}
-use Rattle.small_form.proofs.Machines.{to_states, states_are, events_are, port_is, action_is, from_events, from_port, from_action, from_transitions, parts_of, machine_sound, machine_only}
+use Rattle.small_form.proofs.Machines.{to_states, states_are, events_are, port_is, action_is, from_events, from_port, from_action, from_transitions, machine_sound, machine_only}
 use Rattle.small_form.proofs.parser.machine.Goals as goal
 
 pub returns-in_default-2-clause-only : goal.returns-in_default-2-clause-only
@@ -37,17 +37,23 @@ returns-in_default-6-clause-only c m are =
 
 pub returns-then-not-is_empty-clause-only : goal.returns-then-not-is_empty-clause-only
 returns-then-not-is_empty-clause-only c m are =
-    let parts = parts_of (reads_as _ _ c.in_ok-states.ensures c.in-Some-2.is) (reads_as _ _ c.in_ok-events.ensures c.in-Some-3.is) (reads_as _ _ c.in_ok-port.ensures c.in-Some-4.is) (reads_as _ _ c.in_ok-action.ensures c.in-Some-5.is) (reads_as _ _ c.in_ok-transitions.ensures c.in-Some-6.is) in
-    let only = machine_only c.in-Some.ensures (record { fit = λ _ _. refl; cut = λ _ _. refl; named = λ _ _. refl; titled = λ _ _. refl; full = λ _ _ _ _ _ _ _. refl }) parts refl refl m are in
+    let only = machine_only c.in-Some.ensures (record { cut = λ _ _. refl; named = λ _ _. refl; titled = λ _ _. refl; full = λ _ _ _ _ _ _ _. refl })
+    (reads_as _ _ c.in_ok-states.ensures c.in-Some-2.is) (reads_as _ _ c.in_ok-events.ensures c.in-Some-3.is) (reads_as _ _ c.in_ok-port.ensures c.in-Some-4.is)
+    (reads_as _ _ c.in_ok-action.ensures c.in-Some-5.is) (reads_as _ _ c.in_ok-transitions.ensures c.in-Some-6.is)
+    refl refl m are in
     absurd (not_empty_from c.in-Some-6.rest.now (sym c.if-not-is_empty.ensures) only.1)
 
 pub returns-clause-sound : goal.returns-clause-sound
 returns-clause-sound c =
-    let parts = parts_of (reads_as _ _ c.in_ok-states.ensures c.in-Some-2.is) (reads_as _ _ c.in_ok-events.ensures c.in-Some-3.is) (reads_as _ _ c.in_ok-port.ensures c.in-Some-4.is) (reads_as _ _ c.in_ok-action.ensures c.in-Some-5.is) (reads_as _ _ c.in_ok-transitions.ensures c.in-Some-6.is) in
-    machine_sound c.in-Some.ensures (record { fit = λ _ _. refl; cut = λ _ _. refl; named = λ _ _. refl; titled = λ _ _. refl; full = λ _ _ _ _ _ _ _. refl }) parts c.in_ok-text_at.ensures c.in_ok-text_at-2.ensures
+    machine_sound c.in-Some.ensures (record { cut = λ _ _. refl; named = λ _ _. refl; titled = λ _ _. refl; full = λ _ _ _ _ _ _ _. refl })
+    (reads_as _ _ c.in_ok-states.ensures c.in-Some-2.is) (reads_as _ _ c.in_ok-events.ensures c.in-Some-3.is) (reads_as _ _ c.in_ok-port.ensures c.in-Some-4.is)
+    (reads_as _ _ c.in_ok-action.ensures c.in-Some-5.is) (reads_as _ _ c.in_ok-transitions.ensures c.in-Some-6.is)
+    c.in_ok-text_at.ensures c.in_ok-text_at-2.ensures
     (empty_from c.in-Some-6.rest.now (sym c.if-not-is_empty.ensures))
 
 pub returns-clause-only : goal.returns-clause-only
 returns-clause-only c m are =
-    let parts = parts_of (reads_as _ _ c.in_ok-states.ensures c.in-Some-2.is) (reads_as _ _ c.in_ok-events.ensures c.in-Some-3.is) (reads_as _ _ c.in_ok-port.ensures c.in-Some-4.is) (reads_as _ _ c.in_ok-action.ensures c.in-Some-5.is) (reads_as _ _ c.in_ok-transitions.ensures c.in-Some-6.is) in
-    ap (λ (found : Machine). Some found) (machine_only c.in-Some.ensures (record { fit = λ _ _. refl; cut = λ _ _. refl; named = λ _ _. refl; titled = λ _ _. refl; full = λ _ _ _ _ _ _ _. refl }) parts c.in_ok-text_at.ensures c.in_ok-text_at-2.ensures m are).0
+    ap (λ (found : Machine). Some found) (machine_only c.in-Some.ensures (record { cut = λ _ _. refl; named = λ _ _. refl; titled = λ _ _. refl; full = λ _ _ _ _ _ _ _. refl })
+    (reads_as _ _ c.in_ok-states.ensures c.in-Some-2.is) (reads_as _ _ c.in_ok-events.ensures c.in-Some-3.is) (reads_as _ _ c.in_ok-port.ensures c.in-Some-4.is)
+    (reads_as _ _ c.in_ok-action.ensures c.in-Some-5.is) (reads_as _ _ c.in_ok-transitions.ensures c.in-Some-6.is)
+    c.in_ok-text_at.ensures c.in_ok-text_at-2.ensures m are).0

@@ -7,5 +7,5 @@ use Rattle.small_form.proofs.parser.port.Goals as goal
 pub returns : goal.returns
 returns c =
     reads_pattern port_tokens make_port _ c.in-Some.ensures
-    (record { fit = λ _ _. refl; made = λ _ _. refl; cut = λ _ _. refl; full = λ _. refl })
+    (record { made = λ _ _. refl; cut = λ _ _. refl; full = λ _. refl })
     (port_made c.args.tokens.now _ _ _ _ c.in_ok-name.ensures c.in_ok-text_at-3.ensures c.in_ok-text_at-2.ensures c.in_ok-text_at.ensures)

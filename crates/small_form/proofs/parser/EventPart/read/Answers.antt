@@ -7,7 +7,7 @@ use Rattle.small_form.proofs.parser.EventPart.read.Goals as goal
 pub returns-clause-reads : goal.returns-clause-reads
 returns-clause-reads c =
     reads_pattern event_tokens make_event _ c.in-Some.ensures
-    (record { fit = λ _ _. refl; made = λ _ _. refl; cut = λ _ _. refl; full = λ _. refl })
+    (record { made = λ _ _. refl; cut = λ _ _. refl; full = λ _. refl })
     (event_made c.args.tokens.now _ _ c.in_ok-text_at.ensures c.in_ok-text_at-2.ensures)
 
 pub returns-clause-shorter : goal.returns-clause-shorter
