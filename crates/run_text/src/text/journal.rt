@@ -52,34 +52,6 @@ fn address_or_dash(alloc: Global, address: Option<u64>) -> Result<String, NoMemo
     }
 }
 
-fn state_or_dash<'a>(
-    plan: &'a Plan,
-    topology: &Topology,
-    controller: u32,
-    state: Option<u16>,
-) -> &'a [u8]
-    ensures { result.now ≡ or_dash (state_name_of plan.now topology.now controller) state }
-{
-    match state {
-        None => b"-",
-        Some(state) => state_name(plan, topology, controller, state),
-    }
-}
-
-fn event_or_dash<'a>(
-    plan: &'a Plan,
-    topology: &Topology,
-    controller: u32,
-    event: Option<u16>,
-) -> &'a [u8]
-    ensures { result.now ≡ or_dash (event_name_of plan.now topology.now controller) event }
-{
-    match event {
-        None => b"-",
-        Some(event) => event_name(plan, topology, controller, event),
-    }
-}
-
 fn push_stop(
     alloc: Global,
     out: &mut Text,
@@ -93,6 +65,14 @@ fn push_stop(
 {
     let cycle = decimal(alloc, cycle)?;
     let address = address_or_dash(alloc, at.address)?;
+    let state = at.state.map_or(
+        "-".as_bytes(),
+        |s| state_name(plan, topology, controller, s),
+    );
+    let event = at.event.map_or(
+        "-".as_bytes(),
+        |e| event_name(plan, topology, controller, e),
+    );
     let fault = at.fault;
     push_line(
         out,
@@ -101,8 +81,8 @@ fn push_stop(
             cycle.as_bytes(),
             controller_name(topology, controller),
             address.as_bytes(),
-            state_or_dash(plan, topology, controller, at.state),
-            event_or_dash(plan, topology, controller, at.event),
+            state,
+            event,
             fault_word(&fault),
         ],
     )
