@@ -13,6 +13,7 @@ use Rattle.slicc_meaning.specs.declared.world.Place.{Place}
 use Rattle.slicc_meaning.specs.declared.world.World.{World}
 use Rattle.slicc_meaning.specs.Step.{with_place}
 use Rattle.plain_run.specs.Awake.{IsAwake, IsWoken}
+use Rattle.plain_run.proofs.Places.{some_one}
 
 pub get-set : {X : Type 0} (xs : List X) (c : ℕ) (x y : X) → slice_get xs c ≡ Some x → slice_get (slice_set xs c y) c ≡ Some y
 get-set [] c x y there = absurd (cc there)
@@ -67,10 +68,6 @@ woken worker c before now next count q (p, held) is holder finished = (
   },
 )
 
-some_one : {X : Type 0} (o : Option X) (P : X → Type 0) → IsSomeAnd o P → (x : X) × (o ≡ Some x)
-some_one None P both = absurd both
-some_one (Some x) P both = (x, refl)
-
 -- as the loop begins
 pub awake-begun : (worker c : ℕ) (before now : World) (places : List Place) (d : Place) (P : Place → Type 0)
     → IsSomeAnd (slice_get before.places c) P
@@ -78,7 +75,7 @@ pub awake-begun : (worker c : ℕ) (before now : World) (places : List Place) (d
     → places ≡ before.places
     → IsAwake worker c before now (get_or places c d).controller.fired
 awake-begun worker c before now places d P there held same =
-    let (p, is) = some_one (slice_get before.places c) P there in
+    let (p, is, holds) = some_one (slice_get before.places c) P there in
     let read : get_or places c d ≡ p = ap (λ (ps : List Place). get_or ps c d) same ∙ get_or_from_slice_get before.places c p d is in
     subst (λ (q : Place). IsAwake worker c before now q.controller.fired) (sym read) (awake-taken worker c before now held p is)
 

@@ -63,7 +63,7 @@ count-set f (z ∷ xs) (suc c) x y there passes fails =
     let right : count_by f (z ∷ xs) ≡ cond (f z) 1 0 + count_by f xs = count-cons f z xs in
     omega (arith, left, right, rest)
 
-some_one : {X : Type 0} (o : Option X) (P : X → Type 0) → IsSomeAnd o P → (x : X) × (o ≡ Some x) × P x
+pub some_one : {X : Type 0} (o : Option X) (P : X → Type 0) → IsSomeAnd o P → (x : X) × (o ≡ Some x) × P x
 some_one None P both = absurd both
 some_one (Some x) P both = (x, refl, both)
 

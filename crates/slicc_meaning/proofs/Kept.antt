@@ -1,5 +1,6 @@
 -- What each step keeps: the numbers sent are the driver's below its count, and each is consumed or in an inbox.
-use Rattle.std.proofs.Common.{◌≡◌, ◌≤◌, ◌+◌, ℕ, Bool, true, false, ◌&&◌, Option, None, Some, List, [], ◌++◌, length, cond, refl, ap, ◌∙◌, slice_get, slice_set, eqb, ltb, arith}
+use Rattle.std.proofs.Common.{◌≡◌, ◌≤◌, ◌+◌, ℕ, Bool, true, false, ◌&&◌, Option, None, Some, List, [], ◌++◌, length, refl, ap, ◌∙◌, slice_get, slice_set, eqb, ltb, arith}
+use Rattle.std.proofs.lemmas.Bool.{cond_both}
 use Rattle.std.specs.Option.{option_to_list}
 use Rattle.std.proofs.lemmas.List.{append-nil, length-set}
 use Rattle.slicc_meaning.specs.declared.controller.Controller.{Controller}
@@ -94,21 +95,13 @@ pub take-good : (w : World) (worker c : ℕ) (o : Option Place) → slice_get w.
 take-good w worker c None there = tt
 take-good w worker c (Some p) there =
     let q : Place = record p { holder = Some worker } in
-    let next : Stepped = record { world = with_place w c q; entry = None } in
-    elim (is_free w.now p) as (λ b. IsGoodIf w (cond b (Some next) None)) [
-      | true ↦ place-good w c p q None there (λ f. refl) (λ f. omega arith)
-      | false ↦ tt
-    ]
+    cond_both (is_free w.now p) _ None (IsGoodIf w) (λ free. place-good w c p q None there (λ f. refl) (λ f. omega arith)) (λ not. tt)
 
 pub release-good : (w : World) (worker c : ℕ) (o : Option Place) → slice_get w.places c ≡ o → IsGoodIf w (release w worker c o)
 release-good w worker c None there = tt
 release-good w worker c (Some p) there =
     let q : Place = record p { holder = None } in
-    let next : Stepped = record { world = with_place w c q; entry = None } in
-    elim (is_holder worker p.holder) as (λ b. IsGoodIf w (cond b (Some next) None)) [
-      | true ↦ place-good w c p q None there (λ f. refl) (λ f. omega arith)
-      | false ↦ tt
-    ]
+    cond_both (is_holder worker p.holder) _ None (IsGoodIf w) (λ holds. place-good w c p q None there (λ f. refl) (λ f. omega arith)) (λ not. tt)
 
 fired_by-good : (w : World) (c : ℕ) (p : Place) (scanned : Scanned) → slice_get w.places c ≡ Some p → KeepsMail p.controller.inbox scanned
     → IsGoodIf w (fired_by w c p scanned)
@@ -147,16 +140,12 @@ module _ (s : Setting) (n : ℕ) (w : World) (journal : List Entry) (kept : IsKe
   pub fire-good : (o : Option Place) → slice_get w.places c ≡ o → IsGoodIf w (fire s w worker c o)
   fire-good None there = tt
   fire-good (Some p) there =
-      elim (is_holder worker p.holder) as (λ b. IsGoodIf w (cond b (fired_by w c p (scan_at s w c p)) None)) [
-        | true ↦ fired_by-good w c p (scan_at s w c p) there (scan_at-keeps p there)
-        | false ↦ tt
-      ]
+      cond_both (is_holder worker p.holder) _ None (IsGoodIf w) (λ holds. fired_by-good w c p (scan_at s w c p) there (scan_at-keeps p there)) (λ not. tt)
 
   pub done-good : (o : Option Place) → slice_get w.places c ≡ o → IsGoodIf w (done s w worker c o)
   done-good None there = tt
   done-good (Some p) there =
       let ended : Option (Controller × End) = ended_by w.now p.controller (scan_at s w c p) in
-      elim (is_holder worker p.holder) as (λ b. IsGoodIf w (cond b (given_back w c ended) None)) [
-        | true ↦ given_back-good w c p ended there (ended_by-keeps w.now p.controller (scan_at s w c p) (scan_at-keeps p there))
-        | false ↦ tt
-      ]
+      cond_both (is_holder worker p.holder) _ None (IsGoodIf w)
+      (λ holds. given_back-good w c p ended there (ended_by-keeps w.now p.controller (scan_at s w c p) (scan_at-keeps p there)))
+      (λ not. tt)

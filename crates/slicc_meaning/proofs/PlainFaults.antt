@@ -1,5 +1,6 @@
 -- In a run by the plan of a machine of the small form the one fault is `invalid`.
-use Rattle.std.proofs.Common.{◌≡◌, ℕ, zero, suc, true, false, Option, None, Some, List, [], ◌∷◌, sym, subst, cond, slice_get, All, Contains}
+use Rattle.std.proofs.Common.{◌≡◌, ℕ, zero, suc, Option, None, Some, List, [], ◌∷◌, sym, subst, slice_get, All, Contains}
+use Rattle.std.proofs.lemmas.Bool.{cond_both}
 use Rattle.std.specs.List.{list_any}
 use Rattle.std.proofs.lemmas.List.Elements.{All-cons, All-nil, All-contains}
 use Rattle.slicc_ast.specs.declared.machine.Machine.{Machine}
@@ -103,10 +104,7 @@ module _ (machine : Machine) (s : Setting) (planned : s.plan ≡ plan_of machine
 
   turn-sound : (w : World) → IsSound (turn s w)
   turn-sound w =
-      elim (list_any (is_busy w.now) w.places) as (λ b. IsSound (cond b None (Some (turn_by s w (least_stopped 0 w.places))))) [
-        | true ↦ tt
-        | false ↦ turn_by-sound w (least_stopped 0 w.places)
-      ]
+      cond_both (list_any (is_busy w.now) w.places) None _ IsSound (λ busy. tt) (λ idle. turn_by-sound w (least_stopped 0 w.places))
 
   lawful-sound : (w : World) (e : Event) → IsSound (step_lawfully s w e)
   lawful-sound w (event.Take worker c) = take-sound w worker c (slice_get w.places c)

@@ -1,5 +1,6 @@
 -- A scan that fires consumes what leaves the inbox, and an idle one leaves the inbox as it was.
 use Rattle.std.proofs.Common.{◌≡◌, ◌≤◌, ◌+◌, ℕ, Bool, true, false, Option, None, Some, List, [], ◌∷◌, ◌++◌, is_some, cond, fold, refl, sym, subst, slice_get, arith}
+use Rattle.std.proofs.lemmas.Bool.{cond_both}
 use Rattle.slicc_meaning.specs.declared.controller.Acted.{Acted}
 use Rattle.slicc_meaning.specs.declared.controller.Controller.{Controller}
 use Rattle.slicc_meaning.specs.declared.controller.Message.{Message}
@@ -64,10 +65,7 @@ module _ (before : List Message) (once : IsOnce before) where
 
   act-acted : (m : MachinePlan) (now : ℕ) (acted : Acted) (a : ℕ) → IsActed before acted → IsActed before (act m now acted a)
   act-acted m now acted a moved =
-      elim (is_some acted.fault) as (λ b. IsActed before (cond b acted (run_action m (slice_get m.actions a) acted.controller acted.consumed now))) [
-        | true ↦ moved
-        | false ↦ run_action-acted m (slice_get m.actions a) acted.controller acted.consumed now moved
-      ]
+      cond_both (is_some acted.fault) acted _ (IsActed before) (λ stopped. moved) (λ goes. run_action-acted m (slice_get m.actions a) acted.controller acted.consumed now moved)
 
 -- what a scan does to the inbox
 abbrev pub KeepsMail : List Message → Scanned → Type 0
@@ -98,10 +96,7 @@ module _ (m : MachinePlan) (now : ℕ) (c : Controller) (once : IsOnce c.inbox) 
 
   if_ready-mail : (i : If) → KeepsMail c.inbox (if_ready m i c now)
   if_ready-mail i =
-      elim (is_some (front_of m i.port c now)) as (λ b. KeepsMail c.inbox (cond b (peek_front m i.then.then c now (front_of m i.then.port c now)) (Idle c))) [
-        | true ↦ peek_front-mail i.then.then (front_of m i.then.port c now)
-        | false ↦ refl
-      ]
+      cond_both (is_some (front_of m i.port c now)) _ _ (KeepsMail c.inbox) (λ ready. peek_front-mail i.then.then (front_of m i.then.port c now)) (λ quiet. refl)
 
 same_inbox : (a b : List Message) (s : Scanned) → a ≡ b → KeepsMail a s → KeepsMail b s
 same_inbox a b s same keeps = subst (λ (x : List Message). KeepsMail x s) same keeps

@@ -1,5 +1,6 @@
 -- A turn keeps the counts of a plain run's journal, and so they hold along the run.
 use Rattle.std.proofs.Common.{◌≡◌, ◌<◌, ◌≤◌, ◌⊎◌, inl, inr, ◌+◌, ◌*◌, ◌++◌, ℕ, Bool, true, false, Option, None, Some, List, [], ◌∷◌, length, map, refl, sym, ◌∙◌, ap, subst, cond, is_some, is_none, nat_lt, slice_get, IsTrue, All, arith, rules}
+use Rattle.std.proofs.lemmas.Bool.{cond_both}
 use Rattle.std.specs.List.{list_any}
 use Rattle.std.specs.Option.{option_to_list}
 use Rattle.std.proofs.lemmas.Bool.Decides.{nat_tests}
@@ -260,10 +261,7 @@ module _ (s : Setting) (seats : s.topology.seats ≡ record { controller = 0 } �
 
   turn-short : (w : World) (journal : List Entry) → w.verdict ≡ None → IsShort s w journal → IsShortAfter s journal (turn s w)
   turn-short w journal running is =
-      elim (list_any (is_busy w.now) w.places) as (λ b. IsShortAfter s journal (cond b None (Some (turn_by s w (least_stopped 0 w.places))))) [
-        | true ↦ tt
-        | false ↦ turn_by-short w journal (least_stopped 0 w.places) running is
-      ]
+      cond_both (list_any (is_busy w.now) w.places) None _ (IsShortAfter s journal) (λ busy. tt) (λ idle. turn_by-short w journal (least_stopped 0 w.places) running is)
 
   module _ (feeds : All IsFeeding s.plan.machines) where
     lawful-short : (w : World) (journal : List Entry) (e : Event) → w.verdict ≡ None → IsShort s w journal → IsShortAfter s journal (step_lawfully s w e)

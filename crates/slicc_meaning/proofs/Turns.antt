@@ -1,7 +1,7 @@
 -- A turn sends new numbers, and each comes into an inbox.
 use Rattle.std.proofs.Common.{◌≡◌, ◌<◌, ◌≤◌, ◌+◌, ℕ, Bool, true, false, ◌&&◌, Option, None, Some, List, [], ◌∷◌, ◌++◌, length, cond, refl, ap, ◌∙◌, slice_get, slice_set, get_or, eqb, ltb, add-zero, arith}
 use Rattle.std.specs.List.{list_any}
-use Rattle.std.proofs.lemmas.Bool.{le-ltb}
+use Rattle.std.proofs.lemmas.Bool.{le-ltb, cond_both}
 use Rattle.std.proofs.lemmas.Bool.Decides.{nat_tests}
 use Rattle.std.proofs.lemmas.List.{append-nil, length-set, length-map}
 use Rattle.std.proofs.lemmas.Option.{slice_get-get_or}
@@ -167,7 +167,4 @@ module _ (s : Setting) (n : ℕ) (w : World) (journal : List Entry) (kept : IsKe
 
   pub turn-good : IsGoodIf w (turn s w)
   turn-good =
-      elim (list_any (is_busy w.now) w.places) as (λ b. IsGoodIf w (cond b None (Some (turn_by s w (least_stopped 0 w.places))))) [
-        | true ↦ tt
-        | false ↦ turn_by-good (least_stopped 0 w.places)
-      ]
+      cond_both (list_any (is_busy w.now) w.places) None _ (IsGoodIf w) (λ busy. tt) (λ idle. turn_by-good (least_stopped 0 w.places))
