@@ -13,7 +13,7 @@ use Rattle.run_journal.specs.FinalBefore.{final_before}
 use Rattle.slicc_meaning.specs.Finals.{with_final, after_entry, finals}
 use Rattle.slicc_meaning.specs.LastState.{next_state}
 use Rattle.slicc_meaning.proofs.Orders.{nothing-there, head_or_rest, at-head, in-rest, in-filter, from-filter}
-use Rattle.ruby_value.proofs.Ordered.{AllPairs-insert as put-between}
+use Rattle.ruby_value.proofs.Ordered.{AllPairs-insert}
 
 before : (a b : Final) → final_before a b ≡ true → IsBefore a b
 before a b is = grind (arith, nat_tests, is)
@@ -107,7 +107,7 @@ module _ (old : ℕ → ℕ → Option ℕ) (all : List Final) (f : Final) (is :
 
   with-one : IsListOf (with_key old f) (with_final all f)
   with-one = record {
-    ascending = put-between IsBefore far (λ g. final_before g f) (λ g. final_before f g) f (λ g. before g f) (λ g. before f g) all is.ascending;
+    ascending = AllPairs-insert IsBefore far (λ g. final_before g f) (λ g. final_before f g) f (λ g. before g f) (λ g. before f g) all is.ascending;
     exactly = λ g. (to g, from g (is_key f g.controller g.address) refl);
   }
 

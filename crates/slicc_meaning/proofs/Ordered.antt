@@ -17,7 +17,7 @@ use Rattle.slicc_meaning.specs.Run.{IsRun}
 use Rattle.slicc_meaning.specs.States.{with_state}
 use Rattle.slicc_meaning.proofs.Fronts.{number-comes}
 use Rattle.slicc_meaning.proofs.Lasting.{IsLasting, run-holds}
-use Rattle.ruby_value.proofs.Ordered.{AllPairs-insert as put-between}
+use Rattle.ruby_value.proofs.Ordered.{AllPairs-insert}
 
 abbrev ByCycle : ℕ → ℕ → Type 0
 ByCycle a b = a < b
@@ -33,17 +33,17 @@ number-far a b c first second = grind (arith, first, second)
 
 mark-ordered : (marks : List ℕ) (cycle : ℕ) → AllPairs ByCycle marks → AllPairs ByCycle (with_mark marks cycle)
 mark-ordered marks cycle is =
-    put-between ByCycle (λ a b c first second. omega (arith, first, second)) (λ m. nat_lt m cycle) (λ m. nat_lt cycle m) cycle
+    AllPairs-insert ByCycle (λ a b c first second. omega (arith, first, second)) (λ m. nat_lt m cycle) (λ m. nat_lt cycle m) cycle
     (λ m. ltb-true m cycle) (λ m. ltb-true cycle m) marks is
 
 message-ordered : (inbox : List Message) (m : Message) → AllPairs ByNumber inbox → AllPairs ByNumber (with_message inbox m)
 message-ordered inbox m is =
-    put-between ByNumber number-far (λ o. number_before o.number m.number) (λ o. number_before m.number o.number) m
+    AllPairs-insert ByNumber number-far (λ o. number_before o.number m.number) (λ o. number_before m.number o.number) m
     (λ o. number-comes o.number m.number) (λ o. number-comes m.number o.number) inbox is
 
 state-ordered : (states : List StateAt) (address state : ℕ) → AllPairs ByAddress states → AllPairs ByAddress (with_state states address state)
 state-ordered states address state is =
-    put-between ByAddress (λ a b c first second. omega (arith, first, second)) (λ s. nat_lt s.address address) (λ s. nat_lt address s.address)
+    AllPairs-insert ByAddress (λ a b c first second. omega (arith, first, second)) (λ s. nat_lt s.address address) (λ s. nat_lt address s.address)
     (record { address = address; state = state }) (λ s. ltb-true s.address address) (λ s. ltb-true address s.address) states is
 
 ordered-lasts : IsLasting IsOrdered

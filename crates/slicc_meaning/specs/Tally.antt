@@ -3,11 +3,11 @@ use Rattle.std.specs.Prelude.{ℕ, Bool, false, List, ◌==◌, count_by}
 use Rattle.run_journal.specs.declared.event.Event.{Event}
 use Rattle.run_journal.specs.declared.event.Event.TheVariants.{Take, Fire, Done, Release, Turn}
 use Rattle.run_journal.specs.declared.summary.Tally.{Tally}
-use Rattle.slicc_meaning.specs.declared.tallying.Kind.{Kind}
-use Rattle.slicc_meaning.specs.declared.tallying.Kind.TheVariants.{Takes, Fires, Dones, Releases, Turns}
+use Rattle.slicc_meaning.specs.declared.tallying.EventKind.{EventKind}
+use Rattle.slicc_meaning.specs.declared.tallying.EventKind.TheVariants.{Takes, Fires, Dones, Releases, Turns}
 
 -- an event of this kind, and by this worker
-abbrev pub is_by : Kind → ℕ → Event → Bool
+abbrev pub is_by : EventKind → ℕ → Event → Bool
 is_by Takes worker (Take w c) = w == worker
 is_by Fires worker (Fire w c) = w == worker
 is_by Dones worker (Done w c) = w == worker

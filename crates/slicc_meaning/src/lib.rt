@@ -39,6 +39,6 @@ pub use ruby_base::{NoMemory, Seq, Text};
 pub use ruby_value::{MsgNo, has_mark, marks_from, with_mark};
 pub use run_journal::{Account, Event, Final, FireNote, Tally};
 pub use scanning::{copy_of, scan};
-pub use tallying::tally_of;
+pub use tallying::{EventKind, tally_of};
 pub use topology::{machine_of, plain_of};
 pub use world::{DriverTurn, Place, PlainDriver, Request, Seat, Setting, Topology, World};

@@ -4,9 +4,9 @@ ghost use Rattle.slicc_meaning.specs.Tally.{tally, is_by as is_event_by};
 
 use crate::{Event, Tally};
 
-/// What a tally counts.
+/// What a tally counts: the events of one kind.
 #[derive(Clone, Copy)]
-enum Kind {
+pub enum EventKind {
     Takes,
     Fires,
     Dones,
@@ -14,20 +14,20 @@ enum Kind {
     Turns,
 }
 
-fn is_by(kind: Kind, worker: u32, e: &Event) -> bool
+fn is_by(kind: EventKind, worker: u32, e: &Event) -> bool
     ensures { result ≡ is_event_by kind worker e.now }
 {
     match (kind, e) {
-        (Kind::Takes, Event::Take { worker: w, .. })
-        | (Kind::Fires, Event::Fire { worker: w, .. })
-        | (Kind::Dones, Event::Done { worker: w, .. })
-        | (Kind::Releases, Event::Release { worker: w, .. })
-        | (Kind::Turns, Event::Turn { worker: w }) => *w == worker,
+        (EventKind::Takes, Event::Take { worker: w, .. })
+        | (EventKind::Fires, Event::Fire { worker: w, .. })
+        | (EventKind::Dones, Event::Done { worker: w, .. })
+        | (EventKind::Releases, Event::Release { worker: w, .. })
+        | (EventKind::Turns, Event::Turn { worker: w }) => *w == worker,
         _ => false,
     }
 }
 
-fn count(history: &[Event], kind: Kind, worker: u32) -> u64
+fn count(history: &[Event], kind: EventKind, worker: u32) -> u64
     ensures { result ≡ count_by (is_event_by kind worker) history.now }
 {
     history.iter().filter(|e| is_by(kind, worker, e)).count() as u64
@@ -39,10 +39,10 @@ pub fn tally_of(history: &[Event], worker: u32) -> Tally
 {
     Tally {
         worker,
-        takes: count(history, Kind::Takes, worker),
-        fires: count(history, Kind::Fires, worker),
-        dones: count(history, Kind::Dones, worker),
-        releases: count(history, Kind::Releases, worker),
-        turns: count(history, Kind::Turns, worker),
+        takes: count(history, EventKind::Takes, worker),
+        fires: count(history, EventKind::Fires, worker),
+        dones: count(history, EventKind::Dones, worker),
+        releases: count(history, EventKind::Releases, worker),
+        turns: count(history, EventKind::Turns, worker),
     }
 }
