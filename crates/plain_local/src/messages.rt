@@ -54,10 +54,9 @@ pub(crate) fn pop(local: &mut PlainLocal, buffer: u16) -> Result<(), Trouble>
     ensures refused { OnErr result (view_of local.new ≡ view_of local.old) }
     ensures setting { SameSetting (view_of local.old) (view_of local.new) }
 {
-    let number = match front(local, buffer) {
-        Some(m) => m.number,
-        None => return Err(Trouble::Fault(Fault::Front)),
-    };
+    let number = front(local, buffer)
+        .ok_or(Trouble::Fault(Fault::Front))?
+        .number;
     let rest = inbox::without_message(local.alloc, local.post.inbox.as_slice(), number)?;
     local.acts.consumed.push(number)?;
     local.post.inbox = rest;
@@ -70,10 +69,9 @@ pub(crate) fn stall(local: &mut PlainLocal, buffer: u16, line: u64) -> Result<()
     ensures refused { OnErr result (view_of local.new ≡ view_of local.old) }
     ensures setting { SameSetting (view_of local.old) (view_of local.new) }
 {
-    let number = match front(local, buffer) {
-        Some(m) => m.number,
-        None => return Err(Trouble::Fault(Fault::Front)),
-    };
+    let number = front(local, buffer)
+        .ok_or(Trouble::Fault(Fault::Front))?
+        .number;
     let all = inbox::with_aside(local.alloc, local.post.inbox.as_slice(), number, line)?;
     local.acts.stalled.push(number)?;
     local.post.inbox = all;
@@ -104,10 +102,9 @@ pub(crate) fn recycle(local: &mut PlainLocal, buffer: u16, latency: i64) -> Resu
         return Err(Trouble::Fault(Fault::Latency));
     };
     let arrival = local.cycle + later;
-    let number = match front(local, buffer) {
-        Some(m) => m.number,
-        None => return Err(Trouble::Fault(Fault::Front)),
-    };
+    let number = front(local, buffer)
+        .ok_or(Trouble::Fault(Fault::Front))?
+        .number;
     let all = inbox::with_recycled(local.alloc, local.post.inbox.as_slice(), number, arrival)?;
     let marks = with_mark(local.alloc, local.post.marks.as_slice(), arrival)?;
     local.acts.recycled.push(number)?;

@@ -15,7 +15,7 @@ use Rattle.slicc_meaning.specs.Alone.{IsAlone}
 use Rattle.slicc_meaning.specs.Answer.{Answer, Runs, Refused, Absent, TooLarge, IsAnswer}
 use Rattle.slicc_meaning.specs.InvalidExactly.{InvalidExactly}
 use Rattle.slicc_meaning.specs.Record.{IsRecordOf, setting}
-use Rattle.slicc_meaning.specs.Tally.{tally}
+use Rattle.run_journal.specs.Tally.{tally}
 use Rattle.slicc_meaning.specs.WakesOnce.{WakesOnce}
 use Rattle.slicc_meaning.specs.Text.{text}
 use Rattle.ruby_cli.specs.Answers.{refused_line, absent_line, too_large_line, fault_line, usage_line}

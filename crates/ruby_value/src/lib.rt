@@ -1,6 +1,6 @@
 //! The plain data that a controller works on: values and their kinds, the fields of a message or of a table's
-//! line, sets of controllers, message numbers, a map from lines, and the words for what a run finds and what goes
-//! wrong.
+//! line, sets of controllers, message numbers, a map from lines, lists that ascend, and the words for what a run finds and
+//! what goes wrong.
 #![tactic(auto)]
 
 mod arithmetic;

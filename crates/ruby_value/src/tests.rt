@@ -166,3 +166,21 @@ fn a_fault_is_copied_with_its_text(rt: HostRuntime) -> Result<(), Fail> {
     assert!(rt; matches!(Fault::copied(alloc, &Fault::Probe)?, Fault::Probe));
     Ok(())
 }
+
+#[test]
+fn cycles_go_in_at_their_place(rt: HostRuntime) -> Result<(), Fail> {
+    let alloc = rt.alloc();
+    let marks = [1, 3, 7];
+    for (cycle, there, with, from) in [
+        (0, false, &[0, 1, 3, 7][..], &[1, 3, 7][..]),
+        (3, true, &[1, 3, 7][..], &[3, 7][..]),
+        (5, false, &[1, 3, 5, 7][..], &[7][..]),
+        (8, false, &[1, 3, 7, 8][..], &[][..]),
+    ] {
+        assert_eq!(rt; has_mark(&marks, cycle), there);
+        assert_eq!(rt; with_mark(alloc, &marks, cycle)?.as_slice(), with);
+        assert_eq!(rt; inserted(alloc, &marks, cycle)?.as_slice(), with);
+        assert_eq!(rt; marks_from(alloc, &marks, cycle)?.as_slice(), from);
+    }
+    Ok(())
+}

@@ -3,3 +3,4 @@ pub mod FinalBefore
 pub mod IsBefore
 pub mod LastState
 pub mod PartOf
+pub mod Tally

@@ -1,6 +1,6 @@
 //! What a run leaves behind: the events of its history, the entries of its journal, how it ended, and what is read
 //! off them. All of it is plain data. Two readings of a journal stand here: the final states, and the entries of one
-//! controller.
+//! controller; and one of a history: how many events of each kind a worker has in it.
 #![tactic(auto)]
 
 mod entry;
@@ -9,6 +9,7 @@ mod last_states;
 mod laws;
 mod parts;
 mod summary;
+mod tallying;
 #[cfg(test)]
 mod tests;
 mod verdict;
@@ -21,4 +22,5 @@ pub use parts::part;
 pub use ruby_base::{NoMemory, Seq, Text};
 pub use ruby_value::{Fault, Finding, MsgNo};
 pub use summary::{Account, Final, Tally};
+pub use tallying::{EventKind, tally_of};
 pub use verdict::Verdict;

@@ -379,4 +379,24 @@ fn the_counts_of_a_run_are_told_apart(rt: HostRuntime) {
         turns: 4,
     };
     assert_ne!(rt; tally, Tally { worker: 1, ..tally });
+    let once = Tally {
+        worker: 0,
+        takes: 1,
+        fires: 1,
+        dones: 1,
+        releases: 1,
+        turns: 1,
+    };
+    assert_eq!(rt; tally_of(&EVENTS, 0), once);
+    assert_eq!(rt;
+        tally_of(&EVENTS, 1),
+        Tally {
+            worker: 1,
+            takes: 0,
+            fires: 0,
+            dones: 0,
+            releases: 1,
+            turns: 0,
+        }
+    );
 }

@@ -21,7 +21,7 @@ use Rattle.slicc_meaning.specs.Alone.{IsAloneEvent, IsAlone}
 use Rattle.slicc_meaning.specs.Account.{account}
 use Rattle.slicc_meaning.specs.Finals.{finals}
 use Rattle.slicc_meaning.specs.Record.{IsWholeRun, setting}
-use Rattle.slicc_meaning.specs.Tally.{tally}
+use Rattle.run_journal.specs.Tally.{tally}
 use Rattle.slicc_meaning.specs.Run.{Ran, ran_on, go_on, IsRun, HasEnded}
 use Rattle.slicc_meaning.specs.Step.{Stepped, with_place, take, is_holder, fired_by, ended_by, given_back, scan_at, fire, done, is_busy, turn_by, turn, step, step_lawfully}
 use Rattle.slicc_meaning.specs.Verdict.{least_stopped}

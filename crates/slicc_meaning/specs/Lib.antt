@@ -20,7 +20,6 @@ pub mod Record
 pub mod Text
 pub mod Answer
 pub mod InvalidExactly
-pub mod Tally
 pub mod NextCycle
 pub mod IsFront
 pub mod LastState

@@ -7,7 +7,7 @@ use Rattle.slicc_meaning.specs.declared.world.World.{World}
 use Rattle.slicc_meaning.specs.Run.{IsRun, HasEnded}
 use Rattle.slicc_meaning.specs.Finals.{finals}
 use Rattle.slicc_meaning.specs.Account.{account}
-use Rattle.slicc_meaning.specs.Tally.{tally}
+use Rattle.run_journal.specs.Tally.{tally}
 
 -- what the record's run began with
 abbrev pub setting : RunRecord → Setting

@@ -1,16 +1,21 @@
 // How many events of each kind a worker has in a history.
 ghost use Rattle.std.specs.Prelude.{◌≡◌, count_by};
-ghost use Rattle.slicc_meaning.specs.Tally.{tally, is_by as is_event_by};
+ghost use Rattle.run_journal.specs.Tally.{tally, is_by as is_event_by};
 
 use crate::{Event, Tally};
 
 /// What a tally counts: the events of one kind.
 #[derive(Clone, Copy)]
 pub enum EventKind {
+    /// `Event::Take`.
     Takes,
+    /// `Event::Fire`.
     Fires,
+    /// `Event::Done`.
     Dones,
+    /// `Event::Release`.
     Releases,
+    /// `Event::Turn`.
     Turns,
 }
 

@@ -3,8 +3,8 @@ use Rattle.std.specs.Prelude.{ℕ, Bool, false, List, ◌==◌, count_by}
 use Rattle.run_journal.specs.declared.event.Event.{Event}
 use Rattle.run_journal.specs.declared.event.Event.TheVariants.{Take, Fire, Done, Release, Turn}
 use Rattle.run_journal.specs.declared.summary.Tally.{Tally}
-use Rattle.slicc_meaning.specs.declared.tallying.EventKind.{EventKind}
-use Rattle.slicc_meaning.specs.declared.tallying.EventKind.TheVariants.{Takes, Fires, Dones, Releases, Turns}
+use Rattle.run_journal.specs.declared.tallying.EventKind.{EventKind}
+use Rattle.run_journal.specs.declared.tallying.EventKind.TheVariants.{Takes, Fires, Dones, Releases, Turns}
 
 -- an event of this kind, and by this worker
 abbrev pub is_by : EventKind → ℕ → Event → Bool
