@@ -4,8 +4,6 @@
 
 mod cache;
 mod directory;
-#[cfg(test)]
-mod tests;
 mod use_order;
 
 pub use cache::{CacheArray, CacheFault};

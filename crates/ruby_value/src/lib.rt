@@ -12,8 +12,6 @@ mod kind;
 mod line_map;
 mod message;
 mod net_dest;
-#[cfg(test)]
-mod tests;
 mod value;
 
 pub use arithmetic::{add, mul, sub};

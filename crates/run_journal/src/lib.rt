@@ -10,8 +10,6 @@ mod laws;
 mod parts;
 mod summary;
 mod tallying;
-#[cfg(test)]
-mod tests;
 mod verdict;
 
 pub use entry::{End, Entry, FireNote, Sent, StopAt};

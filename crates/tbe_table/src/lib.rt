@@ -3,8 +3,6 @@
 #![tactic(auto)]
 
 mod table;
-#[cfg(test)]
-mod tests;
 
 pub use ruby_base::{NoMemory, Seq, Text};
 pub use ruby_value::Fields;

@@ -1,6 +1,0 @@
-pub mod Between
-pub mod Mails
-pub mod NoLast
-pub mod Outcomes
-pub mod Rooms
-pub mod SentParts

@@ -1,0 +1,5 @@
+//! Examples of what `ruby_value` gives, worked out by hand.
+#![tactic(auto)]
+
+#[cfg(test)]
+mod tests;
