@@ -1,10 +1,15 @@
-ghost use Rattle.std.specs.Prelude.{◌≡◌, ◌<◌, ◌≤◌, [], ◌∷◌, ◌++◌, ◌==◌, length, slice_get, slice_set, insert, remove, IfOk, OnOk, OnErr};
-ghost use Rattle.std.specs.Option.{option_copied};
+ghost use Rattle.std.specs.Prelude.{◌≡◌, ◌<◌, ◌≤◌, ◌^◌, [], ◌∷◌, ◌++◌, ◌==◌, Some, length, slice_get, slice_index_or, slice_set, insert, remove, IfOk, OnOk, OnErr};
+ghost use Rattle.std.specs.Borrow.{sem};
+ghost use Rattle.std.specs.Iterator.Adapters.{IterYieldsInOrder};
+ghost use Rattle.std.specs.Option.{option_copied, option_copied_mut};
+ghost use Rattle.std.specs.Slice.Iter.{iter_rest};
+ghost use Rattle.ruby_base.specs.Lends.{LendsItem};
 
 use crate::NoMemory;
 use std::alloc::Global;
 use std::marker::Model;
-use std::mem;
+use std::ops::{DerefSlice, Index};
+use std::{mem, slice};
 
 /// A list of values on the heap. A contract sees it as that list, whatever room and address it has.
 #[derive(Debug, Drop)]
@@ -74,6 +79,24 @@ impl<T> Seq<T> {
         self.items.get(index)
     }
 
+    /// The element at a place counted from 0, to be written, or `None` where the list ends before it. What is written
+    /// there is the element at that place afterwards.
+    pub fn get_mut(&mut self, index: usize) -> Option<&mut T>
+        ensures* writes_back { sem 𝓛 (LendsItem T.row self.entry index result) }
+        ensures value { option_copied_mut result ≡ slice_get self.old index }
+    {
+        self.items.get_mut(index)
+    }
+
+    /// The elements one after another. `for x in &seq` goes over them too.
+    pub fn iter(&self) -> slice::Iter<'_, T>
+        ensures rest { iter_rest result ≡ self.now }
+        ensures bound { length (iter_rest result) < 2 ^ 64 }
+        ensures runs { IterYieldsInOrder T }
+    {
+        self.items.iter()
+    }
+
     /// Adds an element at the end. Without memory for it the list is as it was, and the element is dropped.
     pub fn push(&mut self, item: T) -> Result<(), NoMemory>
     where
@@ -114,6 +137,40 @@ impl<T> Seq<T> {
         ensures after { self.new ≡ slice_set self.old index item }
     {
         mem::replace(&mut self.items[index], item)
+    }
+}
+
+impl<T> Index<usize> for Seq<T> {
+    type Output = T;
+
+    ghost can_index = { λ s i. i < length s };
+
+    ghost index_gives = { λ s i x. slice_get s i ≡ Some x };
+
+    fn index(&self, index: usize) -> &T {
+        &self.items[index]
+    }
+}
+
+impl<T> DerefSlice for Seq<T> {
+    type Elem = T;
+
+    ghost deref_gives = { λ s xs. xs ≡ s };
+
+    fn deref(&self) -> &[T] {
+        self.items.as_slice()
+    }
+}
+
+impl<'a, T> IntoIterator for &'a Seq<T> {
+    type Item = &'a T;
+
+    type IntoIter = slice::Iter<'a, T>;
+
+    ghost into_iter_gives = { λ s it. (iter_rest it ≡ s.now) × (length (iter_rest it) < 2 ^ 64) × IterYieldsInOrder T };
+
+    fn into_iter(self) -> slice::Iter<'a, T> {
+        self.items.iter()
     }
 }
 
