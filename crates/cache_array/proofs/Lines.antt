@@ -6,6 +6,7 @@ use Rattle.std.proofs.lemmas.Bool.{eqb-true, ltb-false}
 use Rattle.std.proofs.lemmas.List.Quantifiers.{position-Some}
 use Rattle.std.proofs.lemmas.List.Sums.{fails_before_first}
 use Rattle.std.proofs.lemmas.Option.{none-some}
+use Rattle.ruby_value.specs.Roomy.{Roomy}
 
 module _ {X : Type 0} (test : ℕ → Bool) where
   -- the first entry that passes stands at this place
@@ -76,3 +77,7 @@ absent (x ∷ xs) line none =
     let n = position_or_len (λ l. eqb l.0 line) (x ∷ xs) in
     let past : length (x ∷ xs) ≤ n = ltb-false n (length (x ∷ xs)) (cond_none (ltb n (length (x ∷ xs))) n none) in
     lookup_nowhere (λ l. eqb l line) (x ∷ xs) x (λ k lt. fails_before_first (λ l. eqb l.0 line) (x ∷ xs) k x (omega arith))
+
+-- two lists with room that are the same keep the same lines
+pub kept : {X : Type 0} {a b : Roomy X} → a ≡ b → a.kept ≡ b.kept
+kept {X} is = ap (λ (r : Roomy X). r.kept) is

@@ -1,4 +1,4 @@
-ghost use Rattle.std.specs.Prelude.{◌≡◌, ◌≢◌, ◌≤◌, ◌<◌, ◌*◌, ◌%◌, ◌↔◌, [], ◌∷◌, ◌++◌, length, replicate, slice_get, is_some, IsTrue, IsNone, IsOk, IsErrOf, IfOk, IfErr, OnOk, OnErr, OnSome, None, Some, false};
+ghost use Rattle.std.specs.Prelude.{◌≡◌, ◌≢◌, ◌≤◌, ◌<◌, ◌*◌, ◌%◌, ◌↔◌, [], ◌∷◌, ◌++◌, length, replicate, slice_get, slice_set, is_some, IsTrue, IsNone, IsSome, IsOk, IsErrOf, IfOk, IfErr, IfSome, OnOk, OnErr, OnSome, None, Some, false};
 ghost use Rattle.std.specs.Option.{option_copied, option_map};
 ghost use Rattle.ruby_value.specs.Available.{available};
 ghost use Rattle.ruby_value.specs.FieldsOf.{fields_of};
@@ -8,9 +8,12 @@ ghost use Rattle.ruby_value.specs.SetOf.{set_of};
 ghost use Rattle.ruby_value.specs.WithFields.{with_fields};
 ghost use Rattle.ruby_value.specs.WithSet.{with_set};
 ghost use Rattle.ruby_value.specs.WithoutLine.{without_line};
+ghost use Rattle.std.specs.List.{All};
+ghost use Rattle.cache_array.specs.Holds.{HasPlaces, IsMask, lines_of};
 
 use crate::use_order::UseOrder;
 use crate::{Fields, NoMemory};
+use ruby_value::Value;
 use std::alloc::Global;
 use std::marker::Model;
 
@@ -23,7 +26,7 @@ pub enum CacheFault {
     AlreadyThere,
     /// A call for a line that has to be in the cache and isn't.
     NotThere,
-    /// There was no memory for one more line.
+    /// There was no memory for one more line. No call answers so, since a cache takes memory for all its lines when it is made.
     NoMemory,
 }
 
@@ -32,41 +35,44 @@ pub enum CacheFault {
 /// the least recently used first; that no other order of replacement is offered is this project's own rule.
 ///
 /// A call touches the set of its line alone and walks along the lines of that set, so it costs at most as many
-/// steps as there are ways, however many sets there are and however many lines they hold. Fields move in and
-/// out, and none are cloned. A set takes memory for the lines that it has held at once, and an empty one for its
-/// place in the list of sets alone.
-#[derive(Debug, Drop)]
+/// steps as there are ways, however many sets there are and however many lines they hold. Where the number of sets is a
+/// power of two, a line's set is found by a mask. Fields move in and out, and none are cloned. A cache has places for all its
+/// lines from the start, so there is always room for a line that a set may hold; the fields of a line are memory of their own.
+#[derive(Drop)]
 pub struct CacheArray {
     ways: u32,
+    mask: Option<u64>,
     sets: Vec<UseOrder>,
 }
 
 impl Model for CacheArray {
     ghost use Rattle.ruby_value.specs.Cache.{Cache, cache_code};
-    ghost use Rattle.ruby_value.specs.IsCache.{IsCache};
+    ghost use Rattle.cache_array.specs.Holds.{lines_of, Holds};
 
     ghost Value = { Cache };
 
     ghost coded = { cache_code };
 
-    ghost view = { λ c. record { ways = c.ways; sets = c.sets.items } };
+    ghost view = { λ c. record { ways = c.ways; sets = lines_of c.sets.items } };
 
-    ghost invariant = { λ c. IsCache (record { ways = c.ways; sets = c.sets.items }) };
+    ghost invariant = { λ c. Holds c.ways c.mask c.sets.items };
 }
 
 impl CacheArray {
-    /// The empty cache with so many sets of so many ways each. It costs one step for each set.
+    /// The empty cache with so many sets of so many ways each. It takes memory for all the lines that it may hold, and costs
+    /// one step for each set.
     pub fn new(alloc: Global, sets: u32, ways: u32) -> Result<CacheArray, NoMemory>
         requires some_sets { 1 ≤ sets }
         requires some_ways { 1 ≤ ways }
         requires small { sets * ways ≤ 65536 }
         ensures { IfOk result (λ cache. cache ≡ record { ways = ways; sets = replicate sets [] }) }
     {
-        let mut empty = Vec::with_capacity(alloc, sets as usize)?;
-        for _set in 0..sets {
-            empty.push(UseOrder::new(alloc))?;
-        }
-        Ok(CacheArray { ways, sets: empty })
+        let sets = empty_sets(alloc, sets, ways)?;
+        Ok(CacheArray {
+            ways,
+            mask: mask_of(sets.len() as u64),
+            sets,
+        })
     }
 
     /// The fields of a line, or `None` exactly where the line isn't in the cache. The order of use stays as it
@@ -99,36 +105,35 @@ impl CacheArray {
         ensures none { IsNone result ↔ IsTrue (available self.now line) }
         ensures least_recently_used { OnSome result (result ≡ option_map (λ l. l.0) (slice_get (set_of self.now line) 0)) }
     {
-        if self.avail(line) {
+        let set = self.set(line);
+        if set.holds(line) || set.len() < self.ways as usize {
             return None;
         }
-        self.set(line).line_at(0)
+        set.line_at(0)
     }
 
     /// Puts a line with its fields into its set, as the most recently used one, which is this project's own
     /// rule. Where it is refused the cache is as it was and the fields come back: first `AlreadyThere`, where
-    /// the line is in the cache; then `SetFull`, where its set has as many lines as ways; else `NoMemory`, where
-    /// there is no memory for it.
+    /// the line is in the cache; then `SetFull`, where its set has as many lines as ways. It takes no memory.
     pub fn allocate(&mut self, line: u64, f: Fields) -> Result<(), (CacheFault, Fields)>
         ensures ok { OnOk result (self.new ≡ with_set self.old line (set_of self.old line ++ (line, f) ∷ [])) }
 
         ensures already_there { IsErrOf result (CacheFault.AlreadyThere, f) ↔ IsTrue (is_some (fields_of (set_of self.old line) line)) }
         ensures set_full { IsErrOf result (CacheFault.SetFull, f) ↔ (available self.old line ≡ false) }
         ensures never_not_there { IfErr result (λ refusal. refusal.0 ≢ CacheFault.NotThere) }
+        ensures never_no_memory { IfErr result (λ refusal. refusal.0 ≢ CacheFault.NoMemory) }
 
         ensures refused { OnErr result (self.new ≡ self.old) }
         ensures given_back { IfErr result (λ refusal. refusal.1 ≡ f) }
     {
-        if self.is_tag_present(line) {
+        let at = self.place(line);
+        if self.sets[at].holds(line) {
             return Err((CacheFault::AlreadyThere, f));
         }
-        if self.set(line).len() >= self.ways as usize {
+        if self.sets[at].len() >= self.ways as usize {
             return Err((CacheFault::SetFull, f));
         }
-        let at = self.place(line);
-        if let Err(f) = self.sets[at].push(line, f) {
-            return Err((CacheFault::NoMemory, f));
-        }
+        self.sets[at].push(line, f);
         Ok(())
     }
 
@@ -164,22 +169,17 @@ impl CacheArray {
         Ok(())
     }
 
-    /// Puts fields in the place of those of a line, which it gives back, or `NotThere` with the new fields
-    /// exactly where the line isn't in the cache, and then the cache is as it was. The order of use stays as it
-    /// is. It takes no memory.
-    pub fn replace(&mut self, line: u64, f: Fields) -> Result<Fields, (CacheFault, Fields)>
-        ensures fields { IfOk result (λ old. fields_of (set_of self.old line) line ≡ Some old) }
-        ensures ok { OnOk result (self.new ≡ with_set self.old line (with_fields (set_of self.old line) line f)) }
-        ensures not_there { OnErr result (fields_of (set_of self.old line) line ≡ None) }
-        ensures only_not_there { IfErr result (λ refusal. refusal ≡ (CacheFault.NotThere, f)) }
+    /// Writes one field of a line, in its place, and leaves the other fields and lines as they were, and the order of use. The
+    /// value comes back exactly where the line isn't in the cache, and then the cache is as it was; a field that the line
+    /// doesn't have isn't written. It takes no memory.
+    pub fn set_field(&mut self, line: u64, field: u16, v: Value) -> Result<(), Value>
+        ensures ok { OnOk result (IfSome (fields_of (set_of self.old line) line) (λ fields. self.new ≡ with_set self.old line (with_fields (set_of self.old line) line (slice_set fields field v)))) }
+        ensures there { IsOk result ↔ IsSome (fields_of (set_of self.old line) line) }
         ensures refused { OnErr result (self.new ≡ self.old) }
+        ensures given_back { IfErr result (λ back. back ≡ v) }
     {
         let at = self.place(line);
-        let old = match self.sets[at].replace(line, f) {
-            Ok(old) => old,
-            Err(f) => return Err((CacheFault::NotThere, f)),
-        };
-        Ok(old)
+        self.sets[at].set_field(line, field, v)
     }
 
     /// The line at a place of the set that a line belongs to, counted from 0 and from the least recently used
@@ -196,12 +196,38 @@ impl CacheArray {
         ensures place { result ≡ line % length self.now.sets }
         ensures within { result < length self.now.sets }
     {
-        (line % self.sets.len() as u64) as usize
+        match self.mask {
+            Some(mask) => (line & mask) as usize,
+            None => (line % self.sets.len() as u64) as usize,
+        }
     }
 
     fn set(&self, line: u64) -> &UseOrder
-        ensures { result.now ≡ set_of self.now line }
+        ensures { result.now.kept ≡ set_of self.now line }
     {
         &self.sets[self.place(line)]
+    }
+}
+
+// So many sets without lines.
+fn empty_sets(alloc: Global, sets: u32, ways: u32) -> Result<Vec<UseOrder>, NoMemory>
+    ensures empty { IfOk result (λ all. lines_of all.items ≡ replicate sets []) }
+    ensures places { IfOk result (λ all. All (HasPlaces ways) all.items) }
+{
+    let mut empty = Vec::with_capacity(alloc, sets as usize)?;
+    for _set in 0..sets {
+        empty.push(UseOrder::new(alloc, ways)?)?;
+    }
+    Ok(empty)
+}
+
+// The mask by which a line's set is found, where the number of sets is a power of two.
+fn mask_of(sets: u64) -> Option<u64>
+    ensures { IsMask sets result }
+{
+    if 1u64 << (sets.trailing_zeros() % 64) == sets {
+        Some(sets - 1)
+    } else {
+        None
     }
 }

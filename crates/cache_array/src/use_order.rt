@@ -1,4 +1,4 @@
-ghost use Rattle.std.specs.Prelude.{◌≡◌, ◌==◌, ◌<◌, ◌↔◌, [], ◌∷◌, ◌++◌, length, position, slice_get, is_some, IsTrue, IsSome, IfSome, IfNone, OnOk, OnErr, OnSome, IfOk, IfErr, None, Some};
+ghost use Rattle.std.specs.Prelude.{◌≡◌, ◌==◌, ◌<◌, ◌≤◌, ◌+◌, ◌↔◌, [], ◌∷◌, ◌++◌, length, position, slice_get, slice_set, is_some, IsSome, IsOk, IfSome, IfNone, OnOk, OnErr, IfOk, IfErr};
 ghost use Rattle.std.specs.Bool.{OnFalse};
 ghost use Rattle.std.specs.Option.{option_copied, option_map};
 ghost use Rattle.ruby_value.specs.FieldsOf.{fields_of};
@@ -6,51 +6,58 @@ ghost use Rattle.ruby_value.specs.MadeRecent.{made_recent};
 ghost use Rattle.ruby_value.specs.WithFields.{with_fields};
 ghost use Rattle.ruby_value.specs.WithoutLine.{without_line};
 
-use crate::Fields;
+use crate::{Fields, NoMemory};
+use ruby_value::Value;
 use std::alloc::Global;
 use std::marker::Model;
-use std::mem;
 
-/// The lines of one set of a cache, the least recently used first. Each call costs at most a walk along them.
-#[derive(Debug, Drop)]
+/// The lines of one set of a cache, the least recently used first, with places for all that it may hold. Each call costs at
+/// most a walk along them.
+#[derive(Drop)]
 pub(crate) struct UseOrder {
     lines: Vec<(u64, Fields)>,
 }
 
 impl Model for UseOrder {
-    ghost use Rattle.std.specs.Prelude.{List};
+    ghost use Rattle.std.specs.Prelude.{List, ◌-◌, vec_len, vec_capacity};
+    ghost use Rattle.std.specs.Coded.{coded×, coded_ℕ, coded_list};
     ghost use Rattle.ruby_value.specs.Cache.{Line};
+    ghost use Rattle.ruby_value.specs.Roomy.{Roomy, roomy_code};
+    ghost use Rattle.ruby_value.specs.contracts.value.Value as value;
 
-    ghost Value = { List Line };
+    ghost Value = { Roomy (List Line) };
 
-    ghost view = { λ s. s.lines.items };
+    ghost coded = { roomy_code (coded_list (coded× coded_ℕ (coded_list value.the_row.coded))) };
+
+    ghost view = { λ s. record { kept = s.lines.items; room = vec_capacity s.lines - vec_len s.lines } };
 }
 
 impl UseOrder {
-    // No lines, for which it takes no memory.
-    pub(crate) fn new(alloc: Global) -> UseOrder
-        ensures { result ≡ [] }
+    // No lines, with places for so many.
+    pub(crate) fn new(alloc: Global, ways: u32) -> Result<UseOrder, NoMemory>
+        ensures empty { IfOk result (λ s. s.kept ≡ []) }
+        ensures places { IfOk result (λ s. ways ≤ s.room + length s.kept) }
     {
-        UseOrder {
-            lines: Vec::new(alloc),
-        }
+        Ok(UseOrder {
+            lines: Vec::with_capacity(alloc, ways as usize)?,
+        })
     }
 
     pub(crate) fn len(&self) -> usize
-        ensures { result ≡ length self.now }
+        ensures { result ≡ length self.now.kept }
     {
         self.lines.len()
     }
 
     // Where the line stands, counted from the least recently used one.
     fn place(&self, line: u64) -> Option<usize>
-        ensures { result ≡ position (λ l. l.0 == line) self.now }
+        ensures { result ≡ position (λ l. l.0 == line) self.now.kept }
     {
         self.lines.iter().position(|l| l.0 == line)
     }
 
     pub(crate) fn get(&self, line: u64) -> Option<&Fields>
-        ensures { option_copied result ≡ fields_of self.now line }
+        ensures { option_copied result ≡ fields_of self.now.kept line }
     {
         match self.place(line) {
             Some(at) => Some(&self.lines[at].1),
@@ -59,14 +66,14 @@ impl UseOrder {
     }
 
     pub(crate) fn holds(&self, line: u64) -> bool
-        ensures { result ≡ is_some (fields_of self.now line) }
+        ensures { result ≡ is_some (fields_of self.now.kept line) }
     {
         self.get(line).is_some()
     }
 
     // The number of the line at a place.
     pub(crate) fn line_at(&self, at: usize) -> Option<u64>
-        ensures { result ≡ option_map (λ l. l.0) (slice_get self.now at) }
+        ensures { result ≡ option_map (λ l. l.0) (slice_get self.now.kept at) }
     {
         match self.lines.get(at) {
             Some(l) => Some(l.0),
@@ -74,22 +81,22 @@ impl UseOrder {
         }
     }
 
-    // Puts a line at the end.
-    pub(crate) fn push(&mut self, line: u64, f: Fields) -> Result<(), Fields>
-        ensures ok { OnOk result (self.new ≡ self.old ++ (line, f) ∷ []) }
-        ensures refused { OnErr result (self.new ≡ self.old) }
-        ensures given_back { IfErr result (λ back. back ≡ f) }
+    // Puts a line at the end, for which there is a place.
+    pub(crate) fn push(&mut self, line: u64, f: Fields)
+        requires { 0 < self.old.room }
+        ensures after { self.new.kept ≡ self.old.kept ++ (line, f) ∷ [] }
+        ensures places { self.old.room + length self.old.kept ≤ self.new.room + length self.new.kept }
     {
-        match self.lines.push((line, f)) {
-            Ok(()) => Ok(()),
-            Err(refused) => Err(refused.value.1),
+        if self.lines.push((line, f)).is_err() {
+            unreachable!()
         }
     }
 
     pub(crate) fn remove(&mut self, line: u64) -> Option<Fields>
-        ensures fields { result ≡ fields_of self.old line }
-        ensures after { self.new ≡ without_line self.old line }
-        ensures not_there { IfNone result (self.new ≡ self.old) }
+        ensures fields { result ≡ fields_of self.old.kept line }
+        ensures after { self.new.kept ≡ without_line self.old.kept line }
+        ensures not_there { IfNone result (self.new.kept ≡ self.old.kept) }
+        ensures places { self.old.room + length self.old.kept ≤ self.new.room + length self.new.kept }
     {
         let at = self.place(line)?;
         Some(self.lines.remove(at).1)
@@ -97,9 +104,10 @@ impl UseOrder {
 
     // Takes the line to the end, and says whether it was there.
     pub(crate) fn make_recent(&mut self, line: u64) -> bool
-        ensures found { result ≡ is_some (fields_of self.old line) }
-        ensures after { self.new ≡ made_recent self.old line }
-        ensures not_there { OnFalse result (self.new ≡ self.old) }
+        ensures found { result ≡ is_some (fields_of self.old.kept line) }
+        ensures after { self.new.kept ≡ made_recent self.old.kept line }
+        ensures not_there { OnFalse result (self.new.kept ≡ self.old.kept) }
+        ensures places { self.old.room + length self.old.kept ≤ self.new.room + length self.new.kept }
     {
         let Some(at) = self.place(line) else {
             return false;
@@ -109,17 +117,18 @@ impl UseOrder {
         true
     }
 
-    // Gives the line other fields at its place, and gives back those that it had.
-    pub(crate) fn replace(&mut self, line: u64, f: Fields) -> Result<Fields, Fields>
-        ensures fields { IfOk result (λ old. fields_of self.old line ≡ Some old) }
-        ensures ok { OnOk result (self.new ≡ with_fields self.old line f) }
-        ensures not_there { OnErr result (fields_of self.old line ≡ None) }
-        ensures refused { OnErr result (self.new ≡ self.old) }
-        ensures given_back { IfErr result (λ back. back ≡ f) }
+    // Writes a field of the line, in its place.
+    pub(crate) fn set_field(&mut self, line: u64, field: u16, v: Value) -> Result<(), Value>
+        ensures ok { OnOk result (IfSome (fields_of self.old.kept line) (λ fields. self.new.kept ≡ with_fields self.old.kept line (slice_set fields field v))) }
+        ensures there { IsOk result ↔ IsSome (fields_of self.old.kept line) }
+        ensures refused { OnErr result (self.new.kept ≡ self.old.kept) }
+        ensures given_back { IfErr result (λ back. back ≡ v) }
+        ensures places { self.old.room + length self.old.kept ≤ self.new.room + length self.new.kept }
     {
-        match self.place(line) {
-            Some(at) => Ok(mem::replace(&mut self.lines[at].1, f)),
-            None => Err(f),
-        }
+        let Some(at) = self.place(line) else {
+            return Err(v);
+        };
+        self.lines[at].1.write(field, v);
+        Ok(())
     }
 }

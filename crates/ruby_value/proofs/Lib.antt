@@ -4,3 +4,4 @@ pub mod Contained
 pub mod Entries
 mod Members
 pub mod Ordered
+mod Words

@@ -1,5 +1,5 @@
 -- What a search finds in an ascending list of numbers, and what an edit at that place makes of it.
-use Rattle.std.proofs.Common.{◌≡◌, ℕ, zero, suc, ◌+◌, ◌-◌, ◌<◌, ◌≤◌, Bool, true, false, not, eqb, ltb, nat_cmp, List, [], ◌∷◌, ◌++◌, length, take, drop, get_or, Contains, IsTrue, is_ok, ◌↔◌, Result, Ok, Err, MatchResult, refl, ap, ◌∙◌, subst, arith}
+use Rattle.std.proofs.Common.{◌≡◌, ℕ, zero, suc, ◌+◌, ◌-◌, ◌<◌, ◌≤◌, Bool, true, false, not, eqb, ltb, nat_cmp, List, [], ◌∷◌, ◌++◌, length, take, drop, get_or, Contains, IsTrue, is_ok, ◌↔◌, Result, Ok, Err, MatchResult, refl, sym, ap, ◌∙◌, subst, arith, slice_get}
 use mathlib.Core.Bool.{false≢true}
 use Rattle.std.specs.List.{filter, insert, remove}
 use Rattle.std.specs.List.Sorted.{IsStrictlyIncreasing, IsBinarySearchResult}
@@ -9,6 +9,7 @@ use Rattle.std.proofs.lemmas.List.Edits.{length-insert, get_or-insert_below, get
 use Rattle.std.proofs.lemmas.List.Kept.{AllPairs-from_increasing}
 use Rattle.std.proofs.lemmas.List.Sorted.{searched}
 use Rattle.std.proofs.Math.Seq.{drop-cons}
+use Rattle.ruby_value.specs.LeastFrom.{least_from}
 use Rattle.ruby_value.specs.WithMember.{with_member}
 use Rattle.ruby_value.specs.WithoutMember.{without_member}
 
@@ -111,3 +112,27 @@ contains_of xs m (Ok at) sorted found =
     let here = place_of xs m (Ok at) sorted found in
     (λ _. (at, here.in_range, get_or_default xs at m 0 here.in_range ∙ here.has), λ _. refl)
 contains_of xs m (Err at) sorted found = (λ wrong. absurd (false≢true wrong), λ h. absurd (not_contained xs m at (place_of xs m (Err at) sorted found) h))
+
+-- the least one from a number on is what stands at the place that the search names
+get_dropped : (xs : List ℕ) (at : ℕ) → slice_get (drop at xs) 0 ≡ slice_get xs at
+get_dropped [] zero = refl
+get_dropped [] (suc at) = refl
+get_dropped (x ∷ xs) zero = refl
+get_dropped (x ∷ xs) (suc at) = get_dropped xs at
+
+pub least_at : (xs : List ℕ) (m at : ℕ) → IsAt xs m at → slice_get xs at ≡ least_from xs m
+least_at xs m at found =
+    let back = filter_back (λ o. not (ltb o m)) xs at
+    (λ j lt within. rw (lt-ltb (get_or xs j 0) m (found.smaller_before j lt)) refl)
+    (λ j le within. rw (le-ltb (get_or xs j 0) m (from_here j le within)) refl) in
+    sym (ap (λ (ys : List ℕ). slice_get ys 0) back ∙ get_dropped xs at)
+  where
+    from_here : (j : ℕ) → at ≤ j → j < length xs → m ≤ get_or xs j 0
+    from_here j le within = grind (arith, found.greater_after j, found.has)
+
+pub least_gap : (xs : List ℕ) (m at : ℕ) → IsGapFor xs m at → slice_get xs at ≡ least_from xs m
+least_gap xs m at gap =
+    let back = filter_back (λ o. not (ltb o m)) xs at
+    (λ j lt within. rw (lt-ltb (get_or xs j 0) m (gap.smaller_before j lt)) refl)
+    (λ j le within. rw (le-ltb (get_or xs j 0) m (let above = gap.greater_from j le within in omega arith)) refl) in
+    sym (ap (λ (ys : List ℕ). slice_get ys 0) back ∙ get_dropped xs at)

@@ -1,6 +1,7 @@
 pub mod AreLinesOf
 pub mod Ascending
 pub mod Available
+pub mod Bits
 pub mod Cache
 pub mod DefaultValue
 pub mod Directory
@@ -8,13 +9,18 @@ pub mod EqualKinds
 pub mod FieldsAt
 pub mod FieldsOf
 pub mod HasKind
+pub mod HasKinds
 pub mod HasLawfulSets
 pub mod Inserted
 pub mod IsBefore
 pub mod IsCache
+pub mod IsReference
+pub mod LeastFrom
 pub mod MadeRecent
 pub mod NumberBefore
+pub mod Roomy
 pub mod SameKind
+pub mod SameKinds
 pub mod SetOf
 pub mod TakesValue
 pub mod Tbes

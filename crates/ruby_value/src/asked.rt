@@ -1,7 +1,7 @@
 use crate::Block;
 
 /// What a processor wants of a line: the requests of gem5's Ruby that this project's drivers issue.
-#[derive(Clone, Copy, Debug, PartialEq, Eq)]
+#[derive(Clone, Copy)]
 pub enum Ask {
     /// To read bytes: `LD`.
     Load,
@@ -12,7 +12,7 @@ pub enum Ask {
 }
 
 /// A request of a processor, as a sequencer keeps it until it is finished.
-#[derive(Clone, Copy, Debug, PartialEq, Eq)]
+#[derive(Clone, Copy)]
 pub struct Asked {
     /// The line number, which is the byte address divided by 64.
     pub line: u64,
@@ -28,7 +28,7 @@ pub struct Asked {
 }
 
 /// A finished request, with the bytes of its line at that time; those of a store have its byte in them.
-#[derive(Clone, Copy, Debug, PartialEq, Eq)]
+#[derive(Clone, Copy)]
 pub struct Answer {
     pub asked: Asked,
     pub block: Block,

@@ -10,7 +10,7 @@ use std::mem;
 
 /// The fields of a message or of a table's line, in the order of their declaration. A contract sees them as the
 /// list of their values. A field keeps the kind of its first value, as SLICC's fields keep their types.
-#[derive(Debug, Drop)]
+#[derive(Drop)]
 pub struct Fields {
     values: Vec<Value>,
 }
@@ -32,11 +32,11 @@ impl Fields {
         Fields { values }
     }
 
-    /// Fields of these kinds, in their order, as they are before anything is written to them.
+    /// Fields of these kinds, in their order, as they are before anything is written to them. Their room is taken at once.
     pub fn of_kinds(alloc: Global, kinds: &[Kind]) -> Result<Fields, NoMemory>
         ensures { IfOk result (λ f. f ≡ map default_value kinds.now) }
     {
-        let mut values = Vec::new(alloc);
+        let mut values = Vec::with_capacity(alloc, kinds.len())?;
         for kind in kinds {
             values.push(default_of(alloc, kind)?)?;
         }
@@ -91,6 +91,16 @@ impl Fields {
         }
         let _old = mem::replace(&mut self.values[usize::from(i)], v);
         Ok(())
+    }
+
+    /// Writes the field at a place counted from 0, and leaves the others as they were; where there is no such field, nothing
+    /// changes. That the value is of the field's kind is for the caller to see to. It takes no memory.
+    pub fn write(&mut self, i: u16, v: Value)
+        ensures { self.new ≡ slice_set self.old i v }
+    {
+        if let Some(held) = self.values.get_mut(usize::from(i)) {
+            *held = v;
+        }
     }
 
     /// Whether the field at a place counted from 0 is there and has a value of the same kind as this one.

@@ -1,17 +1,19 @@
 //! The plain data that a controller works on: values and their kinds, the fields of a message or of a table's
-//! line, sets of controllers, message numbers, a map from lines, lists that ascend, and the words for what a run finds and
-//! what goes wrong.
+//! line, sets of controllers, message numbers, a map from lines, lists that ascend, what a machine is to its controllers, and the
+//! words for what a run finds and what goes wrong.
 #![tactic(auto)]
 
 mod arithmetic;
 mod ascending;
 mod asked;
+mod far_members;
 mod fault;
 mod fields;
 mod kind;
 mod line_map;
 mod message;
 mod net_dest;
+mod setup;
 mod value;
 
 pub use arithmetic::{add, mul, sub};
@@ -19,9 +21,10 @@ pub use ascending::{Ascends, has_mark, inserted, marks_from, with_mark};
 pub use asked::{Answer, Ask, Asked};
 pub use fault::{Fault, Finding};
 pub use fields::Fields;
-pub use kind::Kind;
+pub use kind::{Kind, are_same_kinds, have_kinds};
 pub use line_map::LineMap;
 pub use message::{Message, MsgNo};
 pub use net_dest::NetDest;
 pub use ruby_base::{NoMemory, Seq, Text};
+pub use setup::{BufferPlace, BufferSetup, MachineSetup, Sizes, TableSetup, TableSize};
 pub use value::{Block, Ref, Value, default_of};

@@ -24,7 +24,7 @@ impl MsgNo {
 }
 
 /// A message copy in a buffer of a controller.
-#[derive(Debug, Drop)]
+#[derive(Drop)]
 pub struct Message {
     pub number: MsgNo,
     /// The number of the buffer within its machine.

@@ -1,6 +1,6 @@
 use ruby_value::{
-    Block, Fault, Fields, Kind, LineMap, Message, MsgNo, NetDest, Ref, Text, Value, add,
-    default_of, has_mark, inserted, marks_from, mul, sub, with_mark,
+    Block, Fault, Fields, Kind, LineMap, Message, MsgNo, NetDest, Ref, Seq, Text, Value, add,
+    are_same_kinds, default_of, has_mark, have_kinds, inserted, marks_from, mul, sub, with_mark,
 };
 use std::alloc::Global;
 use std::test::Fail;
@@ -76,6 +76,8 @@ fn a_field_takes_a_value_of_its_own_kind_alone(rt: HostRuntime) -> Result<(), Fa
     assert_eq!(rt; fields.get(1), Some(&Value::Enum(3, 0)));
     assert_eq!(rt; fields.get(2), None);
     assert_eq!(rt; fields.len(), 2);
+    fields.write(0, Value::Bool(true));
+    assert_eq!(rt; fields.get(0), Some(&Value::Bool(true)));
     assert!(rt; !fields.is_empty());
     assert_eq!(rt; fields.clone()?.into_vec().len(), 2);
     Ok(())
@@ -89,27 +91,64 @@ fn references_are_of_one_kind_whatever_they_name(rt: HostRuntime) -> Result<(), 
     assert_eq!(rt; fields.set(0, Value::Entry(Some(line))), Ok(()));
     assert_eq!(rt; fields.set(1, Value::Entry(None)), Err(Value::Entry(None)));
     assert!(rt; Kind::Enum(1, 0).equals(Kind::Enum(1, 5)));
+    assert!(rt;
+        are_same_kinds(
+            &[Kind::Int, Kind::Enum(1, 0)],
+            &[Kind::Int, Kind::Enum(1, 5)]
+        )
+    );
+    assert!(rt; !are_same_kinds(&[Kind::Int], &[Kind::Int, Kind::Int]));
+    assert!(rt; have_kinds(&[Kind::Entry(4), Kind::Tbe(2)], fields.as_slice()));
+    assert!(rt; !have_kinds(&[Kind::Entry(4)], fields.as_slice()));
+    assert!(rt; Kind::Tbe(2).is_reference() && !Kind::Dest.is_reference());
     assert!(rt; !Kind::Enum(1, 0).equals(Kind::Enum(2, 0)));
     assert_ne!(rt; Kind::Entry(1), Kind::Entry(2));
     Ok(())
 }
 
+// The members in increasing order.
+fn members_of(alloc: Global, set: &NetDest) -> Result<Vec<u32>, Fail> {
+    let mut all = Vec::new(alloc);
+    let mut from = 0;
+    for _member in 0..set.count() {
+        let Some(m) = set.least_from(from) else {
+            return Ok(all);
+        };
+        all.push(m)?;
+        from = m.saturating_add(1);
+    }
+    Ok(all)
+}
+
+// What goes into a set and what goes out of it, and its members then.
+const SETS: [(&[u32], &[u32], &[u32]); 5] = [
+    (&[5, 2, 9, 2, 5], &[5, 4], &[2, 9]),
+    (&[63, 64, 0, 64], &[], &[0, 63, 64]),
+    (&[100, 65, 70, 3], &[70, 71, 3], &[65, 100]),
+    (&[64, 63], &[63], &[64]),
+    (&[1, 2, 3], &[1, 2, 3], &[]),
+];
+
 #[test]
 fn a_set_of_controllers_ascends(rt: HostRuntime) -> Result<(), Fail> {
-    let mut members = NetDest::new(rt.alloc());
-    for m in [5, 2, 9, 2, 5] {
-        members.add(m)?;
+    let alloc = rt.alloc();
+    for (added, removed, want) in SETS {
+        let mut set = NetDest::new(alloc);
+        for m in added {
+            set.add(*m)?;
+            assert!(rt; set.contains(*m));
+        }
+        for m in removed {
+            set.remove(*m);
+            assert!(rt; !set.contains(*m));
+        }
+        assert_eq!(rt; members_of(alloc, &set)?.as_slice(), want);
+        let copy = set.clone()?;
+        assert!(rt; copy == set);
+        set.clear();
+        assert_eq!(rt; set.count(), 0);
+        assert_eq!(rt; copy.count(), want.len() as u64);
     }
-    assert_eq!(rt; members.as_slice(), [2, 5, 9].as_slice());
-    assert_eq!(rt; members.count(), 3);
-    members.remove(5);
-    members.remove(4);
-    assert_eq!(rt; members.as_slice(), [2, 9].as_slice());
-    assert!(rt; members.contains(9) && !members.contains(5));
-    let copy = members.clone()?;
-    members.clear();
-    assert_eq!(rt; members.count(), 0);
-    assert_eq!(rt; copy.count(), 2);
     Ok(())
 }
 
@@ -155,6 +194,43 @@ fn a_map_keeps_one_value_under_each_line(rt: HostRuntime) -> Result<(), Fail> {
     assert_eq!(rt; kept.remove(3), Some(2));
     assert_eq!(rt; kept.remove(3), None);
     assert!(rt; kept.contains(7) && !kept.contains(3));
+    kept.reserve(2)?;
+    assert_eq!(rt; kept.put(3, 5), None);
+    assert_eq!(rt; kept.len(), 2);
+    Ok(())
+}
+
+#[test]
+fn a_field_of_a_line_is_written_in_its_place(rt: HostRuntime) -> Result<(), Fail> {
+    let alloc = rt.alloc();
+    let mut kept = LineMap::new(alloc);
+    assert!(rt; kept.insert(7, two_fields(alloc)?).is_ok());
+    assert_eq!(rt;
+        kept.set_field(8, 0, Value::Bool(true)),
+        Err(Value::Bool(true))
+    );
+    assert_eq!(rt; kept.set_field(7, 0, Value::Bool(true)), Ok(()));
+    let fields = kept.get(7).ok_or("line 7")?;
+    assert_eq!(rt; fields.get(0), Some(&Value::Bool(true)));
+    assert_eq!(rt; fields.get(1), Some(&Value::Enum(3, 2)));
+    Ok(())
+}
+
+// The items of a list, gone over in three ways.
+#[test]
+fn a_list_is_gone_over_as_a_list_of_rust(rt: HostRuntime) -> Result<(), Fail> {
+    let mut list = Seq::copied(rt.alloc(), &[4u32, 5, 6])?;
+    if let Some(item) = list.get_mut(1) {
+        *item = 7;
+    }
+    let mut sum = 0u64;
+    for item in &list {
+        sum = sum.saturating_add(u64::from(*item));
+    }
+    assert_eq!(rt; sum, 17);
+    assert_eq!(rt; list.iter().count(), 3);
+    assert_eq!(rt; list.len(), 3);
+    assert_eq!(rt; list[1], 7);
     Ok(())
 }
 

@@ -44,6 +44,11 @@ fn one_set_of_two_ways_replaces_the_least_recently_used_line(rt: HostRuntime) ->
 #[test]
 fn a_line_belongs_to_the_set_of_its_number(rt: HostRuntime) -> Result<(), Fail> {
     let alloc = rt.alloc();
+    let mut three = CacheArray::new(alloc, 3, 1)?;
+    assert_eq!(rt; refused(three.allocate(4, one(alloc, 4)?)), None);
+    for (line, least) in [(7, Some(4)), (6, None), (5, None)] {
+        assert_eq!(rt; three.probe(line), least, "of three sets at {line}");
+    }
     let mut cache = CacheArray::new(alloc, 4, 1)?;
     for line in [4, 5, 7] {
         assert_eq!(rt;
@@ -54,10 +59,8 @@ fn a_line_belongs_to_the_set_of_its_number(rt: HostRuntime) -> Result<(), Fail> 
     for (line, least) in [(8, Some(4)), (9, Some(5)), (10, None), (11, Some(7))] {
         assert_eq!(rt; cache.probe(line), least, "at {line}");
     }
-    let old = cache.replace(5, one(alloc, 6)?).ok().ok_or("line 5")?;
-    assert_eq!(rt; old.as_slice(), one(alloc, 5)?.as_slice());
-    let (fault, _) = cache.replace(9, one(alloc, 7)?).err().ok_or("line 9")?;
-    assert_eq!(rt; fault, CacheFault::NotThere);
+    assert_eq!(rt; cache.set_field(5, 0, Value::Int(6)), Ok(()));
+    assert_eq!(rt; cache.set_field(9, 0, Value::Int(7)), Err(Value::Int(7)));
     let held = cache.lookup(5).ok_or("line 5")?;
     assert_eq!(rt; held.as_slice(), one(alloc, 6)?.as_slice());
     Ok(())
@@ -90,5 +93,12 @@ fn each_line_of_a_directory_has_fields(rt: HostRuntime) -> Result<(), Fail> {
     }
     assert_eq!(rt; memory.lookup(0x40).as_slice(), one(alloc, 4)?.as_slice());
     assert_eq!(rt; memory.lookup(0x80).as_slice(), one(alloc, 0)?.as_slice());
+    memory.reserve(2)?;
+    assert_eq!(rt; memory.set_field(0x40, 0, Value::Int(5)), Ok(()));
+    assert_eq!(rt;
+        memory.set_field(0x80, 0, Value::Int(5)),
+        Err(Value::Int(5))
+    );
+    assert_eq!(rt; memory.lookup(0x40).as_slice(), one(alloc, 5)?.as_slice());
     Ok(())
 }

@@ -41,10 +41,9 @@ fn fields_move_in_and_out(rt: HostRuntime) -> Result<(), Fail> {
             None
         );
     }
-    let old = table.replace(4, one(alloc, 5)?).ok().ok_or("line 4")?;
-    assert_eq!(rt; old.as_slice(), one(alloc, 4)?.as_slice());
-    let (fault, _) = table.replace(3, one(alloc, 6)?).err().ok_or("line 3")?;
-    assert_eq!(rt; fault, TbeFault::NotThere);
+    assert_eq!(rt; table.set_field(4, 0, Value::Int(5)), Ok(()));
+    assert_eq!(rt; table.set_field(3, 0, Value::Int(6)), Err(Value::Int(6)));
+    table.reserve(1)?;
     let last = table.deallocate(4).ok().ok_or("line 4")?;
     assert_eq!(rt; last.as_slice(), one(alloc, 5)?.as_slice());
     assert_eq!(rt; table.deallocate(4).err(), Some(TbeFault::NotThere));

@@ -1,28 +1,35 @@
-use Rattle.std.proofs.Common.{Ok, Err, sym}
-use Rattle.ruby_value.proofs.Members.{IsGapFor, place_of, with_member_found, with_member_gap, not_contained, rises_insert}
+use Rattle.std.proofs.Common.{ℕ, List, ◌++◌, sym, ap, ◌∙◌, arith}
+use Rattle.std.specs.Int.{w64}
+use Rattle.std.proofs.lemmas.Nat.{or_lt}
+use Rattle.std.proofs.lemmas.Nat.Bits.{bit_at_set_same, bit_at_set_other}
+use Rattle.std.proofs.lemmas.Result.{on_ok_weaker}
+use Rattle.ruby_value.specs.Bits.{bits_of}
+use Rattle.ruby_value.specs.WithMember.{with_member}
+use Rattle.ruby_value.proofs.Words.{member_far, far_member, set_near, far_with}
 use Rattle.ruby_value.proofs.net_dest.NetDest.add.Goals as goal
-use Rattle.ruby_value.proofs.net_dest.NetDest.add.Goals.{In-Err}
 
--- the number is there, so the set with it is the set
-pub returns-in-Ok-clause-ok : goal.returns-in-Ok-clause-ok
-returns-in-Ok-clause-ok c =
-    let at = place_of c.deref.result.now c.args.m (Ok c.in-Ok.field-0) (rw c.deref.ensures.value c.self.invariant) c.in-Ok.ensures.position in
-    rw (← c.self.view_is, ← c.deref.ensures.value) (sym (with_member_found _ _ _ at))
+pub invariant_of-self : goal.invariant_of-self
+invariant_of-self c = (or_lt 64 _ _ c.self.invariant.0 (omega arith), c.self.invariant.1)
 
--- the number isn't there, and this is its gap
-gap : (c : In-Err) → IsGapFor c.deref.result.now c.args.m c.in-Err.at
-gap c = place_of c.deref.result.now c.args.m (Err c.in-Err.at) (rw c.deref.ensures.value c.self.invariant) c.in-Err.ensures.position
+pub returns-then-m-lt64-clause-ok : goal.returns-then-m-lt64-clause-ok
+returns-then-m-lt64-clause-ok c =
+    rw (← c.self.view_is)
+    (set_near c.self.inside.near c.self.inside.far c.self.invariant.1 _ c.args.m c.if-m-lt64.true
+    (λ k lt other. bit_at_set_other w64 c.self.inside.near c.args.m c.if-m-lt64.true k other)
+    (bit_at_set_same w64 c.self.inside.near c.args.m c.if-m-lt64.true))
 
--- it goes to its gap
-pub returns-in_ok-insert-in-Err-clause-ok : goal.returns-in_ok-insert-in-Err-clause-ok
-returns-in_ok-insert-in-Err-clause-ok c =
-    rw (c.in_ok-insert-in-Err.ensures.items, ← c.self.view_is, ← c.deref.ensures.value) (sym (with_member_gap _ _ _ (gap (goal.at.returns-in_ok-insert-in-Err-clause-ok c).In-Err)))
+pub invariant_of-self-2 : goal.invariant_of-self-2
+invariant_of-self-2 c = (c.self.invariant.0, far_with c.self.inside.far c.add.new.self c.args.m c.add.result c.self.invariant.1 c.if-m-lt64.false c.add.ensures.ok c.add.ensures.err)
 
-pub invariant_of-self-in-Err : goal.invariant_of-self-in-Err
-invariant_of-self-in-Err c =
-    rw (c.in_ok-insert-in-Err.ensures.items, ← c.deref.ensures.value) (rises_insert _ _ _ (gap (goal.at.invariant_of-self-in-Err c).In-Err) (rw c.deref.ensures.value c.self.invariant))
+pub returns-clause-ok : goal.returns-clause-ok
+returns-clause-ok c =
+    on_ok_weaker c.add.result
+    (λ is.
+    ap (λ (xs : List ℕ). bits_of c.self.inside.near ++ xs) is
+    ∙ sym (member_far c.self.inside.near c.self.inside.far c.self.invariant.1 c.args.m c.if-m-lt64.false)
+    ∙ ap (λ (xs : List ℕ). with_member xs c.args.m) c.self.view_is)
+    c.add.ensures.ok
 
--- memory is wanted only for a number that isn't there
-pub returns-in_err-insert-in-Err-clause-there_already : goal.returns-in_err-insert-in-Err-clause-there_already
-returns-in_err-insert-in-Err-clause-there_already c contained =
-    absurd (not_contained _ _ _ (gap (goal.at.returns-in_err-insert-in-Err-clause-there_already c).In-Err) (rw (c.deref.ensures.value, c.self.view_is) contained))
+pub returns-clause-there_already : goal.returns-clause-there_already
+returns-clause-there_already c has =
+    c.add.ensures.there_already (far_member c.self.inside.near c.self.inside.far c.self.invariant.1 c.args.m c.if-m-lt64.false (rw c.self.view_is has))

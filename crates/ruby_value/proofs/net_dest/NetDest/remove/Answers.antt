@@ -1,15 +1,18 @@
-use Rattle.std.proofs.Common.{Ok, Err, sym}
-use Rattle.ruby_value.proofs.Members.{place_of, without_member_found, without_member_gap}
+use Rattle.std.specs.Int.{w64}
+use Rattle.std.proofs.lemmas.Nat.Bits.{bit_at_clear_same, bit_at_clear_other}
+use Rattle.ruby_value.proofs.Words.{clear_near, without_far, far_without}
 use Rattle.ruby_value.proofs.net_dest.NetDest.remove.Goals as goal
 
--- the number is there and is taken out at its place
-pub returns-in-Ok : goal.returns-in-Ok
-returns-in-Ok c =
-    let at = place_of c.deref.result.now c.args.m (Ok c.in-Ok.at) (rw c.deref.ensures.value c.self.invariant) c.in-Ok.ensures.position in
-    rw (c.remove.ensures.items, ← c.self.view_is, ← c.deref.ensures.value) (sym (without_member_found _ _ _ at))
+pub invariant_of-self-else-m-lt64 : goal.invariant_of-self-else-m-lt64
+invariant_of-self-else-m-lt64 c = (c.self.invariant.0, rw c.remove.ensures (far_without c.self.inside.far c.args.m c.self.invariant.1))
 
--- it isn't there
-pub returns-in_default : goal.returns-in_default
-returns-in_default c =
-    let gap = place_of c.deref.result.now c.args.m (Err c.in_default.field-0) (rw c.deref.ensures.value c.self.invariant) c.in_default.ensures.position in
-    rw (← c.self.view_is, ← c.deref.ensures.value) (sym (without_member_gap _ _ _ gap))
+pub returns-then-m-lt64 : goal.returns-then-m-lt64
+returns-then-m-lt64 c =
+    rw (← c.self.view_is)
+    (clear_near c.self.inside.near c.self.inside.far c.self.invariant.1 _ c.args.m c.if-m-lt64.true
+    (λ k lt other. bit_at_clear_other w64 c.self.inside.near c.args.m c.if-m-lt64.true k lt other)
+    (bit_at_clear_same w64 c.self.inside.near c.args.m c.if-m-lt64.true))
+
+pub returns-else-m-lt64 : goal.returns-else-m-lt64
+returns-else-m-lt64 c =
+    rw (← c.self.view_is, c.remove.ensures) (without_far c.self.inside.near c.self.inside.far c.self.invariant.1 c.args.m c.if-m-lt64.false)
