@@ -15,7 +15,7 @@ pub enum TableSize {
 }
 
 /// A table of a machine.
-#[derive(Debug, Drop)]
+#[derive(Drop)]
 pub struct TableSetup {
     pub size: TableSize,
     /// The number of the structure of its lines; of the parameters that of their fields, to which no reference is.
@@ -48,7 +48,7 @@ pub enum BufferPlace {
 }
 
 /// A buffer of a machine.
-#[derive(Debug, Drop)]
+#[derive(Drop)]
 pub struct BufferSetup {
     pub place: BufferPlace,
     /// The kinds of the fields of its message type, in the order of their declaration.
@@ -57,7 +57,7 @@ pub struct BufferSetup {
 
 /// What stays as it is of a controller while a run lasts. Beside it a controller needs nothing of a protocol and of a
 /// topology to do its acts.
-#[derive(Debug, Drop)]
+#[derive(Drop)]
 pub struct Setup {
     /// The controller's actor number.
     pub me: u32,
