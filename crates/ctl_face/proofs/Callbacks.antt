@@ -46,30 +46,21 @@ is_request true r line asked is fits = (let Q : Option Asked → Type 0 = λ o. 
 is_request false r line asked is fits = absurd fits
 
 -- the sequencer with other requests
-pub with_requests_fits : (v : LocalView) (requests : Option Requests) → FitsSequencer v.setup.has_sequencer requests → IsLawful v → IsLawful (record v { ctl = record v.ctl { sequencer = requests } })
+pub with_requests_fits : (v : LocalView) (requests : Option Requests) → FitsSequencer v.machine.has_sequencer requests → IsLawful v → IsLawful (record v { ctl = record v.ctl { sequencer = requests } })
 with_requests_fits v requests here lawful = record {
-  setup = lawful.setup;
+  machine = lawful.machine;
+  routes = lawful.routes;
   now = lawful.now;
-  fits = record {
-    tables = lawful.fits.tables;
-    states = lawful.fits.states;
-    inbox_ascends = lawful.fits.inbox_ascends;
-    messages = lawful.fits.messages;
-    marks_ascend = lawful.fits.marks_ascend;
-    sequencer = here;
-    networks = lawful.fits.networks;
-    copies = lawful.fits.copies;
-    sent = lawful.fits.sent;
-    drawn = lawful.fits.drawn;
-  };
+  start = lawful.start;
+  fits = record { tables = lawful.fits.tables; mail = lawful.fits.mail; sequencer = here };
 }
 
 answered : (v : LocalView) (line : ℕ) (asked : Asked) (block : Block) (requests : Option Requests) → option_and_then (λ (r : Requests). map.get r.outstanding line) requests ≡ Some asked
-    → FitsSequencer v.setup.has_sequencer requests → IsLawful v → IsLawful (with_finished v line (record { asked = asked; block = block }) requests)
+    → FitsSequencer v.machine.has_sequencer requests → IsLawful v → IsLawful (with_finished v line (record { asked = asked; block = block }) requests)
 answered v line asked block None is fits lawful = lawful
 answered v line asked block (Some r) is fits lawful =
     let a : Answer = record { asked = asked; block = block } in
-    let has = v.setup.has_sequencer in
+    let has = v.machine.has_sequencer in
     with_requests_fits v (Some (finished r line a)) (sequencer_fits has r (finished r line a) (finished_fits r line a (is_request has r line asked is fits)) fits) lawful
 
 answer_keeps : (v : LocalView) (line : ℕ) (asked : Asked) (block : Block) → request_for v line ≡ Some asked → IsLawful v → IsLawful (after_answer v line asked block)
@@ -99,18 +90,13 @@ StateOfLine line state = IsLine line
 
 pub set_state_keeps : (v : LocalView) (line state : ℕ) → IsLine line → IsLawful v → IsLawful (set_state v line state)
 set_state_keeps v line state is lawful = record {
-  setup = lawful.setup;
+  machine = lawful.machine;
+  routes = lawful.routes;
   now = lawful.now;
+  start = lawful.start;
   fits = record {
-    tables = lawful.fits.tables;
-    states = insert_keeps StateOfLine v.ctl.states line state lawful.fits.states is;
-    inbox_ascends = lawful.fits.inbox_ascends;
-    messages = lawful.fits.messages;
-    marks_ascend = lawful.fits.marks_ascend;
+    tables = record { each = lawful.fits.tables.each; lines = insert_keeps StateOfLine v.ctl.states line state lawful.fits.tables.lines is };
+    mail = lawful.fits.mail;
     sequencer = lawful.fits.sequencer;
-    networks = lawful.fits.networks;
-    copies = lawful.fits.copies;
-    sent = lawful.fits.sent;
-    drawn = lawful.fits.drawn;
   };
 }

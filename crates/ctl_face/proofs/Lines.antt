@@ -5,9 +5,8 @@ use Rattle.std.proofs.lemmas.List.Elements.{All-nil, All-cons, All-head, All-tai
 use Rattle.std.specs.Map.{lookup, remove_entry, set_value}
 use Rattle.ruby_value.specs.declared.kind.Kind.{Kind}
 use Rattle.ruby_value.specs.declared.value.Value.{Value}
-use Rattle.ctl_face.specs.declared.setup.Setup.{Setup}
-use Rattle.ctl_face.specs.HasKinds.{has_kinds}
-use Rattle.ctl_face.specs.HoldsKind.{holds_kind}
+use Rattle.ruby_value.specs.HasKinds.{has_kinds}
+use Rattle.ruby_value.specs.HasKind.{has_kind}
 
 module _ {X : Type 0} (P : ℕ × X → Type 0) where
   pub All-removed : (test : ℕ → Bool) (xs : List (ℕ × X)) → All P xs → All P (remove_entry test xs)
@@ -57,10 +56,10 @@ holds_after_set P (y ∷ ys) (suc place) x holds here zero = holds 0
 holds_after_set P (y ∷ ys) (suc place) x holds here (suc j) = holds_after_set (λ k. P (suc k)) ys place x (λ k. holds (suc k)) here j
 
 -- a field takes a value of its kind
-pub has_kinds-set : (setup : Setup) (kinds : List Kind) (fields : List Value) (field : ℕ) (value : Value) → IsSomeAnd (slice_get kinds field) (λ k. IsTrue (holds_kind setup k value)) → IsTrue (has_kinds setup kinds fields) → IsTrue (has_kinds setup kinds (set fields field value))
-has_kinds-set setup [] fields field value is all = absurd is
-has_kinds-set setup (k ∷ ks) [] field value is all = all
-has_kinds-set setup (k ∷ ks) (v ∷ vs) zero value is all = and_from (holds_kind setup k value) (has_kinds setup ks vs) is (and_parts (holds_kind setup k v) (has_kinds setup ks vs) all).1
-has_kinds-set setup (k ∷ ks) (v ∷ vs) (suc field) value is all =
-    let parts = and_parts (holds_kind setup k v) (has_kinds setup ks vs) all in
-    and_from (holds_kind setup k v) (has_kinds setup ks (set vs field value)) parts.0 (has_kinds-set setup ks vs field value is parts.1)
+pub has_kinds-set : (kinds : List Kind) (fields : List Value) (field : ℕ) (value : Value) → IsSomeAnd (slice_get kinds field) (λ k. IsTrue (has_kind k value)) → IsTrue (has_kinds kinds fields) → IsTrue (has_kinds kinds (set fields field value))
+has_kinds-set [] fields field value is all = absurd is
+has_kinds-set (k ∷ ks) [] field value is all = all
+has_kinds-set (k ∷ ks) (v ∷ vs) zero value is all = and_from (has_kind k value) (has_kinds ks vs) is (and_parts (has_kind k v) (has_kinds ks vs) all).1
+has_kinds-set (k ∷ ks) (v ∷ vs) (suc field) value is all =
+    let parts = and_parts (has_kind k v) (has_kinds ks vs) all in
+    and_from (has_kind k v) (has_kinds ks (set vs field value)) parts.0 (has_kinds-set ks vs field value is parts.1)

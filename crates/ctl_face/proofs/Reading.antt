@@ -10,9 +10,8 @@ use Rattle.ruby_value.specs.declared.kind.Kind.{Kind}
 use Rattle.ruby_value.specs.declared.message.Message.{Message}
 use Rattle.ruby_value.specs.declared.value.Ref.{Ref}
 use Rattle.ruby_value.specs.declared.value.Value.{Value}
-use Rattle.ctl_face.specs.declared.setup.BufferSetup.{BufferSetup}
-use Rattle.ctl_face.specs.declared.setup.Setup.{Setup}
-use Rattle.ctl_face.specs.declared.setup.TableSetup.{TableSetup}
+use Rattle.ruby_value.specs.declared.setup.BufferSetup.{BufferSetup}
+use Rattle.ruby_value.specs.declared.setup.TableSetup.{TableSetup}
 use Rattle.ctl_face.specs.Ctl.{InboxMessage}
 use Rattle.ctl_face.specs.FieldsIn.{fields_in}
 use Rattle.ruby_value.specs.Cache.{Line}
@@ -21,43 +20,43 @@ use Rattle.ctl_face.specs.Avail.{avail, least_used_in, probe}
 use Rattle.ctl_face.specs.Fits.{FitsLine, FitsMessage, FitsTableAt, IsLawful, IsLine}
 use Rattle.ctl_face.specs.Front.{is_ready, least_message, earlier_message, message_before}
 use Rattle.ctl_face.specs.Get.{get, fields_behind}
-use Rattle.ctl_face.specs.HasKinds.{has_kinds}
-use Rattle.ctl_face.specs.HoldsKind.{holds_kind}
+use Rattle.ruby_value.specs.HasKinds.{has_kinds}
+use Rattle.ruby_value.specs.HasKind.{has_kind}
 use Rattle.ctl_face.specs.LocalView.{LocalView}
-use Rattle.ctl_face.specs.Ready.{peek, front_now}
+use Rattle.ctl_face.specs.Ready.{required_front, front_now}
 use Rattle.ctl_face.specs.Served.{TakesField, TakesMessage}
 use Rattle.ctl_face.specs.Table.{Table, CacheTable, DirectoryTable, TbeTable, ParameterTable}
 use Rattle.ctl_face.proofs.Lines.{All-at}
 use Rattle.ctl_face.proofs.TableCalls.{kinds_in}
 
-field_kind : (setup : Setup) (kinds : List Kind) (fields : List Value) (field : ℕ) (value : Value) → IsTrue (has_kinds setup kinds fields) → slice_get fields field ≡ Some value → IsSomeAnd (slice_get kinds field) (λ k. IsTrue (holds_kind setup k value))
-field_kind setup kinds [] field value all is = cc
-field_kind setup [] (v ∷ vs) field value all is = cc
-field_kind setup (k ∷ ks) (v ∷ vs) zero value all is =
+field_kind : (kinds : List Kind) (fields : List Value) (field : ℕ) (value : Value) → IsTrue (has_kinds kinds fields) → slice_get fields field ≡ Some value → IsSomeAnd (slice_get kinds field) (λ k. IsTrue (has_kind k value))
+field_kind kinds [] field value all is = cc
+field_kind [] (v ∷ vs) field value all is = cc
+field_kind (k ∷ ks) (v ∷ vs) zero value all is =
     let same : v ≡ value = cc in
-    let Q : Value → Type 0 = λ w. IsTrue (holds_kind setup k w) in
-    subst Q same (and_parts (holds_kind setup k v) (has_kinds setup ks vs) all).0
-field_kind setup (k ∷ ks) (v ∷ vs) (suc field) value all is = field_kind setup ks vs field value (and_parts (holds_kind setup k v) (has_kinds setup ks vs) all).1 is
+    let Q : Value → Type 0 = λ w. IsTrue (has_kind k w) in
+    subst Q same (and_parts (has_kind k v) (has_kinds ks vs) all).0
+field_kind (k ∷ ks) (v ∷ vs) (suc field) value all is = field_kind ks vs field value (and_parts (has_kind k v) (has_kinds ks vs) all).1 is
 
 ok_is : {X : Type 0} (o : Option X) (x : X) → ok_or o Reference ≡ Ok x → o ≡ Some x
 ok_is None x is = cc
 ok_is (Some y) x is = cc
 
-read_kind : (setup : Setup) (s : Option TableSetup) (o : Option (List Value)) (field : ℕ) (value : Value) → IfSome o (λ fields. IsTrue (has_kinds setup (unwrap_or (option_map (λ (u : TableSetup). u.kinds) s) []) fields))
-    → ok_or (option_and_then (λ fields. slice_get fields field) o) Reference ≡ Ok value → IsSomeAnd (slice_get (unwrap_or (option_map (λ (u : TableSetup). u.kinds) s) []) field) (λ k. IsTrue (holds_kind setup k value))
-read_kind setup s None field value kinds is = cc
-read_kind setup s (Some fields) field value kinds is =
-    field_kind setup (unwrap_or (option_map (λ (u : TableSetup). u.kinds) s) []) fields field value kinds (ok_is (slice_get fields field) value is)
+read_kind : (s : Option TableSetup) (o : Option (List Value)) (field : ℕ) (value : Value) → IfSome o (λ fields. IsTrue (has_kinds (unwrap_or (option_map (λ (u : TableSetup). u.kinds) s) []) fields))
+    → ok_or (option_and_then (λ fields. slice_get fields field) o) Reference ≡ Ok value → IsSomeAnd (slice_get (unwrap_or (option_map (λ (u : TableSetup). u.kinds) s) []) field) (λ k. IsTrue (has_kind k value))
+read_kind s None field value kinds is = cc
+read_kind s (Some fields) field value kinds is =
+    field_kind (unwrap_or (option_map (λ (u : TableSetup). u.kinds) s) []) fields field value kinds (ok_is (slice_get fields field) value is)
 
-fields_fit : (setup : Setup) (line : ℕ) (s : Option TableSetup) (t : Option Table) → FitsTableAt setup s t → IfSome (option_and_then (λ (u : Table). fields_in u line) t) (λ fields. IsTrue (has_kinds setup (unwrap_or (option_map (λ (u : TableSetup). u.kinds) s) []) fields))
-fields_fit setup line s None fits = tt
-fields_fit setup line None (Some t) fits = absurd fits
-fields_fit setup line (Some s) (Some t) fits = kinds_in setup s.kinds t line fits.lines
+fields_fit : (line : ℕ) (s : Option TableSetup) (t : Option Table) → FitsTableAt s t → IfSome (option_and_then (λ (u : Table). fields_in u line) t) (λ fields. IsTrue (has_kinds (unwrap_or (option_map (λ (u : TableSetup). u.kinds) s) []) fields))
+fields_fit line s None fits = tt
+fields_fit line None (Some t) fits = absurd fits
+fields_fit line (Some s) (Some t) fits = kinds_in s.kinds t line fits.lines
 
 pub get_kind : (v : LocalView) (r : Ref) (field : ℕ) (value : Value) → IsLawful v → get v r field ≡ Ok value → TakesField v r.table field value
 get_kind v r field value lawful is =
-    read_kind v.setup (slice_get v.setup.tables r.table) (fields_behind v r) field value
-    (fields_fit v.setup r.line (slice_get v.setup.tables r.table) (slice_get v.ctl.tables r.table) (lawful.fits.tables r.table)) is
+    read_kind (slice_get v.machine.tables r.table) (fields_behind v r) field value
+    (fields_fit r.line (slice_get v.machine.tables r.table) (slice_get v.ctl.tables r.table) (lawful.fits.tables.each r.table)) is
 
 -- the least message is one of them
 module _ (P : Message → Type 0) where
@@ -71,20 +70,20 @@ module _ (P : Message → Type 0) where
         | Some o ↦ λ there. cond_both (message_before o m.message) o m.message P (λ _. there) (λ _. here)
       ] rest
 
-message_kinds_fit : (setup : Setup) (s : Option BufferSetup) (fields : List Value) → IsSomeAnd s (λ (b : BufferSetup). IsTrue (has_kinds setup b.kinds fields)) → IsTrue (has_kinds setup (unwrap_or (option_map (λ (b : BufferSetup). b.kinds) s) []) fields)
-message_kinds_fit setup None fields here = absurd here
-message_kinds_fit setup (Some b) fields here = here
+message_kinds_fit : (s : Option BufferSetup) (fields : List Value) → IsSomeAnd s (λ (b : BufferSetup). IsTrue (has_kinds b.kinds fields)) → IsTrue (has_kinds (unwrap_or (option_map (λ (b : BufferSetup). b.kinds) s) []) fields)
+message_kinds_fit None fields here = absurd here
+message_kinds_fit (Some b) fields here = here
 
 peeked : (P : Message → Type 0) (o : Option Message) (m : Message) → IfSome o P → ok_or o Front ≡ Ok m → P m
 peeked P None m here is = cc
 peeked P (Some n) m here is = let same : n ≡ m = cc in subst P same here
 
-pub peek_kinds : (v : LocalView) (buffer : ℕ) (m : Message) → IsLawful v → peek v buffer ≡ Ok m → TakesMessage v m.buffer m.fields
+pub peek_kinds : (v : LocalView) (buffer : ℕ) (m : Message) → IsLawful v → required_front v buffer ≡ Ok m → TakesMessage v m.buffer m.fields
 peek_kinds v buffer m lawful is =
     let P : Message → Type 0 = λ n. TakesMessage v n.buffer n.fields in
-    let fit = λ (o : InboxMessage) (f : FitsMessage v.setup v.ctl.sent o). message_kinds_fit v.setup (slice_get v.setup.buffers o.message.buffer) o.message.fields f.fields in
-    let all = All-weaker (FitsMessage v.setup v.ctl.sent) (λ (o : InboxMessage). P o.message) fit v.ctl.inbox lawful.fits.messages in
-    peeked P (front_now v buffer) m (least_holds P (filter (is_ready buffer v.now) v.ctl.inbox) (All-filter (is_ready buffer v.now) (λ (o : InboxMessage). P o.message) v.ctl.inbox all)) is
+    let fit = λ (o : InboxMessage) (f : FitsMessage v.machine.buffers v.actor.me v.ctl.mail.sent o). message_kinds_fit (slice_get v.machine.buffers o.message.buffer) o.message.fields f.fields in
+    let all = All-weaker (FitsMessage v.machine.buffers v.actor.me v.ctl.mail.sent) (λ (o : InboxMessage). P o.message) fit v.ctl.mail.inbox lawful.fits.mail.messages in
+    peeked P (front_now v buffer) m (least_holds P (filter (is_ready buffer v.now) v.ctl.mail.inbox) (All-filter (is_ready buffer v.now) (λ (o : InboxMessage). P o.message) v.ctl.mail.inbox all)) is
 
 of_buffer : (buffer now : ℕ) (o : InboxMessage) → is_ready buffer now o ≡ true → o.message.buffer ≡ buffer
 of_buffer buffer now o is =
@@ -92,28 +91,28 @@ of_buffer buffer now o is =
     (and_parts (eqb o.message.buffer buffer) (nat_le o.message.arrival now)
     (and_parts (eqb o.message.buffer buffer && nat_le o.message.arrival now) (is_none o.waiting) is).0).0
 
-pub peek_buffer : (v : LocalView) (buffer : ℕ) (m : Message) → peek v buffer ≡ Ok m → m.buffer ≡ buffer
+pub peek_buffer : (v : LocalView) (buffer : ℕ) (m : Message) → required_front v buffer ≡ Ok m → m.buffer ≡ buffer
 peek_buffer v buffer m is =
     let P : Message → Type 0 = λ n. n.buffer ≡ buffer in
-    let ready = filter (is_ready buffer v.now) v.ctl.inbox in
-    let all = All-weaker (λ (o : InboxMessage). is_ready buffer v.now o ≡ true) (λ (o : InboxMessage). P o.message) (of_buffer buffer v.now) ready (filter_passes (is_ready buffer v.now) v.ctl.inbox) in
+    let ready = filter (is_ready buffer v.now) v.ctl.mail.inbox in
+    let all = All-weaker (λ (o : InboxMessage). is_ready buffer v.now o ≡ true) (λ (o : InboxMessage). P o.message) (of_buffer buffer v.now) ready (filter_passes (is_ready buffer v.now) v.ctl.mail.inbox) in
     peeked P (front_now v buffer) m (least_holds P ready all) is
 
 -- the line that a cache names for replacement is one
-first_line : (setup : Setup) (kinds : List Kind) (lines : List Line) (l : ℕ) → All (FitsLine setup kinds) lines → option_map (λ (x : Line). x.0) (slice_get lines 0) ≡ Some l → IsLine l
-first_line setup kinds [] l all is = cc
-first_line setup kinds (x ∷ xs) l all is =
+first_line : (kinds : List Kind) (lines : List Line) (l : ℕ) → All (FitsLine kinds) lines → option_map (λ (x : Line). x.0) (slice_get lines 0) ≡ Some l → IsLine l
+first_line kinds [] l all is = cc
+first_line kinds (x ∷ xs) l all is =
     let same : x.0 ≡ l = cc in
-    subst IsLine same (All-head (FitsLine setup kinds) x xs all).0
+    subst IsLine same (All-head (FitsLine kinds) x xs all).0
 
-least_used_line : (setup : Setup) (s : Option TableSetup) (t : Option Table) (line l : ℕ) → FitsTableAt setup s t → least_used_in t line ≡ Some l → IsLine l
-least_used_line setup None (Some t) line l fits is = absurd fits
-least_used_line setup s None line l fits is = cc
-least_used_line setup (Some s) (Some (CacheTable cache)) line l fits is =
-    first_line setup s.kinds (set_of cache line) l (All-at (FitsLine setup s.kinds) cache.sets (line % length cache.sets) fits.lines) is
-least_used_line setup (Some s) (Some (DirectoryTable d)) line l fits is = cc
-least_used_line setup (Some s) (Some (TbeTable t)) line l fits is = cc
-least_used_line setup (Some s) (Some (ParameterTable values)) line l fits is = cc
+least_used_line : (s : Option TableSetup) (t : Option Table) (line l : ℕ) → FitsTableAt s t → least_used_in t line ≡ Some l → IsLine l
+least_used_line None (Some t) line l fits is = absurd fits
+least_used_line s None line l fits is = cc
+least_used_line (Some s) (Some (CacheTable cache)) line l fits is =
+    first_line s.kinds (set_of cache line) l (All-at (FitsLine s.kinds) cache.sets (line % length cache.sets) fits.lines) is
+least_used_line (Some s) (Some (DirectoryTable d)) line l fits is = cc
+least_used_line (Some s) (Some (TbeTable t)) line l fits is = cc
+least_used_line (Some s) (Some (ParameterTable values)) line l fits is = cc
 
 probed : (b : Bool) (o : Option ℕ) (l : ℕ) → cond b (Err Probe) (ok_or o Probe) ≡ Ok l → o ≡ Some l
 probed true o l is = cc
@@ -122,5 +121,5 @@ probed false (Some x) l is = cc
 
 pub probe_line : (v : LocalView) (table line l : ℕ) → IsLawful v → probe v table line ≡ Ok l → IsLine l
 probe_line v table line l lawful is =
-    least_used_line v.setup (slice_get v.setup.tables table) (slice_get v.ctl.tables table) line l (lawful.fits.tables table)
+    least_used_line (slice_get v.machine.tables table) (slice_get v.ctl.tables table) line l (lawful.fits.tables.each table)
     (probed (avail v table line) (least_used_in (slice_get v.ctl.tables table) line) l is)

@@ -25,23 +25,22 @@ use Rattle.ruby_value.specs.WithSet.{with_set}
 use Rattle.ruby_value.specs.WithoutLine.{without_line}
 use Rattle.ruby_value.proofs.CacheEdits.{IsRead, cache_without, cache_recent, cache_with_fields, cache_push}
 use Rattle.ruby_value.proofs.CacheSets.{set_is}
-use Rattle.ctl_face.specs.declared.setup.Setup.{Setup}
-use Rattle.ctl_face.specs.declared.setup.TableSetup.{TableSetup}
-use Rattle.ctl_face.specs.declared.setup.TableSize.{TableSize}
-use Rattle.ctl_face.specs.declared.setup.TableSize.TheVariants as size
+use Rattle.ruby_value.specs.declared.setup.TableSetup.{TableSetup}
+use Rattle.ruby_value.specs.declared.setup.TableSize.{TableSize}
+use Rattle.ruby_value.specs.declared.setup.TableSize.TheVariants as size
 use Rattle.ctl_face.specs.Allocate.{allocate, with_line}
 use Rattle.ctl_face.specs.Deallocate.{deallocate, without_line_in}
 use Rattle.ctl_face.specs.FieldsIn.{fields_in, with_fields_in}
 use Rattle.ctl_face.specs.Fits.{FitsLine, FitsLines, FitsTable, IsLawful, IsLine, IsOfSize}
-use Rattle.ctl_face.specs.HasKinds.{has_kinds}
-use Rattle.ctl_face.specs.HoldsKind.{holds_kind}
+use Rattle.ruby_value.specs.HasKinds.{has_kinds}
+use Rattle.ruby_value.specs.HasKind.{has_kind}
 use Rattle.ctl_face.specs.LocalView.{LocalView}
 use Rattle.ctl_face.specs.OfMachine.{initial_fields, field_kinds}
 use Rattle.ctl_face.specs.Set.{written, set as set_field}
 use Rattle.ctl_face.specs.Table.{Table, CacheTable, DirectoryTable, TbeTable, ParameterTable}
 use Rattle.ctl_face.specs.Touch.{touch, used_line}
 use Rattle.ctl_face.proofs.Cases.{Good, good_ok, good_err, good_cond}
-use Rattle.ctl_face.specs.IsSetup.{IsTableSetup}
+use Rattle.ctl_face.specs.IsMachine.{IsTableSetup}
 use Rattle.ctl_face.proofs.Lines.{All-found, All-removed, All-written, All-at, lookup_holds, has_kinds-set}
 use Rattle.ctl_face.proofs.Maps.{insert_keeps, remove_keeps}
 use Rattle.ctl_face.proofs.Tables.{changed_keeps}
@@ -81,14 +80,14 @@ is_read cache line ok =
       read = set_is cache line ∙ get_or_default cache.sets (line % length cache.sets) [] (set_of cache line) inside;
     }
 
-pub cache_fits : (setup : Setup) (s : TableSetup) (cache : Cache) (line : ℕ) (new : List Line) → (IsCache cache → IsCache (with_set cache line new)) → All (FitsLine setup s.kinds) new → FitsTable setup s (CacheTable cache) → FitsTable setup s (CacheTable (with_set cache line new))
-cache_fits setup s cache line new keeps all fits = record {
+pub cache_fits : (s : TableSetup) (cache : Cache) (line : ℕ) (new : List Line) → (IsCache cache → IsCache (with_set cache line new)) → All (FitsLine s.kinds) new → FitsTable s (CacheTable cache) → FitsTable s (CacheTable (with_set cache line new))
+cache_fits s cache line new keeps all fits = record {
   size = cache_of_size s.size s.initial cache (with_set cache line new) keeps refl (length-set cache.sets (line % length cache.sets) new) fits.size;
-  lines = All-set (All (FitsLine setup s.kinds)) cache.sets (line % length cache.sets) new all fits.lines;
+  lines = All-set (All (FitsLine s.kinds)) cache.sets (line % length cache.sets) new all fits.lines;
 }
 
-set_fits : (setup : Setup) (s : TableSetup) (cache : Cache) (line : ℕ) → FitsTable setup s (CacheTable cache) → All (FitsLine setup s.kinds) (set_of cache line)
-set_fits setup s cache line fits = All-at (FitsLine setup s.kinds) cache.sets (line % length cache.sets) fits.lines
+set_fits : (s : TableSetup) (cache : Cache) (line : ℕ) → FitsTable s (CacheTable cache) → All (FitsLine s.kinds) (set_of cache line)
+set_fits s cache line fits = All-at (FitsLine s.kinds) cache.sets (line % length cache.sets) fits.lines
 
 listed : (P : Line → Type 0) (line : ℕ) (o : Option (List Value)) → IfSome o (λ fields. P (line, fields)) → All P (option_to_list (option_map (λ fields. (line, fields)) o))
 listed P line None here = All-nil P
@@ -99,53 +98,53 @@ has_room true n ways absent room = cc
 has_room false n ways absent room = grind arith
 
 -- another set of the same cache
-module _ (setup : Setup) (s : TableSetup) (cache : Cache) (line : ℕ) (fits : FitsTable setup s (CacheTable cache)) where
-  without_fits : FitsTable setup s (CacheTable (with_set cache line (without_line (set_of cache line) line)))
+module _ (s : TableSetup) (cache : Cache) (line : ℕ) (fits : FitsTable s (CacheTable cache)) where
+  without_fits : FitsTable s (CacheTable (with_set cache line (without_line (set_of cache line) line)))
   without_fits =
-      cache_fits setup s cache line (without_line (set_of cache line) line)
+      cache_fits s cache line (without_line (set_of cache line) line)
       (λ ok. cache_without cache line (line % length cache.sets) (set_of cache line) (is_read cache line ok) ok (without_line (set_of cache line) line) refl)
-      (All-removed (FitsLine setup s.kinds) (λ l. eqb l line) (set_of cache line) (set_fits setup s cache line fits)) fits
+      (All-removed (FitsLine s.kinds) (λ l. eqb l line) (set_of cache line) (set_fits s cache line fits)) fits
 
-  recent_fits : FitsTable setup s (CacheTable (with_set cache line (made_recent (set_of cache line) line)))
+  recent_fits : FitsTable s (CacheTable (with_set cache line (made_recent (set_of cache line) line)))
   recent_fits =
-      let all = set_fits setup s cache line fits in
-      let P = FitsLine setup s.kinds in
+      let all = set_fits s cache line fits in
+      let P = FitsLine s.kinds in
       let found = lookup_holds P line (set_of cache line) all in
       let rest = All-removed P (λ l. eqb l line) (set_of cache line) all in
-      cache_fits setup s cache line (made_recent (set_of cache line) line)
+      cache_fits s cache line (made_recent (set_of cache line) line)
       (λ ok. cache_recent cache line (line % length cache.sets) (set_of cache line) (is_read cache line ok) ok (made_recent (set_of cache line) line) refl)
       (All-append P (without_line (set_of cache line) line) (option_to_list (option_map (λ fields. (line, fields)) (fields_of (set_of cache line) line))) rest (listed P line (fields_of (set_of cache line) line) found)) fits
 
-  written_fits : (fields : List Value) → IsTrue (has_kinds setup s.kinds fields) → FitsTable setup s (CacheTable (with_set cache line (with_fields (set_of cache line) line fields)))
+  written_fits : (fields : List Value) → IsTrue (has_kinds s.kinds fields) → FitsTable s (CacheTable (with_set cache line (with_fields (set_of cache line) line fields)))
   written_fits fields here =
-      cache_fits setup s cache line (with_fields (set_of cache line) line fields)
+      cache_fits s cache line (with_fields (set_of cache line) line fields)
       (λ ok. cache_with_fields cache line (line % length cache.sets) (set_of cache line) (is_read cache line ok) ok (with_fields (set_of cache line) line fields) fields refl)
-      (All-written (FitsLine setup s.kinds) (λ l. eqb l line) fields (λ l is. (is.0, here)) (set_of cache line) (set_fits setup s cache line fits)) fits
+      (All-written (FitsLine s.kinds) (λ l. eqb l line) fields (λ l is. (is.0, here)) (set_of cache line) (set_fits s cache line fits)) fits
 
-  pushed_fits : (fields : List Value) → IsLine line → IsTrue (has_kinds setup s.kinds fields) → is_some (fields_of (set_of cache line) line) ≡ false → available cache line ≡ true → FitsTable setup s (CacheTable (with_set cache line (set_of cache line ++ (line, fields) ∷ [])))
+  pushed_fits : (fields : List Value) → IsLine line → IsTrue (has_kinds s.kinds fields) → is_some (fields_of (set_of cache line) line) ≡ false → available cache line ≡ true → FitsTable s (CacheTable (with_set cache line (set_of cache line ++ (line, fields) ∷ [])))
   pushed_fits fields is here absent room =
-      cache_fits setup s cache line (set_of cache line ++ (line, fields) ∷ [])
+      cache_fits s cache line (set_of cache line ++ (line, fields) ∷ [])
       (λ ok. cache_push cache line (line % length cache.sets) (set_of cache line) (is_read cache line ok) ok (set_of cache line ++ (line, fields) ∷ []) fields absent (has_room (is_some (fields_of (set_of cache line) line)) (length (set_of cache line)) cache.ways absent room) refl)
-      (All-push (FitsLine setup s.kinds) (set_of cache line) (line, fields) (set_fits setup s cache line fits) (is, here)) fits
+      (All-push (FitsLine s.kinds) (set_of cache line) (line, fields) (set_fits s cache line fits) (is, here)) fits
 
-abbrev KindsAre : Setup → List Kind → List Value → Type 0
-KindsAre setup kinds fields = IsTrue (has_kinds setup kinds fields)
+abbrev KindsAre : List Kind → List Value → Type 0
+KindsAre kinds fields = IsTrue (has_kinds kinds fields)
 
 -- the fields of a line that is there have their kinds
-module _ (setup : Setup) (kinds : List Kind) where
-  second : (line : ℕ) (o : Option (List Value)) → IfSome o (λ fields. FitsLine setup kinds (line, fields)) → IfSome o (KindsAre setup kinds)
+module _ (kinds : List Kind) where
+  second : (line : ℕ) (o : Option (List Value)) → IfSome o (λ fields. FitsLine kinds (line, fields)) → IfSome o (KindsAre kinds)
   second line None here = tt
   second line (Some fields) here = here.1
 
-  or_initial : (line : ℕ) (o : Option (List Value)) (initial : List Value) → KindsAre setup kinds initial → IfSome o (λ fields. FitsLine setup kinds (line, fields)) → KindsAre setup kinds (unwrap_or o initial)
+  or_initial : (line : ℕ) (o : Option (List Value)) (initial : List Value) → KindsAre kinds initial → IfSome o (λ fields. FitsLine kinds (line, fields)) → KindsAre kinds (unwrap_or o initial)
   or_initial line None initial first here = first
   or_initial line (Some fields) initial first here = here.1
 
-  pub kinds_in : (t : Table) (line : ℕ) → FitsLines setup kinds t → IfSome (fields_in t line) (KindsAre setup kinds)
-  kinds_in (CacheTable cache) line fits = second line (fields_of (set_of cache line) line) (lookup_holds (FitsLine setup kinds) line (set_of cache line) (All-at (FitsLine setup kinds) cache.sets (line % length cache.sets) fits))
+  pub kinds_in : (t : Table) (line : ℕ) → FitsLines kinds t → IfSome (fields_in t line) (KindsAre kinds)
+  kinds_in (CacheTable cache) line fits = second line (fields_of (set_of cache line) line) (lookup_holds (FitsLine kinds) line (set_of cache line) (All-at (FitsLine kinds) cache.sets (line % length cache.sets) fits))
   kinds_in (DirectoryTable directory) line fits = or_initial line (map.get directory.written line) directory.initial fits.0 (fits.1 line)
   kinds_in (TbeTable tbes) line fits = second line (map.get tbes.held line) (fits line)
-  kinds_in (ParameterTable values) line fits = cond_both (eqb line 0) (Some values) None (λ o. IfSome o (KindsAre setup kinds)) (λ _. fits) (λ _. tt)
+  kinds_in (ParameterTable values) line fits = cond_both (eqb line 0) (Some values) None (λ o. IfSome o (KindsAre kinds)) (λ _. fits) (λ _. tt)
 
 -- as many lines as before where the line is there, and at most one more
 inserted_len : (m : map.FinMap nat_cmp (List Value)) (line : ℕ) (fields : List Value) (there : Bool) → map.contains_key m line ≡ there → map.len (map.insert m line fields) ≡ cond there (map.len m) (map.len m + 1)
@@ -156,96 +155,96 @@ removed_len m line =
     let n = map.len m in
     rw (map.len-remove nat_cmp_total m line) (cond_both (map.contains_key m line) (n - 1) n (λ k. k ≤ n) (λ _. omega arith) (λ _. omega arith))
 
-tbes_fit : (setup : Setup) (s : TableSetup) (tbes : Tbes) (line : ℕ) (fields : List Value) → IsLine line → KindsAre setup s.kinds fields → (map.len tbes.held ≤ tbes.entries → map.len (map.insert tbes.held line fields) ≤ tbes.entries) → FitsTable setup s (TbeTable tbes) → FitsTable setup s (TbeTable (record tbes { held = map.insert tbes.held line fields }))
-tbes_fit setup s tbes line fields is here room fits = record {
+tbes_fit : (s : TableSetup) (tbes : Tbes) (line : ℕ) (fields : List Value) → IsLine line → KindsAre s.kinds fields → (map.len tbes.held ≤ tbes.entries → map.len (map.insert tbes.held line fields) ≤ tbes.entries) → FitsTable s (TbeTable tbes) → FitsTable s (TbeTable (record tbes { held = map.insert tbes.held line fields }))
+tbes_fit s tbes line fields is here room fits = record {
   size = tbes_of_size s.size s.initial tbes (record tbes { held = map.insert tbes.held line fields }) refl room fits.size;
-  lines = insert_keeps (λ l f. FitsLine setup s.kinds (l, f)) tbes.held line fields fits.lines (is, here);
+  lines = insert_keeps (λ l f. FitsLine s.kinds (l, f)) tbes.held line fields fits.lines (is, here);
 }
 
-with_fields_fits : (setup : Setup) (s : TableSetup) (t : Table) (line : ℕ) (old fields : List Value) → IsLine line → fields_in t line ≡ Some old → KindsAre setup s.kinds fields → FitsTable setup s t → FitsTable setup s (with_fields_in t line fields)
-with_fields_fits setup s (CacheTable cache) line old fields is there here fits = written_fits setup s cache line fits fields here
-with_fields_fits setup s (DirectoryTable directory) line old fields is there here fits = record {
+with_fields_fits : (s : TableSetup) (t : Table) (line : ℕ) (old fields : List Value) → IsLine line → fields_in t line ≡ Some old → KindsAre s.kinds fields → FitsTable s t → FitsTable s (with_fields_in t line fields)
+with_fields_fits s (CacheTable cache) line old fields is there here fits = written_fits s cache line fits fields here
+with_fields_fits s (DirectoryTable directory) line old fields is there here fits = record {
   size = directory_of_size s.size s.initial directory (record directory { written = map.insert directory.written line fields }) refl fits.size;
-  lines = (fits.lines.0, insert_keeps (λ l f. FitsLine setup s.kinds (l, f)) directory.written line fields fits.lines.1 (is, here));
+  lines = (fits.lines.0, insert_keeps (λ l f. FitsLine s.kinds (l, f)) directory.written line fields fits.lines.1 (is, here));
 }
-with_fields_fits setup s (TbeTable tbes) line old fields is there here fits =
+with_fields_fits s (TbeTable tbes) line old fields is there here fits =
     let same = inserted_len tbes.held line fields true (ap is_some there) in
-    tbes_fit setup s tbes line fields is here (λ small. omega arith) fits
-with_fields_fits setup s (ParameterTable values) line old fields is there here fits = record {
+    tbes_fit s tbes line fields is here (λ small. omega arith) fits
+with_fields_fits s (ParameterTable values) line old fields is there here fits = record {
   size = parameters_of_size s.size s.initial values fields fits.size;
   lines = here;
 }
 
-set_in_table : (setup : Setup) (s : TableSetup) (t : Table) (line field : ℕ) (value : Value) → IsSomeAnd (slice_get s.kinds field) (λ k. IsTrue (holds_kind setup k value)) → IsLine line → FitsTable setup s t → (o : Option (List Value)) → fields_in t line ≡ o → Good (FitsTable setup s) (written t line field value o)
-set_in_table setup s t line field value takes is fits None there = good_err (FitsTable setup s) Reference
-set_in_table setup s t line field value takes is fits (Some old) there =
-    let Q : Option (List Value) → Type 0 = λ o. IfSome o (KindsAre setup s.kinds) in
-    let old_kinds = subst Q there (kinds_in setup s.kinds t line fits.lines) in
+set_in_table : (s : TableSetup) (t : Table) (line field : ℕ) (value : Value) → IsSomeAnd (slice_get s.kinds field) (λ k. IsTrue (has_kind k value)) → IsLine line → FitsTable s t → (o : Option (List Value)) → fields_in t line ≡ o → Good (FitsTable s) (written t line field value o)
+set_in_table s t line field value takes is fits None there = good_err (FitsTable s) Reference
+set_in_table s t line field value takes is fits (Some old) there =
+    let Q : Option (List Value) → Type 0 = λ o. IfSome o (KindsAre s.kinds) in
+    let old_kinds = subst Q there (kinds_in s.kinds t line fits.lines) in
     let new = set old field value in
-    good_ok (FitsTable setup s) (with_fields_in t line new) (with_fields_fits setup s t line old new is there (has_kinds-set setup s.kinds old field value takes old_kinds) fits)
+    good_ok (FitsTable s) (with_fields_in t line new) (with_fields_fits s t line old new is there (has_kinds-set s.kinds old field value takes old_kinds) fits)
 
-pub set_keeps : (v : LocalView) (r : Ref) (field : ℕ) (value : Value) → IsSomeAnd (slice_get (field_kinds v.setup r.table) field) (λ k. IsTrue (holds_kind v.setup k value)) → IsLine r.line → IsLawful v → Good IsLawful (set_field v r field value)
+pub set_keeps : (v : LocalView) (r : Ref) (field : ℕ) (value : Value) → IsSomeAnd (slice_get (field_kinds v.machine r.table) field) (λ k. IsTrue (has_kind k value)) → IsLine r.line → IsLawful v → Good IsLawful (set_field v r field value)
 set_keeps v r field value takes is lawful =
     changed_keeps v lawful r.table (λ t. written t r.line field value (fields_in t r.line))
     (λ s t there fits.
-    let Q : Option TableSetup → Type 0 = λ o. IsSomeAnd (slice_get (unwrap_or (option_map (λ (u : TableSetup). u.kinds) o) []) field) (λ k. IsTrue (holds_kind v.setup k value)) in
-    set_in_table v.setup s t r.line field value (subst Q there takes) is fits (fields_in t r.line) refl)
+    let Q : Option TableSetup → Type 0 = λ o. IsSomeAnd (slice_get (unwrap_or (option_map (λ (u : TableSetup). u.kinds) o) []) field) (λ k. IsTrue (has_kind k value)) in
+    set_in_table s t r.line field value (subst Q there takes) is fits (fields_in t r.line) refl)
 
-allocated : (setup : Setup) (s : TableSetup) (t : Table) (line : ℕ) (fields : List Value) → IsLine line → KindsAre setup s.kinds fields → FitsTable setup s t → Good (FitsTable setup s) (with_line fields line t)
-allocated setup s (CacheTable cache) line fields is here fits =
+allocated : (s : TableSetup) (t : Table) (line : ℕ) (fields : List Value) → IsLine line → KindsAre s.kinds fields → FitsTable s t → Good (FitsTable s) (with_line fields line t)
+allocated s (CacheTable cache) line fields is here fits =
     let there = is_some (fields_of (set_of cache line) line) in
     let new = CacheTable (with_set cache line (set_of cache line ++ (line, fields) ∷ [])) in
-    good_cond (FitsTable setup s) there (Err Present) (cond (not (available cache line)) (Err Full) (Ok new)) (λ _. good_err (FitsTable setup s) Present)
-    (λ absent. good_cond (FitsTable setup s) (not (available cache line)) (Err Full) (Ok new) (λ _. good_err (FitsTable setup s) Full)
-    (λ room. good_ok (FitsTable setup s) new (pushed_fits setup s cache line fits fields is here absent (not-false (available cache line) room))))
-allocated setup s (DirectoryTable directory) line fields is here fits = good_ok (FitsTable setup s) (DirectoryTable directory) fits
-allocated setup s (TbeTable tbes) line fields is here fits =
+    good_cond (FitsTable s) there (Err Present) (cond (not (available cache line)) (Err Full) (Ok new)) (λ _. good_err (FitsTable s) Present)
+    (λ absent. good_cond (FitsTable s) (not (available cache line)) (Err Full) (Ok new) (λ _. good_err (FitsTable s) Full)
+    (λ room. good_ok (FitsTable s) new (pushed_fits s cache line fits fields is here absent (not-false (available cache line) room))))
+allocated s (DirectoryTable directory) line fields is here fits = good_ok (FitsTable s) (DirectoryTable directory) fits
+allocated s (TbeTable tbes) line fields is here fits =
     let there = map.contains_key tbes.held line in
     let full = nat_le tbes.entries (map.len tbes.held) in
     let new = TbeTable (record tbes { held = map.insert tbes.held line fields }) in
-    good_cond (FitsTable setup s) there (Err Present) (cond full (Err Full) (Ok new)) (λ _. good_err (FitsTable setup s) Present)
-    (λ absent. good_cond (FitsTable setup s) full (Err Full) (Ok new) (λ _. good_err (FitsTable setup s) Full)
-    (λ room. good_ok (FitsTable setup s) new
+    good_cond (FitsTable s) there (Err Present) (cond full (Err Full) (Ok new)) (λ _. good_err (FitsTable s) Present)
+    (λ absent. good_cond (FitsTable s) full (Err Full) (Ok new) (λ _. good_err (FitsTable s) Full)
+    (λ room. good_ok (FitsTable s) new
     (let more = inserted_len tbes.held line fields false absent in
     let below = leb-false tbes.entries (map.len tbes.held) room in
-    tbes_fit setup s tbes line fields is here (λ small. omega arith) fits)))
-allocated setup s (ParameterTable values) line fields is here fits = good_ok (FitsTable setup s) (ParameterTable values) fits
+    tbes_fit s tbes line fields is here (λ small. omega arith) fits)))
+allocated s (ParameterTable values) line fields is here fits = good_ok (FitsTable s) (ParameterTable values) fits
 
 pub allocate_keeps : (v : LocalView) (table line : ℕ) → IsLine line → IsLawful v → Good IsLawful (allocate v table line)
 allocate_keeps v table line is lawful =
-    changed_keeps v lawful table (with_line (initial_fields v.setup table) line)
+    changed_keeps v lawful table (with_line (initial_fields v.machine table) line)
     (λ s t there fits.
-    let P : Option TableSetup → Type 0 = λ o. IfSome o (IsTableSetup v.setup) in
-    let Q : List Value → Type 0 = λ fields. Good (FitsTable v.setup s) (with_line fields line t) in
-    let same : initial_fields v.setup table ≡ s.initial = ap (λ o. unwrap_or (option_map (λ (u : TableSetup). u.initial) o) []) there in
-    subst Q (sym same) (allocated v.setup s t line s.initial is (subst P there (All-found (IsTableSetup v.setup) v.setup.tables table lawful.setup.tables)).initial fits))
+    let P : Option TableSetup → Type 0 = λ o. IfSome o (IsTableSetup) in
+    let Q : List Value → Type 0 = λ fields. Good (FitsTable s) (with_line fields line t) in
+    let same : initial_fields v.machine table ≡ s.initial = ap (λ o. unwrap_or (option_map (λ (u : TableSetup). u.initial) o) []) there in
+    subst Q (sym same) (allocated s t line s.initial is (subst P there (All-found (IsTableSetup) v.machine.tables table lawful.machine.tables)).initial fits))
 
-deallocated : (setup : Setup) (s : TableSetup) (t : Table) (line : ℕ) → FitsTable setup s t → Good (FitsTable setup s) (without_line_in line t)
-deallocated setup s (CacheTable cache) line fits =
+deallocated : (s : TableSetup) (t : Table) (line : ℕ) → FitsTable s t → Good (FitsTable s) (without_line_in line t)
+deallocated s (CacheTable cache) line fits =
     let new = CacheTable (with_set cache line (without_line (set_of cache line) line)) in
-    good_cond (FitsTable setup s) (is_some (fields_of (set_of cache line) line)) (Ok new) (Err Absent) (λ _. good_ok (FitsTable setup s) new (without_fits setup s cache line fits)) (λ _. good_err (FitsTable setup s) Absent)
-deallocated setup s (DirectoryTable directory) line fits = good_ok (FitsTable setup s) (DirectoryTable directory) fits
-deallocated setup s (TbeTable tbes) line fits =
+    good_cond (FitsTable s) (is_some (fields_of (set_of cache line) line)) (Ok new) (Err Absent) (λ _. good_ok (FitsTable s) new (without_fits s cache line fits)) (λ _. good_err (FitsTable s) Absent)
+deallocated s (DirectoryTable directory) line fits = good_ok (FitsTable s) (DirectoryTable directory) fits
+deallocated s (TbeTable tbes) line fits =
     let held = map.remove tbes.held line in
     let new = TbeTable (record tbes { held = held }) in
     let fewer = removed_len tbes.held line in
-    good_cond (FitsTable setup s) (map.contains_key tbes.held line) (Ok new) (Err Absent)
-    (λ _. good_ok (FitsTable setup s) new (record {
+    good_cond (FitsTable s) (map.contains_key tbes.held line) (Ok new) (Err Absent)
+    (λ _. good_ok (FitsTable s) new (record {
       size = tbes_of_size s.size s.initial tbes (record tbes { held = held }) refl (λ small. omega arith) fits.size;
-      lines = remove_keeps (λ l f. FitsLine setup s.kinds (l, f)) tbes.held line fits.lines;
-    })) (λ _. good_err (FitsTable setup s) Absent)
-deallocated setup s (ParameterTable values) line fits = good_ok (FitsTable setup s) (ParameterTable values) fits
+      lines = remove_keeps (λ l f. FitsLine s.kinds (l, f)) tbes.held line fits.lines;
+    })) (λ _. good_err (FitsTable s) Absent)
+deallocated s (ParameterTable values) line fits = good_ok (FitsTable s) (ParameterTable values) fits
 
 pub deallocate_keeps : (v : LocalView) (table line : ℕ) → IsLawful v → Good IsLawful (deallocate v table line)
-deallocate_keeps v table line lawful = changed_keeps v lawful table (without_line_in line) (λ s t there fits. deallocated v.setup s t line fits)
+deallocate_keeps v table line lawful = changed_keeps v lawful table (without_line_in line) (λ s t there fits. deallocated s t line fits)
 
-touched : (setup : Setup) (s : TableSetup) (t : Table) (line : ℕ) → FitsTable setup s t → Good (FitsTable setup s) (used_line line t)
-touched setup s (CacheTable cache) line fits =
+touched : (s : TableSetup) (t : Table) (line : ℕ) → FitsTable s t → Good (FitsTable s) (used_line line t)
+touched s (CacheTable cache) line fits =
     let new = CacheTable (with_set cache line (made_recent (set_of cache line) line)) in
-    good_cond (FitsTable setup s) (is_some (fields_of (set_of cache line) line)) (Ok new) (Err Absent) (λ _. good_ok (FitsTable setup s) new (recent_fits setup s cache line fits)) (λ _. good_err (FitsTable setup s) Absent)
-touched setup s (DirectoryTable directory) line fits = good_ok (FitsTable setup s) (DirectoryTable directory) fits
-touched setup s (TbeTable tbes) line fits = good_ok (FitsTable setup s) (TbeTable tbes) fits
-touched setup s (ParameterTable values) line fits = good_ok (FitsTable setup s) (ParameterTable values) fits
+    good_cond (FitsTable s) (is_some (fields_of (set_of cache line) line)) (Ok new) (Err Absent) (λ _. good_ok (FitsTable s) new (recent_fits s cache line fits)) (λ _. good_err (FitsTable s) Absent)
+touched s (DirectoryTable directory) line fits = good_ok (FitsTable s) (DirectoryTable directory) fits
+touched s (TbeTable tbes) line fits = good_ok (FitsTable s) (TbeTable tbes) fits
+touched s (ParameterTable values) line fits = good_ok (FitsTable s) (ParameterTable values) fits
 
 pub touch_keeps : (v : LocalView) (table line : ℕ) → IsLawful v → Good IsLawful (touch v table line)
-touch_keeps v table line lawful = changed_keeps v lawful table (used_line line) (λ s t there fits. touched v.setup s t line fits)
+touch_keeps v table line lawful = changed_keeps v lawful table (used_line line) (λ s t there fits. touched s t line fits)

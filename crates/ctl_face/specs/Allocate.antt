@@ -29,4 +29,4 @@ with_line fields line (TbeTable tbes) =
 with_line fields line (ParameterTable values) = Ok (ParameterTable values)
 
 abbrev pub allocate : LocalView → ℕ → ℕ → Result LocalView Fault
-allocate v table line = changed_table v table (with_line (initial_fields v.setup table) line)
+allocate v table line = changed_table v table (with_line (initial_fields v.machine table) line)

@@ -4,7 +4,6 @@
 use Rattle.std.specs.Prelude.{ℕ, Bool, true, false, Option, None, Some, List, ◌∷◌, ◌++◌, Result, Ok, Err, nat_le, nat_lt, slice_set, if◌then◌else◌}
 use Rattle.std.specs.FinMap as map
 use Rattle.std.specs.List.{filter}
-use Rattle.std.specs.Option.{option_and_then}
 use Rattle.ruby_value.specs.declared.asked.Answer.{Answer}
 use Rattle.ruby_value.specs.declared.asked.Ask.{Ask}
 use Rattle.ruby_value.specs.declared.asked.Ask.TheVariants.{Load, Store, Fetch}
@@ -12,6 +11,7 @@ use Rattle.ruby_value.specs.declared.asked.Asked.{Asked}
 use Rattle.ruby_value.specs.declared.fault.Fault.{Fault}
 use Rattle.ruby_value.specs.declared.fault.Fault.TheVariants.{Callback}
 use Rattle.ruby_value.specs.declared.value.Block.{Block}
+use Rattle.ctl_face.specs.Between.{outstanding_for}
 use Rattle.ctl_face.specs.Ctl.{Requests}
 use Rattle.ctl_face.specs.LocalView.{LocalView}
 
@@ -22,7 +22,7 @@ is_store Fetch = false
 
 -- the outstanding request of a line
 abbrev pub request_for : LocalView → ℕ → Option Asked
-request_for v line = option_and_then (λ (r : Requests). map.get r.outstanding line) v.ctl.sequencer
+request_for v line = outstanding_for v.ctl line
 
 -- the answers with one more, after those of its line
 abbrev pub with_answer : List Answer → Answer → List Answer

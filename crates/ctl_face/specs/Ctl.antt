@@ -1,6 +1,6 @@
--- A controller as plain data: its tables, the states of its built-in map, the messages that were sent to it and not
--- consumed, the cycles at which it must wake, its sequencer's requests and answers, the counts that its sends go by,
--- and whether it has stopped. Each list and map here has one value for what it stands for.
+-- A controller as plain data: its tables, the states of its built-in map, its mail, its sequencer's requests and answers, and
+-- whether it has stopped. Its mail is the messages that were sent to it and not consumed, the cycles at which it must wake,
+-- and the counts that its sends go by. Each list and map here has one value for what it stands for.
 -- Numbers of messages, marks and counts are this project's own; tables and buffers are those of gem5's Ruby.
 use Rattle.std.specs.Prelude.{ℕ, Bool, List, Option}
 use Rattle.std.specs.Ordering.{nat_cmp}
@@ -8,6 +8,7 @@ use Rattle.std.specs.FinMap as map
 use Rattle.ruby_value.specs.declared.asked.Answer.{Answer}
 use Rattle.ruby_value.specs.declared.asked.Asked.{Asked}
 use Rattle.ruby_value.specs.declared.message.Message.{Message}
+use Rattle.ctl_face.specs.Lasts.{Lasts}
 use Rattle.ctl_face.specs.Table.{Table}
 
 -- a message in an inbox, and the line number under which it was taken aside, if it was
@@ -21,21 +22,25 @@ pub record Requests : Type 0 where
   pub outstanding : map.FinMap nat_cmp Asked
   pub finished : List Answer
 
--- Tables stand by their number within the machine. The inbox has ascending message numbers and the marks ascend, so
--- that each is one list alone. `states` has the lines whose state was set. `sequencer` is there where the machine has
--- one. Of the counts, `fired` and `copies` are those of this cycle. `network_last` has, by virtual network, for each
--- receiver the arrival of the last copy to it, where the network is ordered, and `local_last` the arrival of the last
--- copy in each of the controller's own ordered buffers; what isn't there counts as 0.
+-- The inbox has ascending message numbers and the marks ascend, so that each is one list alone. `sent` counts the messages
+-- that the controller has sent, `drawn` the words that it has drawn, and `copies` the copies that it has sent in this cycle.
+-- `network_last` has, by virtual network, for each receiver the arrival of the last copy to it, where the network is ordered,
+-- and `local_last` the greatest arrival of what it has sent into each of its own ordered buffers; what isn't there counts as 0.
+pub record Mail : Type 0 where
+  pub inbox : List InboxMessage
+  pub marks : List ℕ
+  pub sent : ℕ
+  pub drawn : ℕ
+  pub copies : ℕ
+  pub network_last : List Lasts
+  pub local_last : Lasts
+
+-- Tables stand by their number within the machine. `states` has the lines whose state was set. `sequencer` is there where the
+-- machine has one. `fired` counts the transitions that fired in this cycle.
 pub record Ctl : Type 0 where
   pub tables : List Table
   pub states : map.FinMap nat_cmp ℕ
-  pub inbox : List InboxMessage
-  pub marks : List ℕ
+  pub mail : Mail
   pub sequencer : Option Requests
-  pub sent : ℕ
-  pub drawn : ℕ
   pub fired : ℕ
-  pub copies : ℕ
-  pub network_last : List (map.FinMap nat_cmp ℕ)
-  pub local_last : map.FinMap nat_cmp ℕ
   pub stopped : Bool

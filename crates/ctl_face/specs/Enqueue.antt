@@ -1,13 +1,22 @@
--- A send in a local: the controller is the sender after it, and its copies follow those that were sent before.
-use Rattle.std.specs.Prelude.{ℕ, ℤ, List, ◌++◌, Result, Ok, Err}
+-- A send in a local: the controller has the sender's mail after it, a note of each copy follows those of the copies that were
+-- sent before, and the copies for others follow those that were posted before.
+use Rattle.std.specs.Prelude.{ℕ, ℤ, List, ◌++◌, ◌==◌, not, map, filter, Result, Ok, Err}
 use Rattle.ruby_value.specs.declared.fault.Fault.{Fault}
 use Rattle.ruby_value.specs.declared.value.Value.{Value}
+use Rattle.ctl_face.specs.Acts.{Copy, note_of}
 use Rattle.ctl_face.specs.LocalView.{LocalView}
 use Rattle.ctl_face.specs.Send.{Sending, send}
 
+-- the copies that aren't for the controller itself
+abbrev pub for_others : ℕ → List Copy → List Copy
+for_others me copies = filter (λ (c : Copy). not (c.receiver == me)) copies
+
 abbrev pub after_sending : LocalView → Result Sending Fault → Result LocalView Fault
-after_sending v (Ok s) = Ok (record v { ctl = s.sender; acts = record v.acts { sent = v.acts.sent ++ s.copies } })
+after_sending v (Ok s) = Ok (record v {
+  ctl = record v.ctl { mail = s.mail };
+  acts = record v.acts { sent = v.acts.sent ++ map note_of s.copies; posted = v.acts.posted ++ for_others v.actor.me s.copies };
+})
 after_sending v (Err fault) = Err fault
 
 abbrev pub enqueue : LocalView → ℕ → ℤ → List Value → Result LocalView Fault
-enqueue v buffer latency fields = after_sending v (send v.setup v.ctl buffer latency fields v.now)
+enqueue v buffer latency fields = after_sending v (send v.machine v.actor v.ctl.mail buffer latency fields v.now)

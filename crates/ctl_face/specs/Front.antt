@@ -3,7 +3,7 @@
 use Rattle.std.specs.Prelude.{ℕ, Bool, Option, None, Some, List, [], ◌∷◌, ◌==◌, ◌&&◌, ◌||◌, nat_lt, nat_le, is_none, if◌then◌else◌}
 use Rattle.std.specs.List.{filter}
 use Rattle.ruby_value.specs.declared.message.Message.{Message}
-use Rattle.ctl_face.specs.Ctl.{Ctl, InboxMessage}
+use Rattle.ctl_face.specs.Ctl.{InboxMessage, Mail}
 use Rattle.ruby_value.specs.NumberBefore.{number_before}
 
 -- the message is in the buffer, has arrived, and wasn't taken aside
@@ -22,5 +22,8 @@ abbrev pub least_message : List InboxMessage → Option Message
 least_message [] = None
 least_message (m ∷ ms) = Some (earlier_message m.message (least_message ms))
 
-abbrev pub front : Ctl → ℕ → ℕ → Option Message
-front ctl buffer now = least_message (filter (is_ready buffer now) ctl.inbox)
+abbrev pub front_of : List InboxMessage → ℕ → ℕ → Option Message
+front_of inbox buffer now = least_message (filter (is_ready buffer now) inbox)
+
+abbrev pub front : Mail → ℕ → ℕ → Option Message
+front mail buffer now = front_of mail.inbox buffer now

@@ -3,12 +3,12 @@
 use Rattle.std.specs.Prelude.{Bool, true, false, List, [], Option, None, Some, map, replicate}
 use Rattle.std.specs.FinMap.{empty}
 use Rattle.ruby_value.specs.declared.value.Value.{Value}
-use Rattle.ctl_face.specs.declared.setup.Setup.{Setup}
-use Rattle.ctl_face.specs.declared.setup.TableSetup.{TableSetup}
-use Rattle.ctl_face.specs.declared.setup.TableSize.TheVariants as size
-use Rattle.ctl_face.specs.declared.setup.TableSize.{TableSize}
-use Rattle.ctl_face.specs.Ctl.{Ctl, Requests}
-use Rattle.ctl_face.specs.IsSetup.{network_count}
+use Rattle.ruby_value.specs.declared.setup.MachineSetup.{MachineSetup}
+use Rattle.ruby_value.specs.declared.setup.TableSetup.{TableSetup}
+use Rattle.ruby_value.specs.declared.setup.TableSize.TheVariants as size
+use Rattle.ruby_value.specs.declared.setup.TableSize.{TableSize}
+use Rattle.ctl_face.specs.Ctl.{Ctl, Mail, Requests}
+use Rattle.ctl_face.specs.IsMachine.{network_count}
 use Rattle.ctl_face.specs.Table.{Table, CacheTable, DirectoryTable, TbeTable, ParameterTable}
 
 abbrev pub opening_table : TableSize → List Value → Table
@@ -21,18 +21,23 @@ abbrev pub no_requests : Bool → Option Requests
 no_requests false = None
 no_requests true = Some (record { outstanding = empty; finished = [] })
 
-abbrev pub opening_ctl : Setup → Ctl
-opening_ctl setup = record {
-  tables = map (λ (s : TableSetup). opening_table s.size s.initial) setup.tables;
-  states = empty;
+abbrev pub no_mail : Mail
+no_mail = record {
   inbox = [];
   marks = [];
-  sequencer = no_requests setup.has_sequencer;
   sent = 0;
   drawn = 0;
-  fired = 0;
   copies = 0;
   network_last = replicate network_count empty;
   local_last = empty;
+}
+
+abbrev pub opening_ctl : MachineSetup → Ctl
+opening_ctl machine = record {
+  tables = map (λ (s : TableSetup). opening_table s.size s.initial) machine.tables;
+  states = empty;
+  mail = no_mail;
+  sequencer = no_requests machine.has_sequencer;
+  fired = 0;
   stopped = false;
 }

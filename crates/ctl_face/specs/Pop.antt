@@ -1,18 +1,21 @@
 -- Taking the front of a buffer, which SLICC writes `dequeue`: the message is consumed.
-use Rattle.std.specs.Prelude.{ℕ, Option, None, Some, [], ◌∷◌, ◌++◌, Result, Ok, Err}
+use Rattle.std.specs.Prelude.{ℕ, [], ◌∷◌, ◌++◌, Result}
 use Rattle.ruby_value.specs.declared.fault.Fault.{Fault}
-use Rattle.ruby_value.specs.declared.fault.Fault.TheVariants.{Front}
 use Rattle.ruby_value.specs.declared.message.Message.{Message}
+use Rattle.ruby_value.specs.declared.message.MsgNo.{MsgNo}
+use Rattle.ctl_face.specs.AtFront.{AtFront, at_front, after_front}
+use Rattle.ctl_face.specs.Ctl.{Mail}
+use Rattle.ctl_face.specs.Front.{front}
 use Rattle.ctl_face.specs.Inbox.{without_message}
 use Rattle.ctl_face.specs.LocalView.{LocalView}
-use Rattle.ctl_face.specs.Ready.{front_now}
 
-abbrev pub consumed : LocalView → Option Message → Result LocalView Fault
-consumed v None = Err Front
-consumed v (Some m) = Ok (record v {
-  ctl = record v.ctl { inbox = without_message v.ctl.inbox m.number };
-  acts = record v.acts { consumed = v.acts.consumed ++ m.number ∷ [] };
-})
+-- the mail without the message
+abbrev pub consumed : Mail → Message → Mail
+consumed mail m = record mail { inbox = without_message mail.inbox m.number }
+
+abbrev pub popped_mail : Mail → ℕ → ℕ → Result AtFront Fault
+popped_mail mail buffer now = at_front (consumed mail) (front mail buffer now)
 
 abbrev pub pop : LocalView → ℕ → Result LocalView Fault
-pop v buffer = consumed v (front_now v buffer)
+pop v buffer =
+    after_front v (λ (number : MsgNo). record v.acts { consumed = v.acts.consumed ++ number ∷ [] }) (popped_mail v.ctl.mail buffer v.now)

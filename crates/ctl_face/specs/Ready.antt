@@ -9,10 +9,10 @@ use Rattle.ctl_face.specs.Front.{front}
 use Rattle.ctl_face.specs.LocalView.{LocalView}
 
 abbrev pub front_now : LocalView → ℕ → Option Message
-front_now v buffer = front v.ctl buffer v.now
+front_now v buffer = front v.ctl.mail buffer v.now
 
 abbrev pub ready : LocalView → ℕ → Bool
 ready v buffer = is_some (front_now v buffer)
 
-abbrev pub peek : LocalView → ℕ → Result Message Fault
-peek v buffer = ok_or (front_now v buffer) Front
+abbrev pub required_front : LocalView → ℕ → Result Message Fault
+required_front v buffer = ok_or (front_now v buffer) Front

@@ -1,32 +1,31 @@
--- What a send comes to: the sender after it and the copies, or the fault. One copy goes into a buffer of the sender's
+-- What a send comes to: the sender's mail after it and the copies, or the fault. One copy goes into a buffer of the sender's
 -- own. On a buffer to a network one copy goes to each receiver that the message names, in increasing number; each has
 -- a number of its own and a jitter drawn for it alone, where the network has jitter. A copy arrives after the latency,
 -- the path and the jitter; where order is kept, no copy arrives before the one sent last from here to there.
 -- Latencies, networks and order are gem5's; numbers, draws, and order kept by raising an arrival are this project's own.
-use Rattle.std.specs.Prelude.{ℕ, ℤ, Bool, true, false, Option, None, Some, List, [], ◌∷◌, ◌++◌, ◌+◌, ◌==◌, Result, Ok, Err, not, max, nat_abs, nat_lt, length, slice_get, is_some, unwrap_or, if◌then◌else◌}
+use Rattle.std.specs.Prelude.{ℕ, ℤ, Bool, false, Option, None, Some, List, [], ◌∷◌, ◌++◌, ◌+◌, ◌==◌, Result, Ok, Err, not, max, nat_abs, nat_lt, length, slice_get, is_some, unwrap_or, if◌then◌else◌}
 use Rattle.std.specs.FinMap as map
 use Rattle.std.specs.List.{fold, list_all}
 use Rattle.ruby_value.specs.declared.fault.Fault.{Fault}
 use Rattle.ruby_value.specs.declared.fault.Fault.TheVariants.{Latency, Route, Copies}
-use Rattle.ruby_value.specs.declared.message.Message.{Message}
+use Rattle.ruby_value.specs.declared.setup.BufferPlace.TheVariants as place
+use Rattle.ruby_value.specs.declared.setup.BufferPlace.{BufferPlace}
+use Rattle.ruby_value.specs.declared.setup.BufferSetup.{BufferSetup}
+use Rattle.ruby_value.specs.declared.setup.MachineSetup.{MachineSetup}
 use Rattle.ruby_value.specs.declared.value.Value.{Value}
 use Rattle.ruby_value.specs.declared.value.Value.TheVariants.{Dest}
 use Rattle.ctl_face.specs.Acts.{Copy}
-use Rattle.ruby_value.specs.Ascending.{with_mark}
-use Rattle.ctl_face.specs.Ctl.{Ctl}
-use Rattle.ctl_face.specs.Inbox.{with_message}
+use Rattle.ctl_face.specs.Ctl.{Mail}
 use Rattle.ctl_face.specs.Lasts.{last_at, lasts_on, with_last}
 use Rattle.ctl_face.specs.Latency.{is_latency}
+use Rattle.ctl_face.specs.LocalView.{Actor}
+use Rattle.ctl_face.specs.Mailing.{delivered}
 use Rattle.ctl_face.specs.Routing.{receiving_buffer, path_to, is_ordered}
-use Rattle.ctl_face.specs.OfMachine.{buffer_place}
-use Rattle.ctl_face.specs.declared.setup.BufferPlace.TheVariants as place
-use Rattle.ctl_face.specs.declared.setup.BufferPlace.{BufferPlace}
-use Rattle.ctl_face.specs.declared.setup.Setup.{Setup}
 use Rattle.pcg_words.specs.Below.{below}
 
--- the sender after some copies, and these copies in the order of their numbers
+-- the sender's mail after some copies, and these copies in the order of their numbers
 pub record Sending : Type 0 where
-  pub sender : Ctl
+  pub mail : Mail
   pub copies : List Copy
 
 -- the most copies that a controller may send in one cycle
@@ -44,11 +43,11 @@ receivers_of None fields = []
 receivers_of (Some destination) fields = members_of (slice_get fields destination)
 
 -- the next copy of a controller
-abbrev pub next_copy : Setup → Ctl → ℕ → ℕ → ℕ → List Value → Copy
-next_copy setup ctl receiver buffer arrival fields = record {
+abbrev pub next_copy : Actor → Mail → ℕ → ℕ → ℕ → List Value → Copy
+next_copy actor mail receiver buffer arrival fields = record {
   receiver = receiver;
   message = record {
-    number = record { sender = setup.me; count = ctl.sent };
+    number = record { sender = actor.me; count = mail.sent };
     buffer = buffer;
     arrival = arrival;
     recycled = false;
@@ -56,87 +55,83 @@ next_copy setup ctl receiver buffer arrival fields = record {
   };
 }
 
--- the controller with a message more in its inbox, for which it will wake
-abbrev pub arrived : Ctl → Message → Ctl
-arrived ctl m =
-    record ctl { inbox = with_message ctl.inbox (record { message = m; waiting = None }); marks = with_mark ctl.marks m.arrival }
-
--- a copy comes to its sender only where that is the receiver
-abbrev pub delivered : Bool → Ctl → Message → Ctl
-delivered false ctl m = ctl
-delivered true ctl m = arrived ctl m
-
--- the sender after one copy more, which it may have sent to itself
-abbrev pub counted : Setup → Ctl → Copy → Ctl
-counted setup ctl copy =
-    record (delivered (copy.receiver == setup.me) ctl copy.message) { sent = ctl.sent + 1; copies = ctl.copies + 1 }
+-- the sender's mail after one copy more, which it may have sent to itself
+abbrev pub counted : Actor → Mail → Copy → Mail
+counted actor mail copy =
+    record (delivered (copy.receiver == actor.me) mail copy.message) { sent = mail.sent + 1; copies = mail.copies + 1 }
 
 -- the jitter of the next network copy, for which a word is drawn where the network has any
-abbrev pub has_jitter : Setup → Bool
-has_jitter setup = nat_lt 0 setup.routes.jitter
+abbrev pub has_jitter : Actor → Bool
+has_jitter actor = nat_lt 0 actor.routes.jitter
 
-abbrev pub next_jitter : Setup → Ctl → ℕ
-next_jitter setup ctl = if has_jitter setup then below setup.seed setup.me ctl.drawn (setup.routes.jitter + 1) else 0
+abbrev pub next_jitter : Actor → Mail → ℕ
+next_jitter actor mail = if has_jitter actor then below actor.seed actor.me mail.drawn (actor.routes.jitter + 1) else 0
 
 -- when the next copy to a receiver on a network arrives
-abbrev pub network_arrival : Setup → Ctl → ℕ → ℕ → ℕ → ℕ → ℕ
-network_arrival setup ctl network latency now receiver =
-    let arrival = now + latency + path_to setup.routes setup.me receiver + next_jitter setup ctl in
-    if is_ordered setup.routes network then max arrival (last_at (lasts_on ctl.network_last network) receiver) else arrival
+abbrev pub network_arrival : Actor → Mail → ℕ → ℕ → ℕ → ℕ → ℕ
+network_arrival actor mail network latency now receiver =
+    let arrival = now + latency + path_to actor.routes actor.me receiver + next_jitter actor mail in
+    if is_ordered actor.routes network then max arrival (last_at (lasts_on mail.network_last network) receiver) else arrival
 
--- the sender after what a network copy takes besides its number: a word, and the arrival that the next one may not
--- come before
-abbrev pub after_network_copy : Setup → Ctl → ℕ → ℕ → ℕ → Ctl
-after_network_copy setup ctl network receiver arrival = record ctl {
-  drawn = if has_jitter setup then ctl.drawn + 1 else ctl.drawn;
-  network_last = if is_ordered setup.routes network then with_last ctl.network_last network receiver arrival else ctl.network_last;
+-- the mail after what a network copy takes besides its number: a word, and the arrival that the next one may not come before
+abbrev pub after_network_copy : Actor → Mail → ℕ → ℕ → ℕ → Mail
+after_network_copy actor mail network receiver arrival = record mail {
+  drawn = if has_jitter actor then mail.drawn + 1 else mail.drawn;
+  network_last = if is_ordered actor.routes network then with_last mail.network_last network receiver arrival else mail.network_last;
 }
 
 -- one copy more to a receiver on a network
-abbrev pub with_network_copy : Setup → ℕ → ℕ → List Value → ℕ → Sending → ℕ → Sending
-with_network_copy setup network latency fields now s receiver =
-    let arrival = network_arrival setup s.sender network latency now receiver in
-    let buffer = unwrap_or (receiving_buffer setup.routes receiver network) 0 in
-    let copy = next_copy setup s.sender receiver buffer arrival fields in
+abbrev pub with_network_copy : Actor → ℕ → ℕ → List Value → ℕ → Sending → ℕ → Sending
+with_network_copy actor network latency fields now s receiver =
+    let arrival = network_arrival actor s.mail network latency now receiver in
+    let buffer = unwrap_or (receiving_buffer actor.routes receiver network) 0 in
+    let copy = next_copy actor s.mail receiver buffer arrival fields in
     record {
-      sender = after_network_copy setup (counted setup s.sender copy) network receiver arrival;
+      mail = after_network_copy actor (counted actor s.mail copy) network receiver arrival;
       copies = s.copies ++ copy ∷ [];
     }
 
 -- when the next copy in a buffer of the controller's own arrives
-abbrev pub local_arrival : Bool → Ctl → ℕ → ℕ → ℕ → ℕ
-local_arrival ordered ctl buffer latency now =
-    if ordered then max (now + latency) (last_at ctl.local_last buffer) else now + latency
+abbrev pub local_arrival : Bool → Mail → ℕ → ℕ → ℕ → ℕ
+local_arrival ordered mail buffer latency now =
+    if ordered then max (now + latency) (last_at mail.local_last buffer) else now + latency
 
 -- the one copy in a buffer of the controller's own
-abbrev pub local_copy : Setup → Bool → Ctl → ℕ → ℕ → List Value → ℕ → Sending
-local_copy setup ordered ctl buffer latency fields now =
-    let arrival = local_arrival ordered ctl buffer latency now in
-    let copy = next_copy setup ctl setup.me buffer arrival fields in
+abbrev pub local_copy : Actor → Bool → Mail → ℕ → ℕ → List Value → ℕ → Sending
+local_copy actor ordered mail buffer latency fields now =
+    let arrival = local_arrival ordered mail buffer latency now in
+    let copy = next_copy actor mail actor.me buffer arrival fields in
     record {
-      sender = record (counted setup ctl copy) {
-        local_last = if ordered then map.insert ctl.local_last buffer arrival else ctl.local_last;
+      mail = record (counted actor mail copy) {
+        local_last = if ordered then map.insert mail.local_last buffer arrival else mail.local_last;
       };
       copies = copy ∷ [];
     }
 
--- the copies for all receivers, if each has a buffer there and they aren't too many
-abbrev pub network_copies : Setup → ℕ → List ℕ → Ctl → ℕ → List Value → ℕ → Result Sending Fault
-network_copies setup network members ctl latency fields now =
-    if not (list_all (λ receiver. is_some (receiving_buffer setup.routes receiver network)) members) then Err Route
-    else (if nat_lt copy_limit (ctl.copies + length members) then Err Copies
-    else Ok (fold (with_network_copy setup network latency fields now) (record { sender = ctl; copies = [] }) members))
+abbrev pub no_copies : Mail → Sending
+no_copies mail = record { mail = mail; copies = [] }
 
-abbrev pub sent_from : Option BufferPlace → Setup → Ctl → ℕ → ℕ → List Value → ℕ → Result Sending Fault
-sent_from (Some (place.Local ordered)) setup ctl buffer latency fields now =
-    if nat_lt copy_limit (ctl.copies + 1) then Err Copies else Ok (local_copy setup ordered ctl buffer latency fields now)
-sent_from (Some (place.To network destination)) setup ctl buffer latency fields now =
-    network_copies setup network (receivers_of destination fields) ctl latency fields now
-sent_from _ setup ctl buffer latency fields now = Ok (record { sender = ctl; copies = [] })
+-- the copies for all receivers, if each has a buffer there and they aren't too many
+abbrev pub network_copies : Actor → ℕ → List ℕ → Mail → ℕ → List Value → ℕ → Result Sending Fault
+network_copies actor network members mail latency fields now =
+    if not (list_all (λ receiver. is_some (receiving_buffer actor.routes receiver network)) members) then Err Route
+    else (if nat_lt copy_limit (mail.copies + length members) then Err Copies
+    else Ok (fold (with_network_copy actor network latency fields now) (no_copies mail) members))
+
+abbrev pub sent_on : BufferPlace → Bool → Actor → Mail → ℕ → ℕ → List Value → ℕ → Result Sending Fault
+sent_on place.Local ordered actor mail buffer latency fields now =
+    if nat_lt copy_limit (mail.copies + 1) then Err Copies else Ok (local_copy actor ordered mail buffer latency fields now)
+sent_on (place.To network destination) ordered actor mail buffer latency fields now =
+    network_copies actor network (receivers_of destination fields) mail latency fields now
+sent_on (place.From network) ordered actor mail buffer latency fields now = Ok (no_copies mail)
+
+abbrev pub sent_from : Option BufferSetup → Actor → Mail → ℕ → ℕ → List Value → ℕ → Result Sending Fault
+sent_from None actor mail buffer latency fields now = Ok (no_copies mail)
+sent_from (Some s) actor mail buffer latency fields now = sent_on s.place s.ordered actor mail buffer latency fields now
 
 -- The latency is judged first, also where nobody is named. Nothing is sent on a buffer that only takes messages in, and
 -- no program does so.
-abbrev pub send : Setup → Ctl → ℕ → ℤ → List Value → ℕ → Result Sending Fault
-send setup ctl buffer latency fields now =
-    if is_latency latency then sent_from (buffer_place setup buffer) setup ctl buffer (nat_abs latency) fields now
+abbrev pub send : MachineSetup → Actor → Mail → ℕ → ℤ → List Value → ℕ → Result Sending Fault
+send machine actor mail buffer latency fields now =
+    if is_latency latency then sent_from (slice_get machine.buffers buffer) actor mail buffer (nat_abs latency) fields now
     else Err Latency

@@ -5,12 +5,12 @@
 -- profile of SLICC.
 use Rattle.std.specs.Prelude.{ℕ, Bool, true, false, Option, None, Some, List, IsTrue, IsSome, IsSomeAnd, is_some, slice_get}
 use Rattle.ruby_value.specs.declared.value.Value.{Value}
-use Rattle.ctl_face.specs.declared.setup.BufferPlace.TheVariants as place
-use Rattle.ctl_face.specs.declared.setup.BufferPlace.{BufferPlace}
-use Rattle.ctl_face.specs.declared.setup.TableSize.TheVariants as size
-use Rattle.ctl_face.specs.declared.setup.TableSize.{TableSize}
-use Rattle.ctl_face.specs.HasKinds.{has_kinds}
-use Rattle.ctl_face.specs.HoldsKind.{holds_kind}
+use Rattle.ruby_value.specs.declared.setup.BufferPlace.TheVariants as place
+use Rattle.ruby_value.specs.declared.setup.BufferPlace.{BufferPlace}
+use Rattle.ruby_value.specs.declared.setup.TableSize.TheVariants as size
+use Rattle.ruby_value.specs.declared.setup.TableSize.{TableSize}
+use Rattle.ruby_value.specs.HasKind.{has_kind}
+use Rattle.ruby_value.specs.HasKinds.{has_kinds}
 use Rattle.ctl_face.specs.LocalView.{LocalView}
 use Rattle.ctl_face.specs.OfMachine.{buffer_place, field_kinds, message_kinds, table_size}
 
@@ -35,39 +35,39 @@ deallocates (Some (size.Tbe entries)) = true
 deallocates _ = false
 
 abbrev pub receives : Option BufferPlace → Bool
-receives (Some (place.Local ordered)) = true
+receives (Some place.Local) = true
 receives (Some (place.To network destination)) = false
 receives (Some (place.From network)) = true
 receives None = false
 
 abbrev pub sends : Option BufferPlace → Bool
-sends (Some (place.Local ordered)) = true
+sends (Some place.Local) = true
 sends (Some (place.To network destination)) = is_some destination
 sends (Some (place.From network)) = false
 sends None = false
 
 -- the table is there and is one that the test names
 abbrev pub Serves : (Option TableSize → Bool) → LocalView → ℕ → Type 0
-Serves test v table = IsTrue (test (table_size v.setup table))
+Serves test v table = IsTrue (test (table_size v.machine table))
 
 -- the lines of the table have the field, and it may hold the value
 abbrev pub HasField : LocalView → ℕ → ℕ → Type 0
-HasField v table field = IsSome (slice_get (field_kinds v.setup table) field)
+HasField v table field = IsSome (slice_get (field_kinds v.machine table) field)
 
 abbrev pub TakesField : LocalView → ℕ → ℕ → Value → Type 0
-TakesField v table field value = IsSomeAnd (slice_get (field_kinds v.setup table) field) (λ k. IsTrue (holds_kind v.setup k value))
+TakesField v table field value = IsSomeAnd (slice_get (field_kinds v.machine table) field) (λ k. IsTrue (has_kind k value))
 
 -- messages are taken from the buffer
 abbrev pub Receives : LocalView → ℕ → Type 0
-Receives v buffer = IsTrue (receives (buffer_place v.setup buffer))
+Receives v buffer = IsTrue (receives (buffer_place v.machine buffer))
 
 -- messages are sent on the buffer, and these are the fields of one
 abbrev pub Sends : LocalView → ℕ → Type 0
-Sends v buffer = IsTrue (sends (buffer_place v.setup buffer))
+Sends v buffer = IsTrue (sends (buffer_place v.machine buffer))
 
 abbrev pub TakesMessage : LocalView → ℕ → List Value → Type 0
-TakesMessage v buffer fields = IsTrue (has_kinds v.setup (message_kinds v.setup buffer) fields)
+TakesMessage v buffer fields = IsTrue (has_kinds (message_kinds v.machine buffer) fields)
 
 -- the machine has the built-in map of states
 abbrev pub HasStates : LocalView → Type 0
-HasStates v = IsSome v.setup.default_state
+HasStates v = IsSome v.machine.default_state

@@ -1,20 +1,25 @@
 -- Taking the front of a buffer aside under a line, which SLICC writes `stall_and_wait`: it keeps its arrival and its
 -- number, and whether it was recycled, and waits until it is woken.
-use Rattle.std.specs.Prelude.{ℕ, Option, None, Some, [], ◌∷◌, ◌++◌, Result, Ok, Err}
+use Rattle.std.specs.Prelude.{ℕ, Some, [], ◌∷◌, ◌++◌, Result}
 use Rattle.ruby_value.specs.declared.fault.Fault.{Fault}
-use Rattle.ruby_value.specs.declared.fault.Fault.TheVariants.{Front}
 use Rattle.ruby_value.specs.declared.message.Message.{Message}
-use Rattle.ctl_face.specs.Ctl.{InboxMessage}
+use Rattle.ruby_value.specs.declared.message.MsgNo.{MsgNo}
+use Rattle.ctl_face.specs.AtFront.{AtFront, at_front, after_front}
+use Rattle.ctl_face.specs.Ctl.{InboxMessage, Mail}
+use Rattle.ctl_face.specs.Front.{front}
 use Rattle.ctl_face.specs.Inbox.{changed_message}
 use Rattle.ctl_face.specs.LocalView.{LocalView}
-use Rattle.ctl_face.specs.Ready.{front_now}
 
-abbrev pub stalled_under : LocalView → ℕ → Option Message → Result LocalView Fault
-stalled_under v line None = Err Front
-stalled_under v line (Some m) = Ok (record v {
-  ctl = record v.ctl { inbox = changed_message v.ctl.inbox m.number (λ (o : InboxMessage). record o { waiting = Some line }) };
-  acts = record v.acts { stalled = v.acts.stalled ++ m.number ∷ [] };
-})
+-- the message waits under the line
+abbrev pub waiting_under : ℕ → InboxMessage → InboxMessage
+waiting_under line o = record o { waiting = Some line }
+
+abbrev pub set_aside : Mail → ℕ → Message → Mail
+set_aside mail line m = record mail { inbox = changed_message mail.inbox m.number (waiting_under line) }
+
+abbrev pub stalled_mail : Mail → ℕ → ℕ → ℕ → Result AtFront Fault
+stalled_mail mail buffer line now = at_front (set_aside mail line) (front mail buffer now)
 
 abbrev pub stall : LocalView → ℕ → ℕ → Result LocalView Fault
-stall v buffer line = stalled_under v line (front_now v buffer)
+stall v buffer line =
+    after_front v (λ (number : MsgNo). record v.acts { stalled = v.acts.stalled ++ number ∷ [] }) (stalled_mail v.ctl.mail buffer line v.now)

@@ -1,9 +1,10 @@
 -- Waking the messages that wait under a line, which SLICC writes `wakeUpBuffers`, or all that wait: they are back in
 -- their buffers with their old arrivals and numbers, and their numbers are among the woken ones, in increasing order.
 -- That arrival and number stay is this project's own rule. Waking sets no mark.
-use Rattle.std.specs.Prelude.{ℕ, Bool, false, Option, None, Some, ◌++◌, ◌==◌, map, is_some, if◌then◌else◌}
+use Rattle.std.specs.Prelude.{ℕ, Bool, List, false, Option, None, Some, ◌++◌, ◌==◌, map, is_some, if◌then◌else◌}
 use Rattle.std.specs.List.{filter}
-use Rattle.ctl_face.specs.Ctl.{InboxMessage}
+use Rattle.ruby_value.specs.declared.message.MsgNo.{MsgNo}
+use Rattle.ctl_face.specs.Ctl.{InboxMessage, Mail}
 use Rattle.ctl_face.specs.LocalView.{LocalView}
 
 abbrev pub is_under : ℕ → Option ℕ → Bool
@@ -11,10 +12,19 @@ is_under line None = false
 is_under line (Some l) = l == line
 
 -- the messages that pass the test wait no longer; the inbox has them in increasing number
+abbrev pub waiting_no_longer : InboxMessage → InboxMessage
+waiting_no_longer o = record o { waiting = None }
+
+abbrev pub woken_mail : Mail → (InboxMessage → Bool) → Mail
+woken_mail mail test = record mail { inbox = map (λ (o : InboxMessage). if test o then waiting_no_longer o else o) mail.inbox }
+
+abbrev pub numbers_where : Mail → (InboxMessage → Bool) → List MsgNo
+numbers_where mail test = map (λ (o : InboxMessage). o.message.number) (filter test mail.inbox)
+
 abbrev pub woken_where : LocalView → (InboxMessage → Bool) → LocalView
 woken_where v test = record v {
-  ctl = record v.ctl { inbox = map (λ (o : InboxMessage). if test o then record o { waiting = None } else o) v.ctl.inbox };
-  acts = record v.acts { woken = v.acts.woken ++ map (λ (o : InboxMessage). o.message.number) (filter test v.ctl.inbox) };
+  ctl = record v.ctl { mail = woken_mail v.ctl.mail test };
+  acts = record v.acts { woken = v.acts.woken ++ numbers_where v.ctl.mail test };
 }
 
 abbrev pub wake : LocalView → ℕ → LocalView

@@ -1,53 +1,47 @@
 // What holds of every controller. These functions do nothing: their contracts are the laws.
-ghost use Rattle.std.specs.Prelude.{◌≡◌, ◌<◌, ℕ, ℤ, List, Ok, IsTrue, IfSome, IsSomeAnd, slice_get};
-ghost use Rattle.std.specs.List.{All};
-ghost use Rattle.ruby_value.specs.declared.value.Block.{Block as BlockRecord};
+ghost use Rattle.std.specs.Prelude.{◌≡◌, ◌<◌, ◌+◌, ◌^◌, ℕ, ℤ, List, Ok, Some, IsTrue, IsSomeAnd, slice_get};
+ghost use Rattle.ruby_value.specs.declared.asked.Asked.{Asked as AskedRecord};
 ghost use Rattle.ruby_value.specs.declared.message.Message.{Message as MessageRecord};
+ghost use Rattle.ruby_value.specs.declared.setup.BufferSetup.{BufferSetup as BufferSetupRecord};
+ghost use Rattle.ruby_value.specs.declared.setup.MachineSetup.{MachineSetup as MachineRecord};
+ghost use Rattle.ruby_value.specs.declared.value.Block.{Block as BlockRecord};
 ghost use Rattle.ruby_value.specs.declared.value.Ref.{Ref as RefRecord};
 ghost use Rattle.ruby_value.specs.declared.value.Value.{Value};
-ghost use Rattle.ctl_face.specs.declared.setup.Setup.{Setup as SetupRecord};
-ghost use Rattle.ctl_face.specs.Acts.{Copy};
+ghost use Rattle.ruby_value.specs.HasKinds.{has_kinds};
+ghost use Rattle.ctl_face.specs.declared.routes.Routes.{Routes as RoutesRecord};
 ghost use Rattle.ctl_face.specs.Again.{again};
 ghost use Rattle.ctl_face.specs.Allocate.{allocate};
+ghost use Rattle.ctl_face.specs.Avail.{probe};
+ghost use Rattle.ctl_face.specs.Between.{begun, fired_once, halted, with_arrival, with_request, with_wake_up, without_first_answer};
 ghost use Rattle.ctl_face.specs.Callback.{read_back, write_back};
 ghost use Rattle.ctl_face.specs.Ctl.{Ctl};
 ghost use Rattle.ctl_face.specs.Deallocate.{deallocate};
 ghost use Rattle.ctl_face.specs.Enqueue.{enqueue};
-ghost use Rattle.ctl_face.specs.Fits.{Fits, IsLawful, IsLine};
+ghost use Rattle.ctl_face.specs.Fits.{Fits, IsLawful, IsLine, IsRequest};
 ghost use Rattle.ctl_face.specs.Get.{get};
-ghost use Rattle.ctl_face.specs.HoldsKind.{reference_in};
-ghost use Rattle.ctl_face.specs.IsSetup.{IsSetup};
+ghost use Rattle.ctl_face.specs.IsMachine.{IsMachine};
 ghost use Rattle.ctl_face.specs.LocalView.{LocalView};
-ghost use Rattle.ctl_face.specs.Avail.{probe};
-ghost use Rattle.ctl_face.specs.MarksAhead.{MarksAhead};
-ghost use Rattle.ctl_face.specs.Served.{looks_up, Serves, TakesField, TakesMessage};
 ghost use Rattle.ctl_face.specs.Opening.{opening_ctl};
 ghost use Rattle.ctl_face.specs.Pop.{pop};
-ghost use Rattle.ctl_face.specs.Ready.{peek};
+ghost use Rattle.ctl_face.specs.Ready.{required_front};
 ghost use Rattle.ctl_face.specs.Recycle.{recycle};
-ghost use Rattle.ctl_face.specs.Send.{Sending, send};
+ghost use Rattle.ctl_face.specs.RoutesFit.{HasRoutes, RoutesFit, StandsAt};
+ghost use Rattle.ctl_face.specs.Send.{copy_limit};
+ghost use Rattle.ctl_face.specs.Served.{TakesField, TakesMessage};
 ghost use Rattle.ctl_face.specs.Set.{set};
 ghost use Rattle.ctl_face.specs.Stall.{stall};
 ghost use Rattle.ctl_face.specs.State.{set_state};
 ghost use Rattle.ctl_face.specs.Touch.{touch};
 ghost use Rattle.ctl_face.specs.Wake.{wake, wake_all};
 
-/// Each copy that a send makes arrives after the cycle of the send.
-pub fn copies_arrive_later()
-    ensures { (setup : SetupRecord) (ctl : Ctl) (buffer : ℕ) (latency : ℤ) (fields : List Value) (now : ℕ) (s : Sending) → send setup ctl buffer latency fields now ≡ Ok s → All (λ (c : Copy). now < c.message.arrival) s.copies }
-{}
-
-/// Each cycle at which a controller must wake after an act is one at which it had to before, or comes after this cycle. The
-/// acts that aren't named here leave these cycles as they are.
-pub fn marks_lie_ahead()
-    ensures again { (v : LocalView) → MarksAhead v.ctl.marks v.now (again v).ctl.marks }
-    ensures recycle { (v : LocalView) (buffer : ℕ) (latency : ℤ) (after : LocalView) → recycle v buffer latency ≡ Ok after → MarksAhead v.ctl.marks v.now after.ctl.marks }
-    ensures enqueue { (v : LocalView) (buffer : ℕ) (latency : ℤ) (fields : List Value) (after : LocalView) → enqueue v buffer latency fields ≡ Ok after → MarksAhead v.ctl.marks v.now after.ctl.marks }
-{}
-
 /// A controller as a run begins fits its machine, in that cycle and in each later one.
 pub fn opening_controllers_fit()
-    ensures { (setup : SetupRecord) (now : ℕ) → IsSetup setup → Fits setup (opening_ctl setup) now }
+    ensures { (machine : MachineRecord) (me now : ℕ) → IsMachine machine → Fits machine me (opening_ctl machine) now }
+{}
+
+/// Routes that fit a run are, for each of its controllers, routes that its acts may go by.
+pub fn routes_fit_each_controller()
+    ensures { (machines : List MachineRecord) (stand : List (ℕ × ℕ)) (routes : RoutesRecord) (place controller : ℕ) (m : MachineRecord) → RoutesFit machines stand routes → StandsAt stand place controller → slice_get machines place ≡ Some m → HasRoutes m controller routes }
 {}
 
 /// What holds of each controller of a machine holds after each act on its tables.
@@ -72,13 +66,30 @@ pub fn message_calls_keep_what_holds()
     ensures again { (v : LocalView) → IsLawful v → IsLawful (again v) }
 {}
 
-/// What is read of a controller that fits its machine has its kinds: the value of a field is one of the field's kind, a
-/// reference in it is to a line of a table that lines are looked up in, what a cache names for replacement is a line, and the
-/// fields of a front are those of a message of its buffer, which is the one that was asked for.
+/// What holds of each controller of a machine holds after each act between its scans: the arrival of another actor's message,
+/// a mark, the beginning of a later cycle, one transition more that fired, a stop, a request, and an answer that is taken.
+pub fn acts_between_scans_keep_what_holds()
+    ensures arrival { (machine : MachineRecord) (me now : ℕ) (ctl : Ctl) (m : MessageRecord) → IsSomeAnd (slice_get machine.buffers m.buffer) (λ (s : BufferSetupRecord). IsTrue (has_kinds s.kinds m.fields)) → ¬ (m.number.sender ≡ me) → Fits machine me ctl now → Fits machine me (with_arrival ctl m) now }
+    ensures wake_up { (machine : MachineRecord) (me now : ℕ) (ctl : Ctl) (cycle : ℕ) → Fits machine me ctl now → Fits machine me (with_wake_up ctl cycle) now }
+    ensures begun { (machine : MachineRecord) (me old now : ℕ) (ctl : Ctl) → old < now → Fits machine me ctl old → Fits machine me (begun ctl now) now }
+    ensures fired { (machine : MachineRecord) (me now : ℕ) (ctl : Ctl) → Fits machine me ctl now → Fits machine me (fired_once ctl) now }
+    ensures halted { (machine : MachineRecord) (me now : ℕ) (ctl : Ctl) → Fits machine me ctl now → Fits machine me (halted ctl) now }
+    ensures request { (machine : MachineRecord) (me now : ℕ) (ctl : Ctl) (asked : AskedRecord) → IsRequest asked → Fits machine me ctl now → Fits machine me (with_request ctl asked) now }
+    ensures answer { (machine : MachineRecord) (me now : ℕ) (ctl : Ctl) → Fits machine me ctl now → Fits machine me (without_first_answer ctl) now }
+{}
+
+/// Of a lawful local, numbers of 64 bits are left for all the copies that it may send in a cycle, and for as many words that it
+/// may draw for them.
+pub fn copies_have_numbers()
+    ensures { (v : LocalView) → IsLawful v → (v.ctl.mail.sent + copy_limit < 2 ^ 64) × (v.ctl.mail.drawn + copy_limit < 2 ^ 64) }
+{}
+
+/// What is read of a controller that fits its machine has its kinds: the value of a field is one of the field's kind, what a
+/// cache names for replacement is a line, and the fields of a front are those of a message of its buffer, which is the one that
+/// was asked for.
 pub fn reads_have_their_kinds()
     ensures get { (v : LocalView) (r : RefRecord) (field : ℕ) (value : Value) → IsLawful v → get v r field ≡ Ok value → TakesField v r.table field value }
-    ensures through { (v : LocalView) (r : RefRecord) (field : ℕ) (value : Value) → IsLawful v → get v r field ≡ Ok value → IfSome (reference_in value) (λ (to : RefRecord). IsLine to.line × Serves looks_up v to.table) }
-    ensures peek { (v : LocalView) (buffer : ℕ) (m : MessageRecord) → IsLawful v → peek v buffer ≡ Ok m → TakesMessage v m.buffer m.fields }
+    ensures front { (v : LocalView) (buffer : ℕ) (m : MessageRecord) → IsLawful v → required_front v buffer ≡ Ok m → TakesMessage v m.buffer m.fields }
     ensures probe { (v : LocalView) (table line l : ℕ) → IsLawful v → probe v table line ≡ Ok l → IsLine l }
-    ensures peek_buffer { (v : LocalView) (buffer : ℕ) (m : MessageRecord) → peek v buffer ≡ Ok m → m.buffer ≡ buffer }
+    ensures front_buffer { (v : LocalView) (buffer : ℕ) (m : MessageRecord) → required_front v buffer ≡ Ok m → m.buffer ≡ buffer }
 {}

@@ -5,19 +5,29 @@
 mod lawful;
 mod laws;
 mod local;
+mod mail_laws;
 mod routes;
 mod serving;
-mod setup;
 mod trouble;
 mod uses;
 
+pub use lawful::{has_routes, is_machine};
 pub use laws::{
-    copies_arrive_later, marks_lie_ahead, message_calls_keep_what_holds, opening_controllers_fit,
-    reads_have_their_kinds, table_calls_keep_what_holds,
+    acts_between_scans_keep_what_holds, copies_have_numbers, message_calls_keep_what_holds,
+    opening_controllers_fit, reads_have_their_kinds, routes_fit_each_controller,
+    table_calls_keep_what_holds,
 };
 pub use local::Local;
-pub use routes::{Routes, Sizes};
-pub use ruby_value::{Block, Fault, Fields, Message, NoMemory, Ref, Seq, Text, Value};
-pub use serving::have_kinds;
-pub use setup::{BufferPlace, BufferSetup, Setup, TableSetup, TableSize};
+pub use mail_laws::{
+    copies_arrive_later, edits_change_one_key, front_comes_first, marks_lie_ahead,
+};
+pub use routes::Routes;
+pub use ruby_value::{
+    Block, BufferPlace, BufferSetup, Fault, Fields, MachineSetup, Message, NoMemory, Ref, Seq,
+    Sizes, TableSetup, TableSize, Text, Value,
+};
+pub use serving::{
+    deallocates, has_field, is_cache, is_tbe_table, looks_up, receives, sends, takes_field,
+    takes_message,
+};
 pub use trouble::Trouble;

@@ -1,18 +1,19 @@
-ghost use Rattle.std.specs.Prelude.{◌≡◌, ◌<◌, ◌^◌, Ok, IsTrue, IsSome, IsSomeAnd, IfOk, IfErr, OnOk, OnErr, slice_get};
+ghost use Rattle.std.specs.Prelude.{◌≡◌, Ok};
+ghost use Rattle.std.specs.Option.{option_copied};
 ghost use Rattle.ctl_face.specs.Again.{again};
 ghost use Rattle.ctl_face.specs.Allocate.{allocate};
 ghost use Rattle.ctl_face.specs.Avail.{avail, probe};
 ghost use Rattle.ctl_face.specs.Callback.{read_back, write_back, written_back};
 ghost use Rattle.ctl_face.specs.Deallocate.{deallocate};
+ghost use Rattle.ctl_face.specs.Does.{Does, DoesWith, Reads};
 ghost use Rattle.ctl_face.specs.Enqueue.{enqueue};
-ghost use Rattle.ctl_face.specs.FaultsAs.{FaultsAs};
 ghost use Rattle.ctl_face.specs.Fits.{IsLawful, IsLine};
 ghost use Rattle.ctl_face.specs.Free.{free};
 ghost use Rattle.ctl_face.specs.Get.{get};
-ghost use Rattle.ctl_face.specs.LocalView.{LocalView, SameSetting};
+ghost use Rattle.ctl_face.specs.LocalView.{LocalView};
 ghost use Rattle.ctl_face.specs.Lookup.{lookup, reference_to};
 ghost use Rattle.ctl_face.specs.Pop.{pop};
-ghost use Rattle.ctl_face.specs.Ready.{ready, peek};
+ghost use Rattle.ctl_face.specs.Ready.{front_now, ready, required_front};
 ghost use Rattle.ctl_face.specs.Recycle.{recycle};
 ghost use Rattle.ctl_face.specs.Served.{is_cache, is_tbe_table, looks_up, deallocates, HasField, HasStates, Receives, Sends, Serves, TakesField, TakesMessage};
 ghost use Rattle.ctl_face.specs.Set.{set};
@@ -24,45 +25,39 @@ ghost use Rattle.ctl_face.specs.Wake.{wake, wake_all};
 use crate::Trouble;
 use ruby_value::{Block, Fields, Message, Ref, Value};
 
-/// A controller in whose cycle acts are done: the tables, buffers, sends and callbacks that the actions of a protocol
+/// A controller in whose scan acts are done: the tables, buffers, sends and callbacks that the actions of a protocol
 /// name, as in gem5's SLICC. Tables and buffers go by their numbers within the machine, lines are line numbers, which are
 /// byte addresses divided by 64, and cycles and latencies are counted in cycles.
 ///
-/// A contract sees a local as its `LocalView`: what stays as it is of the controller, the cycle, the controller, and what
-/// the acts have done to messages. Each call is the definition of its name, `front` that of `peek` and `send` that of
-/// `enqueue`, and its fault comes exactly where that
-/// definition has it, unless there was no memory. After a fault or want of memory the local is as it was. A call that
-/// can't answer want of memory takes none. Which words the faults are is this project's own.
+/// A contract sees a local as its `LocalView`: what no act changes, the controller, and what the acts have done to messages.
+/// A call that changes it `Does` what the definition of its name has, and a call that only reads answers what its definition
+/// has; `send` is the definition `enqueue`. A fault comes exactly where that definition has it, unless there was no memory.
+/// After a fault or want of memory the local is as it was. A call that can't answer want of memory takes none. What holds of
+/// each local that a run makes always holds, which is the law `lawful`. Which words the faults are is this project's own.
 pub trait Local {
     ghost view: { Self → LocalView };
 
-    /// The cycle in which the acts are done. That of a lawful local is at most 10^12.
+    /// The cycle in which the acts are done, which is at most 10^12.
     fn now(&self) -> u64
         ensures { result ≡ (view self.now).now };
 
     /// The controller's actor number.
     fn me(&self) -> u32
-        ensures { result ≡ (view self.now).setup.me };
+        ensures { result ≡ (view self.now).actor.me };
 
-    /// The value of a field of the line that a reference names. Of a lawful local the fault `Reference` comes exactly where
-    /// the line isn't there. A machine's parameters are the fields of line 0 of a table of their own.
+    /// The value of a field of the line that a reference names. The fault `Reference` comes exactly where the line isn't
+    /// there. A machine's parameters are the fields of line 0 of a table of their own.
     fn get(&self, r: &Ref, field: u16) -> Result<Value, Trouble>
         requires served { HasField (view self.now) r.now.table field }
         requires line { IsLine r.now.line }
-        ensures ok { IfOk result (λ v. get (view self.now) r.now field ≡ Ok v) }
-        ensures fault { IfErr result (FaultsAs (get (view self.now) r.now field)) };
+        ensures { Reads (get (view self.now) r.now field) result };
 
     /// Writes a field of the line that a reference names. The fault `Reference` comes exactly where the line isn't there. It
     /// doesn't count as a use of the line.
     fn set(&mut self, r: &Ref, field: u16, v: Value) -> Result<(), Trouble>
         requires served { TakesField (view self.old) r.now.table field v }
         requires line { IsLine r.now.line }
-        requires lawful { IsLawful (view self.old) }
-        ensures ok { OnOk result (set (view self.old) r.now field v ≡ Ok (view self.new)) }
-        ensures fault { IfErr result (FaultsAs (set (view self.old) r.now field v)) }
-        ensures refused { OnErr result (view self.new ≡ view self.old) }
-        ensures setting { SameSetting (view self.old) (view self.new) }
-        ensures lawful { IsLawful (view self.new) };
+        ensures { Does (set (view self.old) r.now field v) result (view self.old) (view self.new) };
 
     /// The reference to a line of a cache, a directory or a TBE table, or `None` exactly where the line isn't there.
     fn lookup(&self, table: u16, line: u64) -> Option<Ref>
@@ -76,13 +71,12 @@ pub trait Local {
         requires line { IsLine line }
         ensures { result ≡ avail (view self.now) table line };
 
-    /// The least recently used line of the set of a line, as `cacheProbe`. Of a lawful local the fault `Probe` comes exactly
-    /// where `avail` is true.
+    /// The least recently used line of the set of a line, as `cacheProbe`. The fault `Probe` comes exactly where `avail` is
+    /// true.
     fn probe(&self, table: u16, line: u64) -> Result<u64, Trouble>
         requires served { Serves is_cache (view self.now) table }
         requires line { IsLine line }
-        ensures ok { IfOk result (λ l. probe (view self.now) table line ≡ Ok l) }
-        ensures fault { IfErr result (FaultsAs (probe (view self.now) table line)) };
+        ensures { Reads (probe (view self.now) table line) result };
 
     /// Puts a line with its default fields into a cache, as the most recently used one of its set, or into a TBE table, and
     /// answers the reference to it. The fault `Present` comes where the line is there, and else `Full` where there is no place
@@ -90,35 +84,19 @@ pub trait Local {
     fn allocate(&mut self, table: u16, line: u64) -> Result<Ref, Trouble>
         requires served { Serves looks_up (view self.old) table }
         requires line { IsLine line }
-        requires lawful { IsLawful (view self.old) }
-        ensures ok { OnOk result (allocate (view self.old) table line ≡ Ok (view self.new)) }
-        ensures entry { IfOk result (λ r. r ≡ reference_to table line) }
-        ensures fault { IfErr result (FaultsAs (allocate (view self.old) table line)) }
-        ensures refused { OnErr result (view self.new ≡ view self.old) }
-        ensures setting { SameSetting (view self.old) (view self.new) }
-        ensures lawful { IsLawful (view self.new) };
+        ensures { DoesWith (allocate (view self.old) table line) (reference_to table line) result (view self.old) (view self.new) };
 
     /// Takes a line out of a cache or a TBE table. The fault `Absent` comes exactly where it isn't there.
     fn deallocate(&mut self, table: u16, line: u64) -> Result<(), Trouble>
         requires served { Serves deallocates (view self.old) table }
         requires line { IsLine line }
-        requires lawful { IsLawful (view self.old) }
-        ensures ok { OnOk result (deallocate (view self.old) table line ≡ Ok (view self.new)) }
-        ensures fault { IfErr result (FaultsAs (deallocate (view self.old) table line)) }
-        ensures refused { OnErr result (view self.new ≡ view self.old) }
-        ensures setting { SameSetting (view self.old) (view self.new) }
-        ensures lawful { IsLawful (view self.new) };
+        ensures { Does (deallocate (view self.old) table line) result (view self.old) (view self.new) };
 
     /// Makes a line the most recently used one of its set, as `setMRU`. The fault `Absent` comes exactly where it isn't there.
     fn touch(&mut self, table: u16, line: u64) -> Result<(), Trouble>
         requires served { Serves is_cache (view self.old) table }
         requires line { IsLine line }
-        requires lawful { IsLawful (view self.old) }
-        ensures ok { OnOk result (touch (view self.old) table line ≡ Ok (view self.new)) }
-        ensures fault { IfErr result (FaultsAs (touch (view self.old) table line)) }
-        ensures refused { OnErr result (view self.new ≡ view self.old) }
-        ensures setting { SameSetting (view self.old) (view self.new) }
-        ensures lawful { IsLawful (view self.new) };
+        ensures { Does (touch (view self.old) table line) result (view self.old) (view self.new) };
 
     /// How many more lines a TBE table may hold.
     fn free(&self, table: u16) -> u64
@@ -134,60 +112,39 @@ pub trait Local {
     /// The fault `Front` comes exactly where there is none.
     fn front(&self, buffer: u16) -> Result<Message, Trouble>
         requires served { Receives (view self.now) buffer }
-        ensures ok { IfOk result (λ m. peek (view self.now) buffer ≡ Ok m) }
-        ensures fault { IfErr result (FaultsAs (peek (view self.now) buffer)) };
+        ensures { Reads (required_front (view self.now) buffer) result };
+
+    /// The front of a buffer, lent, or `None` exactly where there is none.
+    fn peek(&self, buffer: u16) -> Option<&Message>
+        requires served { Receives (view self.now) buffer }
+        ensures { option_copied result ≡ front_now (view self.now) buffer };
 
     /// Consumes the front of a buffer. The fault `Front` comes exactly where there is none.
     fn pop(&mut self, buffer: u16) -> Result<(), Trouble>
         requires served { Receives (view self.old) buffer }
-        requires lawful { IsLawful (view self.old) }
-        ensures ok { OnOk result (pop (view self.old) buffer ≡ Ok (view self.new)) }
-        ensures fault { IfErr result (FaultsAs (pop (view self.old) buffer)) }
-        ensures refused { OnErr result (view self.new ≡ view self.old) }
-        ensures setting { SameSetting (view self.old) (view self.new) }
-        ensures lawful { IsLawful (view self.new) };
+        ensures { Does (pop (view self.old) buffer) result (view self.old) (view self.new) };
 
     /// Takes the front of a buffer aside under a line. The fault `Front` comes exactly where there is none.
     fn stall(&mut self, buffer: u16, line: u64) -> Result<(), Trouble>
         requires served { Receives (view self.old) buffer }
         requires line { IsLine line }
-        requires lawful { IsLawful (view self.old) }
-        ensures ok { OnOk result (stall (view self.old) buffer line ≡ Ok (view self.new)) }
-        ensures fault { IfErr result (FaultsAs (stall (view self.old) buffer line)) }
-        ensures refused { OnErr result (view self.new ≡ view self.old) }
-        ensures setting { SameSetting (view self.old) (view self.new) }
-        ensures lawful { IsLawful (view self.new) };
+        ensures { Does (stall (view self.old) buffer line) result (view self.old) (view self.new) };
 
     /// Puts the messages that wait under a line back, with their old arrivals and numbers. No fault comes.
     fn wake(&mut self, line: u64) -> Result<(), Trouble>
         requires line { IsLine line }
-        requires lawful { IsLawful (view self.old) }
-        ensures ok { OnOk result (view self.new ≡ wake (view self.old) line) }
-        ensures no_fault { IfErr result (λ trouble. trouble ≡ Trouble.NoMemory) }
-        ensures refused { OnErr result (view self.new ≡ view self.old) }
-        ensures setting { SameSetting (view self.old) (view self.new) }
-        ensures lawful { IsLawful (view self.new) };
+        ensures { Does (Ok (wake (view self.old) line)) result (view self.old) (view self.new) };
 
     /// Puts all messages back that wait, with their old arrivals and numbers. No fault comes.
     fn wake_all(&mut self) -> Result<(), Trouble>
-        requires lawful { IsLawful (view self.old) }
-        ensures ok { OnOk result (view self.new ≡ wake_all (view self.old)) }
-        ensures no_fault { IfErr result (λ trouble. trouble ≡ Trouble.NoMemory) }
-        ensures refused { OnErr result (view self.new ≡ view self.old) }
-        ensures setting { SameSetting (view self.old) (view self.new) }
-        ensures lawful { IsLawful (view self.new) };
+        ensures { Does (Ok (wake_all (view self.old))) result (view self.old) (view self.new) };
 
     /// Gives the front of a buffer a later arrival, which is this cycle and a latency, for which the controller will wake; it
-    /// counts as recycled from then on. The fault `Latency` comes where that
-    /// is outside 1 to 1,000,000, and else `Front` where there is no front.
+    /// counts as recycled from then on. The fault `Latency` comes where that is outside 1 to 1,000,000, and else `Front` where
+    /// there is no front.
     fn recycle(&mut self, buffer: u16, latency: i64) -> Result<(), Trouble>
         requires served { Receives (view self.old) buffer }
-        requires lawful { IsLawful (view self.old) }
-        ensures ok { OnOk result (recycle (view self.old) buffer latency ≡ Ok (view self.new)) }
-        ensures fault { IfErr result (FaultsAs (recycle (view self.old) buffer latency)) }
-        ensures refused { OnErr result (view self.new ≡ view self.old) }
-        ensures setting { SameSetting (view self.old) (view self.new) }
-        ensures lawful { IsLawful (view self.new) };
+        ensures { Does (recycle (view self.old) buffer latency) result (view self.old) (view self.new) };
 
     /// Sends a message: one copy into a buffer of the controller's own, or on a buffer to a network one copy to each receiver
     /// that the message names. The fault `Latency` comes where that is outside 1 to 1,000,000; else `Route` where a receiver
@@ -195,59 +152,35 @@ pub trait Local {
     fn send(&mut self, buffer: u16, latency: i64, fields: Fields) -> Result<(), Trouble>
         requires served { Sends (view self.old) buffer }
         requires fields { TakesMessage (view self.old) buffer fields }
-        requires lawful { IsLawful (view self.old) }
-        ensures ok { OnOk result (enqueue (view self.old) buffer latency fields ≡ Ok (view self.new)) }
-        ensures fault { IfErr result (FaultsAs (enqueue (view self.old) buffer latency fields)) }
-        ensures refused { OnErr result (view self.new ≡ view self.old) }
-        ensures setting { SameSetting (view self.old) (view self.new) }
-        ensures lawful { IsLawful (view self.new) };
+        ensures { Does (enqueue (view self.old) buffer latency fields) result (view self.old) (view self.new) };
 
     /// Finishes a load or a fetch of a line with the block that it reads. The fault `Callback` comes exactly where the line
     /// has no such request.
     fn read_back(&mut self, line: u64, block: &Block) -> Result<(), Trouble>
         requires line { IsLine line }
-        requires lawful { IsLawful (view self.old) }
-        ensures ok { OnOk result (read_back (view self.old) line block.now ≡ Ok (view self.new)) }
-        ensures fault { IfErr result (FaultsAs (read_back (view self.old) line block.now)) }
-        ensures refused { OnErr result (view self.new ≡ view self.old) }
-        ensures setting { SameSetting (view self.old) (view self.new) }
-        ensures lawful { IsLawful (view self.new) };
+        ensures { Does (read_back (view self.old) line block.now) result (view self.old) (view self.new) };
 
     /// Finishes a store to a line, and answers the block in which its byte is written. The fault `Callback` comes exactly
     /// where the line has no such request.
     fn write_back(&mut self, line: u64, block: Block) -> Result<Block, Trouble>
         requires line { IsLine line }
-        requires lawful { IsLawful (view self.old) }
-        ensures ok { OnOk result (write_back (view self.old) line block ≡ Ok (view self.new)) }
-        ensures block { IfOk result (λ b. b ≡ written_back (view self.old) line block) }
-        ensures fault { IfErr result (FaultsAs (write_back (view self.old) line block)) }
-        ensures refused { OnErr result (view self.new ≡ view self.old) }
-        ensures setting { SameSetting (view self.old) (view self.new) }
-        ensures lawful { IsLawful (view self.new) };
+        ensures { DoesWith (write_back (view self.old) line block) (written_back (view self.old) line block) result (view self.old) (view self.new) };
 
-    /// The state of a line in the built-in map, of a machine that has it.
+    /// The state of a line in the built-in map, or the default state where it was never set.
     fn state(&self, line: u64) -> u16
         requires served { HasStates (view self.now) }
         requires line { IsLine line }
         ensures { result ≡ state (view self.now) line };
 
-    /// Sets the state of a line in the built-in map, of a machine that has it. No fault comes.
+    /// Sets the state of a line in the built-in map. No fault comes.
     fn set_state(&mut self, line: u64, state: u16) -> Result<(), Trouble>
         requires served { HasStates (view self.old) }
         requires line { IsLine line }
-        requires lawful { IsLawful (view self.old) }
-        ensures ok { OnOk result (view self.new ≡ set_state (view self.old) line state) }
-        ensures no_fault { IfErr result (λ trouble. trouble ≡ Trouble.NoMemory) }
-        ensures refused { OnErr result (view self.new ≡ view self.old) }
-        ensures setting { SameSetting (view self.old) (view self.new) }
-        ensures lawful { IsLawful (view self.new) };
+        ensures { Does (Ok (set_state (view self.old) line state)) result (view self.old) (view self.new) };
 
     /// Sees to it that the controller wakes in the next cycle. No fault comes.
     fn again(&mut self) -> Result<(), Trouble>
-        requires lawful { IsLawful (view self.old) }
-        ensures ok { OnOk result (view self.new ≡ again (view self.old)) }
-        ensures no_fault { IfErr result (λ trouble. trouble ≡ Trouble.NoMemory) }
-        ensures refused { OnErr result (view self.new ≡ view self.old) }
-        ensures setting { SameSetting (view self.old) (view self.new) }
-        ensures lawful { IsLawful (view self.new) };
+        ensures { Does (Ok (again (view self.old))) result (view self.old) (view self.new) };
+
+    ghost lawful: { (l : Self) → IsLawful (view l) };
 }

@@ -19,20 +19,6 @@ pub struct Routes {
     pub receiving: Seq<Seq<Option<u16>>>,
 }
 
-/// The sizes of a machine's tables and the values of its parameters, as far as a topology sets them, and where each
-/// machine's controllers stand. What isn't listed has its default.
-#[derive(Debug, Drop)]
-pub struct Sizes {
-    /// A cache's number among the machine's tables, its sets and its ways.
-    pub caches: Seq<(u16, u32, u32)>,
-    /// A TBE table's number among the machine's tables, and how many lines it may hold.
-    pub tbes: Seq<(u16, u32)>,
-    /// A parameter's number among the machine's parameters, and its value.
-    pub parameters: Seq<(u16, i64)>,
-    /// For every machine of the protocol, in the order of the text, its first controller's number and its count.
-    pub machines: Seq<(u32, u32)>,
-}
-
 impl Routes {
     /// The buffer that takes the messages of a virtual network at a controller, if there is one. It takes no memory.
     pub fn receiving_buffer(&self, receiver: u32, network: u16) -> Option<u16>

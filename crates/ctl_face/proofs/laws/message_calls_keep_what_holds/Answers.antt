@@ -1,6 +1,6 @@
 use Rattle.ctl_face.proofs.Callbacks.{read_back_keeps, write_back_keeps}
-use Rattle.ctl_face.proofs.Kept.{pop_keeps, stall_keeps, wake_keeps, wake_all_keeps, recycle_keeps, again_keeps}
-use Rattle.ctl_face.proofs.Sends.{enqueue_keeps}
+use Rattle.ctl_face.proofs.MailKept.{pop_keeps, stall_keeps, wake_keeps, wake_all_keeps, recycle_keeps, again_keeps}
+use Rattle.ctl_face.proofs.Sendings.{enqueue_keeps}
 use Rattle.ctl_face.proofs.laws.message_calls_keep_what_holds.Goals as goal
 
 pub returns : goal.returns

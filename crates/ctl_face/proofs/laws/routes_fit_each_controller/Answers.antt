@@ -1,0 +1,5 @@
+use Rattle.ctl_face.proofs.OwnBuffers.{fit_each}
+use Rattle.ctl_face.proofs.laws.routes_fit_each_controller.Goals as goal
+
+pub returns : goal.returns
+returns c = fit_each

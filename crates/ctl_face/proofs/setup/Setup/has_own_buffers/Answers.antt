@@ -1,9 +1,0 @@
-use Rattle.std.proofs.Common.{◌≡◌, Some, slice_get}
-use Rattle.ctl_face.proofs.OwnBuffers.{own_from}
-use Rattle.ctl_face.proofs.setup.Setup.has_own_buffers.Goals as goal
-
-pub returns-in-Some : goal.returns-in-Some
-returns-in-Some c =
-    let there : Some c.in-Some.buffers.now ≡ slice_get c.args.self.now.routes.receiving c.args.self.now.me = c.in-Some.ensures in
-    let is : slice_get c.args.self.now.routes.receiving c.args.self.now.me ≡ Some c.as_slice.result.now = cc in
-    own_from c.args.self.now c.as_slice.result.now is c.are_from.result c.are_from.ensures

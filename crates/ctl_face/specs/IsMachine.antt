@@ -1,0 +1,68 @@
+-- What holds of what a machine is to its controllers: each cache and TBE table has place for a line, and for no more than the
+-- limits; no field of a line or of a message is a reference; the default fields of each table have their kinds; a buffer's
+-- network is one of the 16; the field that names the receivers of a message to a network is a set of controllers; buffers on
+-- one network have one message type, whatever the default members of its enumerations are called. That no field is a
+-- reference is the rule of SLICC in gem5; the limits are this project's own.
+use Rattle.std.specs.Prelude.{◌≡◌, ◌<◌, ◌≤◌, ◌*◌, ℕ, false, List, Option, None, Some, slice_get, IsTrue, IfSome}
+use Rattle.std.specs.List.{All}
+use Rattle.ruby_value.specs.declared.kind.Kind.TheVariants.{Dest}
+use Rattle.ruby_value.specs.declared.kind.Kind.{Kind}
+use Rattle.ruby_value.specs.declared.setup.BufferPlace.TheVariants as place
+use Rattle.ruby_value.specs.declared.setup.BufferPlace.{BufferPlace}
+use Rattle.ruby_value.specs.declared.setup.BufferSetup.{BufferSetup}
+use Rattle.ruby_value.specs.declared.setup.MachineSetup.{MachineSetup}
+use Rattle.ruby_value.specs.declared.setup.TableSetup.{TableSetup}
+use Rattle.ruby_value.specs.declared.setup.TableSize.TheVariants as size
+use Rattle.ruby_value.specs.declared.setup.TableSize.{TableSize}
+use Rattle.ruby_value.specs.HasKinds.{has_kinds}
+use Rattle.ruby_value.specs.IsReference.{is_reference}
+use Rattle.ruby_value.specs.SameKinds.{same_kinds}
+
+-- how many lines a table may have place for
+abbrev pub HasPlaces : TableSize → Type 0
+HasPlaces (size.Cache sets ways) = (1 ≤ sets) × (1 ≤ ways) × (sets * ways ≤ 65536)
+HasPlaces size.Directory = Unit {0}
+HasPlaces (size.Tbe entries) = (1 ≤ entries) × (entries ≤ 256)
+HasPlaces size.Parameters = Unit {0}
+
+-- none of the kinds is one of references
+abbrev pub ArePlain : List Kind → Type 0
+ArePlain kinds = All (λ k. is_reference k ≡ false) kinds
+
+pub record IsTableSetup (s : TableSetup) : Type 0 where
+  pub places : HasPlaces s.size
+  pub plain : ArePlain s.kinds
+  pub initial : IsTrue (has_kinds s.kinds s.initial)
+
+abbrev pub network_count : ℕ
+network_count = 16
+
+-- the virtual network that a buffer is on
+abbrev pub network_of : BufferPlace → Option ℕ
+network_of place.Local = None
+network_of (place.To network destination) = Some network
+network_of (place.From network) = Some network
+
+-- the field that names the receivers of a buffer's messages
+abbrev pub receivers_field : BufferPlace → Option ℕ
+receivers_field place.Local = None
+receivers_field (place.To network destination) = destination
+receivers_field (place.From network) = None
+
+pub record IsBufferSetup (s : BufferSetup) : Type 0 where
+  pub network : IfSome (network_of s.place) (λ n. n < network_count)
+  pub receivers : IfSome (receivers_field s.place) (λ field. slice_get s.kinds field ≡ Some Dest)
+  pub plain : ArePlain s.kinds
+
+-- two buffers on one network have one message type
+abbrev pub AgreeOnType : BufferSetup → BufferSetup → Type 0
+AgreeOnType a b = (network : ℕ) → network_of a.place ≡ Some network → network_of b.place ≡ Some network → IsTrue (same_kinds a.kinds b.kinds)
+
+-- all buffers on one network do
+pub record ShareTypes (buffers : List BufferSetup) : Type 0 where
+  pub one_type : All (λ a. All (AgreeOnType a) buffers) buffers
+
+pub record IsMachine (machine : MachineSetup) : Type 0 where
+  pub tables : All IsTableSetup machine.tables
+  pub buffers : All IsBufferSetup machine.buffers
+  pub one_type : ShareTypes machine.buffers

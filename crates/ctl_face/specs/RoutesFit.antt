@@ -1,0 +1,60 @@
+-- What it means that routes fit: of a whole run, with all machines of its protocol and where their controllers stand, and of
+-- one controller, whose acts need no more. The path from each controller to itself takes no cycle. A network keeps order
+-- where some buffer of the protocol is called ordered, as it may also where the topology says so. The buffer that takes a
+-- network's messages at a controller is one of its machine from that network, and a number that is no controller's takes none.
+-- Paths and jitter are within their limits, which are this project's own.
+use Rattle.std.specs.Prelude.{◌≡◌, ◌<◌, ◌≤◌, ◌+◌, ℕ, true, List, Option, None, Some, length, slice_get, IsTrue, IfSome, IsSomeAnd}
+use Rattle.std.specs.List.{All}
+use Rattle.std.specs.Option.{option_flatten}
+use Rattle.ruby_value.specs.declared.setup.BufferPlace.TheVariants as place
+use Rattle.ruby_value.specs.declared.setup.BufferSetup.{BufferSetup}
+use Rattle.ruby_value.specs.declared.setup.MachineSetup.{MachineSetup}
+use Rattle.ctl_face.specs.declared.routes.Routes.{Routes}
+use Rattle.ctl_face.specs.IsMachine.{network_count, network_of}
+use Rattle.ctl_face.specs.OfMachine.{buffer_place}
+use Rattle.ctl_face.specs.Routing.{is_ordered, path_to, receiving_buffer}
+
+abbrev pub longest_path : ℕ
+longest_path = 126000
+
+abbrev pub most_jitter : ℕ
+most_jitter = 1000
+
+pub record AreWithinLimits (routes : Routes) : Type 0 where
+  pub all_networks : length routes.ordered ≡ network_count
+  pub paths : All (All (λ path. path ≤ longest_path)) routes.paths
+  pub jitter : routes.jitter ≤ most_jitter
+
+-- the network of a buffer that is called ordered keeps order
+abbrev pub KeepsOrder : Routes → BufferSetup → Type 0
+KeepsOrder routes s = s.ordered ≡ true → IfSome (network_of s.place) (λ network. IsTrue (is_ordered routes network))
+
+-- the buffer, if there is one, is from the network
+abbrev pub IsFrom : MachineSetup → ℕ → Option ℕ → Type 0
+IsFrom machine network buffer = IfSome buffer (λ b. buffer_place machine b ≡ Some (place.From network))
+
+-- of a list of buffers by network, each is from its network
+abbrev pub AreFrom : MachineSetup → List (Option ℕ) → Type 0
+AreFrom machine buffers = (network : ℕ) → IsFrom machine network (option_flatten (slice_get buffers network))
+
+-- the buffers that take the messages of networks at a controller of the machine
+abbrev pub ReceivesFrom : MachineSetup → ℕ → Routes → Type 0
+ReceivesFrom machine controller routes = (network : ℕ) → IsFrom machine network (receiving_buffer routes controller network)
+
+-- what one controller's acts need of the routes
+pub record HasRoutes (machine : MachineSetup) (me : ℕ) (routes : Routes) : Type 0 where
+  pub limits : AreWithinLimits routes
+  pub own_path : path_to routes me me ≡ 0
+  pub order : All (KeepsOrder routes) machine.buffers
+  pub own_buffers : ReceivesFrom machine me routes
+
+-- a controller is of the machine at a place of the protocol, by the first number and the count of each machine
+abbrev pub StandsAt : List (ℕ × ℕ) → ℕ → ℕ → Type 0
+StandsAt stand place controller = IsSomeAnd (slice_get stand place) (λ p. (p.0 ≤ controller) × (controller < p.0 + p.1))
+
+pub record RoutesFit (machines : List MachineSetup) (stand : List (ℕ × ℕ)) (routes : Routes) : Type 0 where
+  pub limits : AreWithinLimits routes
+  pub own_paths : (controller : ℕ) → path_to routes controller controller ≡ 0
+  pub order : All (λ (m : MachineSetup). All (KeepsOrder routes) m.buffers) machines
+  pub receivers : (place controller : ℕ) → StandsAt stand place controller → IfSome (slice_get machines place) (λ m. ReceivesFrom m controller routes)
+  pub nobody_else : (controller : ℕ) → ((place : ℕ) → ¬ (StandsAt stand place controller)) → (network : ℕ) → receiving_buffer routes controller network ≡ None
