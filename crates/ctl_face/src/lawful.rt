@@ -34,9 +34,7 @@ fn are_plain(kinds: &[Kind]) -> bool
 fn is_table(s: &TableSetup) -> bool
     ensures { IsTrue result ↔ IsTableSetup s.now }
 {
-    has_places(s.size)
-        && are_plain(s.kinds.as_slice())
-        && have_kinds(s.kinds.as_slice(), s.initial.as_slice())
+    has_places(s.size) && are_plain(&s.kinds) && have_kinds(&s.kinds, s.initial.as_slice())
 }
 
 // The virtual network that the buffer is on.
@@ -75,16 +73,14 @@ fn is_buffer(s: &BufferSetup) -> bool
         Some(network) => network < 16,
         None => true,
     };
-    is_network && names_receivers(s) && are_plain(s.kinds.as_slice())
+    is_network && names_receivers(s) && are_plain(&s.kinds)
 }
 
 fn agree_on_type(a: &BufferSetup, b: &BufferSetup) -> bool
     ensures { IsTrue result ↔ AgreeOnType a.now b.now }
 {
     match (network_of(a.place), network_of(b.place)) {
-        (Some(of_a), Some(of_b)) if of_a == of_b => {
-            are_same_kinds(a.kinds.as_slice(), b.kinds.as_slice())
-        }
+        (Some(of_a), Some(of_b)) if of_a == of_b => { are_same_kinds(&a.kinds, &b.kinds) }
         _ => true,
     }
 }
@@ -106,13 +102,13 @@ fn all_agree(buffers: &[BufferSetup]) -> bool
 pub fn is_machine(machine: &MachineSetup) -> bool
     ensures { IsTrue result ↔ IsMachine machine.now }
 {
-    if !machine.tables.as_slice().iter().all(|s| is_table(s)) {
+    if !machine.tables.iter().all(|s| is_table(s)) {
         return false;
     }
-    if !machine.buffers.as_slice().iter().all(|s| is_buffer(s)) {
+    if !machine.buffers.iter().all(|s| is_buffer(s)) {
         return false;
     }
-    all_agree(machine.buffers.as_slice())
+    all_agree(&machine.buffers)
 }
 
 fn are_short(paths: &[u64]) -> bool
@@ -124,12 +120,7 @@ fn are_short(paths: &[u64]) -> bool
 fn are_within_limits(routes: &Routes) -> bool
     ensures { IsTrue result ↔ AreWithinLimits routes.now }
 {
-    if !routes
-        .paths
-        .as_slice()
-        .iter()
-        .all(|from| are_short(from.as_slice()))
-    {
+    if !routes.paths.iter().all(|from| are_short(from)) {
         return false;
     }
     routes.ordered.len() == 16 && routes.jitter <= 1000
@@ -177,7 +168,7 @@ fn receives_from(machine: &MachineSetup, controller: u32, routes: &Routes) -> bo
     ensures { IsTrue result ↔ ReceivesFrom machine.now controller routes.now }
 {
     match routes.receiving.get(controller as usize) {
-        Some(buffers) => are_from(machine, buffers.as_slice()),
+        Some(buffers) => are_from(machine, buffers),
         None => true,
     }
 }
@@ -189,12 +180,7 @@ pub fn has_routes(machine: &MachineSetup, me: u32, routes: &Routes) -> bool
     if !are_within_limits(routes) || routes.path_to(me, me) != 0 {
         return false;
     }
-    if !machine
-        .buffers
-        .as_slice()
-        .iter()
-        .all(|s| keeps_order(routes, s))
-    {
+    if !machine.buffers.iter().all(|s| keeps_order(routes, s)) {
         return false;
     }
     receives_from(machine, me, routes)

@@ -107,7 +107,7 @@ pub fn takes_message(machine: &MachineSetup, buffer: u16, fields: &Fields) -> bo
     ensures { result ≡ has_kinds (message_kinds machine.now buffer) fields.now }
 {
     match machine.buffers.get(usize::from(buffer)) {
-        Some(s) => have_kinds(s.kinds.as_slice(), fields.as_slice()),
+        Some(s) => have_kinds(&s.kinds, fields.as_slice()),
         None => fields.is_empty(),
     }
 }

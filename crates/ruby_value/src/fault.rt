@@ -45,7 +45,7 @@ impl Fault {
         Ok(match fault {
             Fault::Invalid => Fault::Invalid,
             Fault::Assert => Fault::Assert,
-            Fault::Error(text) => Fault::Error(Text::copied(alloc, text.as_slice())?),
+            Fault::Error(text) => Fault::Error(Text::copied(alloc, text)?),
             Fault::Overflow => Fault::Overflow,
             Fault::Latency => Fault::Latency,
             Fault::Reference => Fault::Reference,
