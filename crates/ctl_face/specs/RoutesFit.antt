@@ -1,7 +1,8 @@
 -- What it means that routes fit: of a whole run, with all machines of its protocol and where their controllers stand, and of
 -- one controller, whose acts need no more. The path from each controller to itself takes no cycle. A network keeps order
 -- where some buffer of the protocol is called ordered, as it may also where the topology says so. The buffer that takes a
--- network's messages at a controller is one of its machine from that network, and a number that is no controller's takes none.
+-- network's messages at a controller is the one of its machine from that network, if there is one, and a number that is no
+-- controller's takes none.
 -- Paths and jitter are within their limits, which are this project's own.
 use Rattle.std.specs.Prelude.{◌≡◌, ◌<◌, ◌≤◌, ◌+◌, ℕ, true, List, Option, None, Some, length, slice_get, IsTrue, IfSome, IsSomeAnd}
 use Rattle.std.specs.List.{All}
@@ -50,11 +51,12 @@ pub record HasRoutes (machine : MachineSetup) (me : ℕ) (routes : Routes) : Typ
 
 -- a controller is of the machine at a place of the protocol, by the first number and the count of each machine
 abbrev pub StandsAt : List (ℕ × ℕ) → ℕ → ℕ → Type 0
-StandsAt stand place controller = IsSomeAnd (slice_get stand place) (λ p. (p.0 ≤ controller) × (controller < p.0 + p.1))
+StandsAt stand at controller = IsSomeAnd (slice_get stand at) (λ p. (p.0 ≤ controller) × (controller < p.0 + p.1))
 
 pub record RoutesFit (machines : List MachineSetup) (stand : List (ℕ × ℕ)) (routes : Routes) : Type 0 where
   pub limits : AreWithinLimits routes
   pub own_paths : (controller : ℕ) → path_to routes controller controller ≡ 0
   pub order : All (λ (m : MachineSetup). All (KeepsOrder routes) m.buffers) machines
-  pub receivers : (place controller : ℕ) → StandsAt stand place controller → IfSome (slice_get machines place) (λ m. ReceivesFrom m controller routes)
-  pub nobody_else : (controller : ℕ) → ((place : ℕ) → ¬ (StandsAt stand place controller)) → (network : ℕ) → receiving_buffer routes controller network ≡ None
+  pub receivers : (at controller : ℕ) → StandsAt stand at controller → IfSome (slice_get machines at) (λ m. ReceivesFrom m controller routes)
+  pub named : (at controller buffer network : ℕ) → StandsAt stand at controller → IfSome (slice_get machines at) (λ m. buffer_place m buffer ≡ Some (place.From network) → receiving_buffer routes controller network ≡ Some buffer)
+  pub nobody_else : (controller : ℕ) → ((at : ℕ) → ¬ (StandsAt stand at controller)) → (network : ℕ) → receiving_buffer routes controller network ≡ None
