@@ -1,0 +1,5 @@
+pub mod KindSets
+pub mod Tables
+pub mod Starts
+pub mod Forced
+pub mod Ahead
