@@ -52,7 +52,7 @@ into_form g predictive n place chosen row rows at sound =
     sound.2))
 
 -- the parts of an optional part
-decided_maybe : {F : Type 0} (g : Grammar F) (part row : Row F) → is_decided g (maybe part row) ≡ true → (is_nullable g part ≡ false) × (are_disjoint (first_of g part) (first_of g row) ≡ true) × (are_disjoint (further_of g part) (first_of g row) ≡ true) × (is_decided g part ≡ true) × (is_decided g row ≡ true)
+pub decided_maybe : {F : Type 0} (g : Grammar F) (part row : Row F) → is_decided g (maybe part row) ≡ true → (is_nullable g part ≡ false) × (are_disjoint (first_of g part) (first_of g row) ≡ true) × (are_disjoint (further_of g part) (first_of g row) ≡ true) × (is_decided g part ≡ true) × (is_decided g row ≡ true)
 decided_maybe g part row is =
     let p = and_five (not (is_nullable g part)) (are_disjoint (first_of g part) (first_of g row)) (are_disjoint (further_of g part) (first_of g row)) (is_decided g part) (is_decided g row) is in
     (not-true (is_nullable g part) p.0, p.1, p.2, p.3, p.4)
@@ -78,7 +78,7 @@ into_part g part row rows sound =
     λ kind is behind. part_apart g (further_of g part) (first_of g part ++ further_of g part) row rows parts.2 sound.1 kind is (in_right (first_of g part) (further_of g part) kind is) behind,
     into_rest g part row rows sound)
 
-decided_many : {F : Type 0} (g : Grammar F) (part row : Row F) → is_decided g (many part row) ≡ true → (is_nullable g part ≡ false) × (are_disjoint (first_of g part) (first_of g row) ≡ true) × (are_disjoint (further_of g part) (first_of g part ++ first_of g row) ≡ true) × (is_decided g part ≡ true) × (is_decided g row ≡ true)
+pub decided_many : {F : Type 0} (g : Grammar F) (part row : Row F) → is_decided g (many part row) ≡ true → (is_nullable g part ≡ false) × (are_disjoint (first_of g part) (first_of g row) ≡ true) × (are_disjoint (further_of g part) (first_of g part ++ first_of g row) ≡ true) × (is_decided g part ≡ true) × (is_decided g row ≡ true)
 decided_many g part row is =
     let p = and_five (not (is_nullable g part)) (are_disjoint (first_of g part) (first_of g row)) (are_disjoint (further_of g part) (first_of g part ++ first_of g row)) (is_decided g part) (is_decided g row) is in
     (not-true (is_nullable g part) p.0, p.1, p.2, p.3, p.4)

@@ -3,3 +3,5 @@ pub mod Tables
 pub mod Starts
 pub mod Forced
 pub mod Ahead
+pub mod Carried
+pub mod FirstFault
