@@ -12,13 +12,13 @@ use Rattle.grammar_rows.specs.Faults.IsStop.{one_too_deep, whole, opener_too_dee
 use Rattle.grammar_rows.specs.Reader.{refusal}
 
 -- two lists with a first element
-first_same : (a b : ℕ) (xs ys : List ℕ) → a ∷ xs ≡ b ∷ ys → a ≡ b
+pub first_same : (a b : ℕ) (xs ys : List ℕ) → a ∷ xs ≡ b ∷ ys → a ≡ b
 first_same a b xs ys same = grind arith
 
-rest_same : (a b : ℕ) (xs ys : List ℕ) → a ∷ xs ≡ b ∷ ys → xs ≡ ys
+pub rest_same : (a b : ℕ) (xs ys : List ℕ) → a ∷ xs ≡ b ∷ ys → xs ≡ ys
 rest_same a b xs ys same = grind arith
 
-no_element : (a : ℕ) (xs : List ℕ) → [] ≡ a ∷ xs → ⊥
+pub no_element : (a : ℕ) (xs : List ℕ) → [] ≡ a ∷ xs → ⊥
 no_element a xs same = grind arith
 
 module _ {F : Type 0} (g : Grammar F) (limit : ℕ) (row : Row F) (rows : Rows F) where

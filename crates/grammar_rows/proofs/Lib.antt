@@ -5,3 +5,4 @@ pub mod Forced
 pub mod Ahead
 pub mod Carried
 pub mod FirstFault
+pub mod Fronts
