@@ -13,7 +13,7 @@ use Rattle.grammar_rows.specs.Matches.Matches.{stopped, ended, one, alternative,
 use Rattle.grammar_rows.specs.Predictive.{is_decided, IsPredictive}
 use Rattle.grammar_rows.proofs.KindSets.{in_left, in_right, in_either, of_subset, of_disjoint, in_cond}
 use Rattle.grammar_rows.proofs.Tables.{Agrees, agrees_at, and_three, and_four, and_five, one_first, one_empty, one_row}
-use Rattle.grammar_rows.proofs.Starts.{RowsStart, Starts, starts_of}
+use Rattle.grammar_rows.proofs.Starts.{RowsStart, Starts, starts_of, nullable_of}
 
 -- no token of these kinds begins the rows
 abbrev pub IsApart : {F : Type 0} → Grammar F → List ℕ → Rows F → Type 0
@@ -169,3 +169,19 @@ module _ {F : Type 0} (g : Grammar F) (predictive : IsPredictive g) where
         inl here ↦ both_ways (has (g.first n) kind) ahead (of_subset (first_of g chosen) (g.first n) kind (agrees_at g predictive n other chosen also).first here)
       | inr later ↦ both_ways (g.may_be_empty n) not_empty ((agrees_at g predictive n other chosen also).empty later.0).0
       ]
+
+  not_both_of : (tokens : List ℕ) {nestings other : ℕ} {behind : Rows F} (part row : Row F) (rows : Rows F) → IsApart g (cond (is_nullable g row) (first_of g part ++ further_of g part) [] ++ further_of g row) rows → is_nullable g part ≡ false → are_disjoint (first_of g part) (first_of g row) ≡ true → Matches g Whole part behind tokens nestings → Matches g Whole row rows tokens other → ⊥
+  not_both_of [] part row rows apart not_empty disjoint m k = both_ways (is_nullable g part) not_empty (nullable_of g predictive m).0
+  not_both_of (kind ∷ tokens) {behind = behind} part row rows apart not_empty disjoint m k =
+      let starts : Starts g part behind kind = starts_of g predictive m in
+      elim starts [
+        inl here ↦ part_apart g (first_of g part) (first_of g part ++ further_of g part) row rows disjoint apart kind here (in_left (first_of g part) (further_of g part) kind here) (starts_of g predictive k)
+      | inr later ↦ both_ways (is_nullable g part) not_empty later.0
+      ]
+
+  -- an optional part isn't both there and not
+  pub not_both : {tokens : List ℕ} {nestings other : ℕ} (part row : Row F) (rows : Rows F) → IsSound g (maybe part row) rows → Matches g Whole part (next row rows) tokens nestings → Matches g Whole row rows tokens other → ⊥
+  not_both {tokens} {nestings} {other} part row rows sound m k = not_both_of tokens part row rows sound.1 (decided_maybe g part row sound.0).0 (decided_maybe g part row sound.0).1 m k
+
+  pub not_both_many : {tokens : List ℕ} {nestings other : ℕ} (part row : Row F) (rows : Rows F) → IsSound g (many part row) rows → Matches g Whole part (next (many part row) rows) tokens nestings → Matches g Whole row rows tokens other → ⊥
+  not_both_many {tokens} {nestings} {other} part row rows sound m k = not_both_of tokens part row rows sound.1 (decided_many g part row sound.0).0 (decided_many g part row sound.0).1 m k

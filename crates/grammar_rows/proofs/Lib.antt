@@ -6,3 +6,4 @@ pub mod Ahead
 pub mod Carried
 pub mod FirstFault
 pub mod Fronts
+pub mod OneChoice
