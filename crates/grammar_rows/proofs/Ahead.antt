@@ -1,13 +1,11 @@
 -- Where the reader's next token is one that by the table begins what it reads, that token may indeed stand there.
-use Rattle.std.proofs.Common.{◌≡◌, ℕ, zero, suc, Bool, true, false, ◌&&◌, cond, List, [], ◌∷◌, ◌++◌, Option, Some, refl, sym, ◌⊎◌, inl, inr}
-use Rattle.std.specs.List.{slice_get}
+use Rattle.std.proofs.Common.{◌≡◌, ℕ, suc, true, false, cond, List, [], ◌∷◌, ◌⊎◌, inl, inr}
 use Rattle.std.proofs.lemmas.Bool.{and_parts, false≢true, both_ways}
 use Rattle.grammar_rows.specs.Kinds.{has}
 use Rattle.grammar_rows.specs.Grammar.{Row, Rows, Grammar, nestings_of, is_nullable, first_of}
-use Rattle.grammar_rows.specs.Grammar.Row.{done, token, form, maybe, many, nested}
-use Rattle.grammar_rows.specs.Grammar.Rows.{end, next, up}
-use Rattle.grammar_rows.specs.Matches.{Begins, Extent, Matches}
-use Rattle.grammar_rows.specs.Matches.Extent.{Front}
+use Rattle.grammar_rows.specs.Grammar.Row.{done, form, maybe}
+use Rattle.grammar_rows.specs.Grammar.Rows.{next}
+use Rattle.grammar_rows.specs.Matches.{Begins, Matches}
 use Rattle.grammar_rows.specs.Faults.{Stop}
 use Rattle.grammar_rows.specs.Reader.{Stops}
 use Rattle.grammar_rows.specs.Reader.Stops.{read, on, outside, taken, refused, chosen, by_default, unformed, present, absent, again, enough, inside, too_deep, unopened}
@@ -17,36 +15,36 @@ use Rattle.grammar_rows.proofs.Starts.{RowsStart, Starts}
 not_first : {F : Type 0} (g : Grammar F) (kinds : List ℕ) (rows : Rows F) (kind : ℕ) → has kinds kind ≡ false → (has kinds kind ≡ true) ⊎ ((false ≡ true) × RowsStart g rows kind) → ⊥
 not_first g kinds rows kind ahead starts =
     elim starts [
-      inl here ↦ both_ways (has kinds kind) ahead here
-    | inr later ↦ false≢true later.0
+      | inl here ↦ both_ways (has kinds kind) ahead here
+      | inr later ↦ false≢true later.0
     ]
 
 -- behind a form none of whose alternatives begins with the token
 behind_form : {F : Type 0} (g : Grammar F) (n : F) (row : Row F) (rows : Rows F) (kind : ℕ) → has (g.first n) kind ≡ false → Starts g (form n row) rows kind → (g.may_be_empty n ≡ true) × Starts g row rows kind
 behind_form g n row rows kind ahead starts =
     elim starts [
-      inl here ↦ elim (in_either (g.first n) (cond (g.may_be_empty n) (first_of g row) []) kind here) [
-        inl of_form ↦ absurd (both_ways (has (g.first n) kind) ahead of_form)
-      | inr of_row ↦ let parts = from_cond (g.may_be_empty n) (first_of g row) kind of_row in (parts.0, inl parts.1)
+      | inl here ↦ elim (in_either (g.first n) (cond (g.may_be_empty n) (first_of g row) []) kind here) [
+        | inl of_form ↦ absurd (both_ways (has (g.first n) kind) ahead of_form)
+        | inr of_row ↦ let parts = from_cond (g.may_be_empty n) (first_of g row) kind of_row in (parts.0, inl parts.1)
       ]
-    | inr later ↦ let parts = and_parts (g.may_be_empty n) (is_nullable g row) later.0 in (parts.0, inr (parts.1, later.1))
+      | inr later ↦ let parts = and_parts (g.may_be_empty n) (is_nullable g row) later.0 in (parts.0, inr (parts.1, later.1))
     ]
 
 behind_part : {F : Type 0} (g : Grammar F) (part row : Row F) (rows : Rows F) (kind : ℕ) → has (first_of g part) kind ≡ false → Starts g (maybe part row) rows kind → Starts g row rows kind
 behind_part g part row rows kind ahead starts =
     elim starts [
-      inl here ↦ elim (in_either (first_of g part) (first_of g row) kind here) [
-        inl of_part ↦ absurd (both_ways (has (first_of g part) kind) ahead of_part)
-      | inr of_row ↦ inl of_row
+      | inl here ↦ elim (in_either (first_of g part) (first_of g row) kind here) [
+        | inl of_part ↦ absurd (both_ways (has (first_of g part) kind) ahead of_part)
+        | inr of_row ↦ inl of_row
       ]
-    | inr later ↦ inr later
+      | inr later ↦ inr later
     ]
 
 behind_done : {F : Type 0} (g : Grammar F) (row : Row F) (rows : Rows F) (kind : ℕ) → Starts g done (next row rows) kind → Starts g row rows kind
 behind_done g row rows kind starts =
     elim starts [
-      inl here ↦ absurd (false≢true here)
-    | inr later ↦ later.1
+      | inl here ↦ absurd (false≢true here)
+      | inr later ↦ later.1
     ]
 
 pub may_stand : {F : Type 0} (g : Grammar F) {depth : ℕ} {row : Row F} {rows : Rows F} {kind : ℕ} {tokens : List ℕ} {stop : Stop} → Stops g depth row rows (kind ∷ tokens) stop → Starts g row rows kind → Begins g row rows (kind ∷ [])

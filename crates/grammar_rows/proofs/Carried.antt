@@ -1,13 +1,13 @@
 -- Where a list stops is carried over a step of the reader: a step that takes a token, and one that takes none.
-use Rattle.std.proofs.Common.{◌≡◌, ℕ, zero, suc, ◌+◌, ◌≤◌, ◌<◌, Bool, true, false, cond, List, [], ◌∷◌, ◌++◌, refl, sym, subst, ap, ◌∙◌, ◌⊎◌, inl, inr, arith, append-nil}
+use Rattle.std.proofs.Common.{◌≡◌, ℕ, zero, suc, ◌+◌, ◌≤◌, Bool, true, false, cond, List, [], ◌∷◌, ◌++◌, refl, sym, subst, ap, ◌∙◌, ◌⊎◌, inl, inr, arith, append-nil}
 use Rattle.std.proofs.lemmas.Bool.{both_ways}
 use Rattle.grammar_rows.specs.Kinds.{has}
 use Rattle.grammar_rows.specs.Grammar.{Row, Rows, Grammar, nestings_of}
 use Rattle.grammar_rows.specs.Matches.{Begins, Derives, Extent, Matches}
 use Rattle.grammar_rows.specs.Matches.Extent.{Whole, Front}
 use Rattle.grammar_rows.specs.Matches.Matches.{stopped}
-use Rattle.grammar_rows.specs.Faults.{Stop, IsWithin, IsLongest, IsOpenerTooDeep, IsStop}
-use Rattle.grammar_rows.specs.Faults.Stop.{Passed, Bad, Deep, Short}
+use Rattle.grammar_rows.specs.Faults.{Stop, IsWithin, IsLongest, IsStop}
+use Rattle.grammar_rows.specs.Faults.Stop.{Bad, Deep}
 use Rattle.grammar_rows.specs.Faults.IsStop.{one_too_deep, whole, opener_too_deep, not_viable, too_short}
 use Rattle.grammar_rows.specs.Reader.{refusal}
 
@@ -141,16 +141,16 @@ module _ {F : Type 0} (g : Grammar F) (limit : ℕ) (row : Row F) (rows : Rows F
     whole_step : (front rest : List ℕ) → tokens ≡ front ++ rest → IsLongest g limit to behind front rest → (Derives g to behind front → ⊥) → Derives g row rows front → ⊥
     whole_step [] rest split longest not_whole m =
         elim (steps.way) [
-          inl goes ↦ not_in rest split longest goes
-        | inr past ↦ not_whole (past.whole m)
+          | inl goes ↦ not_in rest split longest goes
+          | inr past ↦ not_whole (past.whole m)
         ]
     whole_step (t ∷ front) rest split longest not_whole m = not_whole (steps.forth Whole t front (front ++ rest) 0 split m)
 
     full_step : (front rest : List ℕ) → tokens ≡ front ++ rest → IsLongest g limit to behind front rest → ((nestings : ℕ) → Matches g Front to behind front nestings → limit ≤ nestings) → (nestings : ℕ) → Matches g Front row rows front nestings → limit ≤ nestings
     full_step [] rest split longest full nestings m =
         elim (steps.way) [
-          inl goes ↦ absurd (not_in rest split longest goes)
-        | inr past ↦ past.full full nestings m
+          | inl goes ↦ absurd (not_in rest split longest goes)
+          | inr past ↦ past.full full nestings m
         ]
     full_step (t ∷ front) rest split longest full nestings m = full nestings (steps.forth Front t front (front ++ rest) nestings split m)
 

@@ -1,5 +1,5 @@
 -- Where the reader stops, the list does: by induction over its steps.
-use Rattle.std.proofs.Common.{◌≡◌, ℕ, zero, suc, ◌+◌, ◌≤◌, ◌<◌, Bool, true, false, List, [], ◌∷◌, ◌++◌, Option, Some, refl, sym, subst, ◌⊎◌, inl, inr, arith}
+use Rattle.std.proofs.Common.{◌≡◌, ℕ, suc, ◌+◌, ◌≤◌, true, false, List, [], ◌∷◌, Some, refl, sym, subst, inl, inr, arith}
 use Rattle.std.specs.List.{slice_get}
 use Rattle.std.proofs.lemmas.Bool.{false≢true, both_ways, cases_Bool, and_left, and_from}
 use Rattle.grammar_rows.specs.Kinds.{has, is_ahead, are_disjoint}
@@ -12,11 +12,11 @@ use Rattle.grammar_rows.specs.Faults.{Stop, IsStop, IsFirstFault}
 use Rattle.grammar_rows.specs.Predictive.{IsPredictive}
 use Rattle.grammar_rows.specs.Reader.{refusal, Stops}
 use Rattle.grammar_rows.specs.Reader.Stops.{read, on, outside, taken, refused, chosen, by_default, unformed, present, absent, again, enough, inside, too_deep, unopened}
-use Rattle.grammar_rows.proofs.Tables.{Agrees, agrees_at, one_empty, one_row}
-use Rattle.grammar_rows.proofs.Starts.{starts_of, nullable_of, at_most, stays_open}
-use Rattle.grammar_rows.proofs.Forced.{IsSound, AreSound, into_form, into_rest, into_part, into_end, into_again, into_nested, decided_maybe, decided_many, goes_in, goes_by, goes_again, goes_past, goes_chosen, goes_by_default, goes_nowhere}
+use Rattle.grammar_rows.proofs.Tables.{one_empty, one_row}
+use Rattle.grammar_rows.proofs.Starts.{nullable_of, at_most, stays_open}
+use Rattle.grammar_rows.proofs.Forced.{IsSound, into_form, into_rest, into_part, into_end, into_again, into_nested, decided_maybe, decided_many, goes_in, goes_by, goes_again, goes_past, goes_chosen, goes_by_default, goes_nowhere}
 use Rattle.grammar_rows.proofs.Ahead.{may_stand}
-use Rattle.grammar_rows.proofs.Carried.{IsCalm, refused_stop, within_nothing, Takes, stop_taken, GoesIn, GoesPast, Steps, stop_step}
+use Rattle.grammar_rows.proofs.Carried.{IsCalm, refused_stop, within_nothing, Takes, stop_taken, Steps, stop_step}
 
 not_ahead : (kinds : List ℕ) (kind : ℕ) (tokens later : List ℕ) → is_ahead kinds tokens ≡ false → tokens ≡ kind ∷ later → has kinds kind ≡ false
 not_ahead kinds kind tokens later ahead same = subst (λ ts. is_ahead kinds ts ≡ false) same ahead
@@ -53,7 +53,7 @@ none_disjoint : (kinds : List ℕ) → are_disjoint kinds [] ≡ true
 none_disjoint [] = refl
 none_disjoint (k ∷ kinds) = and_from true (are_disjoint kinds []) refl (none_disjoint kinds)
 
-form_sound : {F : Type 0} (g : Grammar F) (n : F) → IsSound g (form n done) end
+pub form_sound : {F : Type 0} (g : Grammar F) (n : F) → IsSound g (form n done) end
 form_sound g n = (and_from (are_disjoint (g.further n) []) true (none_disjoint (g.further n)) refl, λ kind is starts. starts, tt)
 
 module _ {F : Type 0} (g : Grammar F) (predictive : IsPredictive g) (limit : ℕ) where
@@ -71,7 +71,6 @@ module _ {F : Type 0} (g : Grammar F) (predictive : IsPredictive g) (limit : ℕ
   goes_in_at : {depth : ℕ} {stop : Stop} (row : Row F) (rows : Rows F) (tokens : List ℕ) → is_ahead (first_of g row) tokens ≡ true → Stops g depth row rows tokens stop → (kind : ℕ) (later : List ℕ) → tokens ≡ kind ∷ later → Begins g row rows (kind ∷ [])
   goes_in_at {depth} {stop} row rows tokens ahead s kind later same =
       may_stand g (subst (λ ts. Stops g depth row rows ts stop) same s) (inl (is_first (first_of g row) kind tokens later ahead same))
-
 
   token_step : (depth : ℕ) (kinds : List ℕ) (row : Row F) (rows : Rows F) (kind : ℕ) → limit ≡ depth + nestings_of rows → has kinds kind ≡ true → Takes g limit (token kinds row) rows row rows kind
   token_step depth kinds row rows kind sum is =
@@ -134,10 +133,10 @@ module _ {F : Type 0} (g : Grammar F) (predictive : IsPredictive g) (limit : ℕ
   default_full n place choice row rows at empty full nestings Matches.stopped = full (nestings_of rows) Matches.stopped
   default_full n place choice row rows at empty full nestings (Matches.alternative other actual also m) =
       elim (cases_Bool (is_nullable g actual)) [
-        inl may_be ↦
-        let same = one_empty g predictive n place other choice actual at also empty may_be in
-        full nestings (subst (λ r. Matches g Front r (next row rows) [] nestings) (sym (one_row g n place other choice actual at also same)) m)
-      | inr not_empty ↦ let all = full_by actual (next row rows) not_empty nestings m in let below = full (nestings_of rows) Matches.stopped in omega arith
+        | inl may_be ↦
+            let same = one_empty g predictive n place other choice actual at also empty may_be in
+            full nestings (subst (λ r. Matches g Front r (next row rows) [] nestings) (sym (one_row g n place other choice actual at also same)) m)
+        | inr not_empty ↦ let all = full_by actual (next row rows) not_empty nestings m in let below = full (nestings_of rows) Matches.stopped in omega arith
       ]
 
   default_step : (depth : ℕ) (n : F) (place : ℕ) (choice row : Row F) (rows : Rows F) (tokens : List ℕ) → limit ≡ depth + nestings_of rows → slice_get (g.alternatives n) place ≡ Some choice → is_nullable g choice ≡ true → is_ahead (g.first n) tokens ≡ false → Steps g limit (form n row) rows choice (next row rows) tokens

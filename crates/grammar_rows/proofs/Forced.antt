@@ -1,18 +1,18 @@
 -- One token ahead decides: a row whose rows behind it begin with no token with which the row could go on stays such as a
 -- reader goes into its parts, and there one way alone matches a list that begins with the token.
-use Rattle.std.proofs.Common.{◌≡◌, ℕ, zero, suc, Bool, true, false, not, ◌&&◌, cond, List, [], ◌∷◌, ◌++◌, Option, Some, refl, sym, subst, ◌⊎◌, inl, inr}
+use Rattle.std.proofs.Common.{◌≡◌, ℕ, true, false, not, cond, List, [], ◌∷◌, ◌++◌, Some, sym, subst, ◌⊎◌, inl, inr}
 use Rattle.std.specs.List.{slice_get}
-use Rattle.std.proofs.lemmas.Bool.{and_parts, false≢true, both_ways, not-true}
-use Rattle.grammar_rows.specs.Kinds.{has, is_subset, are_disjoint}
+use Rattle.std.proofs.lemmas.Bool.{and_parts, both_ways, not-true}
+use Rattle.grammar_rows.specs.Kinds.{has, are_disjoint}
 use Rattle.grammar_rows.specs.Grammar.{Row, Rows, Grammar, is_nullable, first_of, further_of}
-use Rattle.grammar_rows.specs.Grammar.Row.{done, token, form, maybe, many, nested}
+use Rattle.grammar_rows.specs.Grammar.Row.{form, maybe, many, nested}
 use Rattle.grammar_rows.specs.Grammar.Rows.{end, next, up}
 use Rattle.grammar_rows.specs.Matches.{Extent, Matches}
-use Rattle.grammar_rows.specs.Matches.Extent.{Whole, Front}
-use Rattle.grammar_rows.specs.Matches.Matches.{stopped, ended, one, alternative, present, absent, again, enough, inside, on, outside}
+use Rattle.grammar_rows.specs.Matches.Extent.{Whole}
+use Rattle.grammar_rows.specs.Matches.Matches.{alternative, present, absent, again, enough}
 use Rattle.grammar_rows.specs.Predictive.{is_decided, IsPredictive}
-use Rattle.grammar_rows.proofs.KindSets.{in_left, in_right, in_either, of_subset, of_disjoint, in_cond}
-use Rattle.grammar_rows.proofs.Tables.{Agrees, agrees_at, and_three, and_four, and_five, one_first, one_empty, one_row}
+use Rattle.grammar_rows.proofs.KindSets.{in_left, in_right, of_subset, of_disjoint, in_cond}
+use Rattle.grammar_rows.proofs.Tables.{agrees_at, and_four, and_five, one_first, one_empty, one_row}
 use Rattle.grammar_rows.proofs.Starts.{RowsStart, Starts, starts_of, nullable_of}
 
 -- no token of these kinds begins the rows
@@ -38,18 +38,21 @@ decided_form g n row is = and_parts (are_disjoint (g.further n) (first_of g row)
 form_apart : {F : Type 0} (g : Grammar F) (n : F) (row : Row F) (rows : Rows F) → IsSound g (form n row) rows → (kind : ℕ) → has (g.further n) kind ≡ true → Behind g row rows kind → ⊥
 form_apart g n row rows sound kind is behind =
     elim behind [
-      inl here ↦ of_disjoint (g.further n) (first_of g row) kind (decided_form g n row sound.0).0 is here
-    | inr later ↦ sound.1 kind (in_left (cond (is_nullable g row) (g.further n) []) (further_of g row) kind (in_cond (is_nullable g row) (g.further n) kind later.0 is)) later.1
+      | inl here ↦ of_disjoint (g.further n) (first_of g row) kind (decided_form g n row sound.0).0 is here
+      | inr later ↦ sound.1 kind (in_left (cond (is_nullable g row) (g.further n) []) (further_of g row) kind (in_cond (is_nullable g row) (g.further n) kind later.0 is)) later.1
     ]
 
 pub into_form : {F : Type 0} (g : Grammar F) → IsPredictive g → (n : F) (place : ℕ) (chosen row : Row F) (rows : Rows F) → slice_get (g.alternatives n) place ≡ Some chosen → IsSound g (form n row) rows → IsSound g chosen (next row rows)
 into_form g predictive n place chosen row rows at sound =
-    let agrees = agrees_at g predictive n place chosen at in
-    (agrees.decided,
-    λ kind is behind. form_apart g n row rows sound kind (of_subset (further_of g chosen) (g.further n) kind agrees.further is) behind,
-    ((decided_form g n row sound.0).1,
-    λ kind is starts. sound.1 kind (in_right (cond (is_nullable g row) (g.further n) []) (further_of g row) kind is) starts,
-    sound.2))
+    let agrees = agrees_at g predictive n place chosen at in (
+      agrees.decided,
+      λ kind is behind. form_apart g n row rows sound kind (of_subset (further_of g chosen) (g.further n) kind agrees.further is) behind,
+      (
+        (decided_form g n row sound.0).1,
+        λ kind is starts. sound.1 kind (in_right (cond (is_nullable g row) (g.further n) []) (further_of g row) kind is) starts,
+        sound.2,
+      ),
+    )
 
 -- the parts of an optional part
 pub decided_maybe : {F : Type 0} (g : Grammar F) (part row : Row F) → is_decided g (maybe part row) ≡ true → (is_nullable g part ≡ false) × (are_disjoint (first_of g part) (first_of g row) ≡ true) × (are_disjoint (further_of g part) (first_of g row) ≡ true) × (is_decided g part ≡ true) × (is_decided g row ≡ true)
@@ -61,8 +64,8 @@ decided_maybe g part row is =
 part_apart : {F : Type 0} (g : Grammar F) (kinds all : List ℕ) (row : Row F) (rows : Rows F) → are_disjoint kinds (first_of g row) ≡ true → IsApart g (cond (is_nullable g row) all [] ++ further_of g row) rows → (kind : ℕ) → has kinds kind ≡ true → has all kind ≡ true → Behind g row rows kind → ⊥
 part_apart g kinds all row rows disjoint apart kind is among behind =
     elim behind [
-      inl here ↦ of_disjoint kinds (first_of g row) kind disjoint is here
-    | inr later ↦ apart kind (in_left (cond (is_nullable g row) all []) (further_of g row) kind (in_cond (is_nullable g row) all kind later.0 among)) later.1
+      | inl here ↦ of_disjoint kinds (first_of g row) kind disjoint is here
+      | inr later ↦ apart kind (in_left (cond (is_nullable g row) all []) (further_of g row) kind (in_cond (is_nullable g row) all kind later.0 among)) later.1
     ]
 
 rest_apart : {F : Type 0} (g : Grammar F) (all : List ℕ) (row : Row F) (rows : Rows F) → IsApart g (cond (is_nullable g row) all [] ++ further_of g row) rows → IsApart g (further_of g row) rows
@@ -73,10 +76,11 @@ into_rest g part row rows sound = ((decided_maybe g part row sound.0).4, rest_ap
 
 pub into_part : {F : Type 0} (g : Grammar F) (part row : Row F) (rows : Rows F) → IsSound g (maybe part row) rows → IsSound g part (next row rows)
 into_part g part row rows sound =
-    let parts = decided_maybe g part row sound.0 in
-    (parts.3,
-    λ kind is behind. part_apart g (further_of g part) (first_of g part ++ further_of g part) row rows parts.2 sound.1 kind is (in_right (first_of g part) (further_of g part) kind is) behind,
-    into_rest g part row rows sound)
+    let parts = decided_maybe g part row sound.0 in (
+      parts.3,
+      λ kind is behind. part_apart g (further_of g part) (first_of g part ++ further_of g part) row rows parts.2 sound.1 kind is (in_right (first_of g part) (further_of g part) kind is) behind,
+      into_rest g part row rows sound,
+    )
 
 pub decided_many : {F : Type 0} (g : Grammar F) (part row : Row F) → is_decided g (many part row) ≡ true → (is_nullable g part ≡ false) × (are_disjoint (first_of g part) (first_of g row) ≡ true) × (are_disjoint (further_of g part) (first_of g part ++ first_of g row) ≡ true) × (is_decided g part ≡ true) × (is_decided g row ≡ true)
 decided_many g part row is =
@@ -88,20 +92,22 @@ into_end g part row rows sound = ((decided_many g part row sound.0).4, rest_apar
 
 pub into_again : {F : Type 0} (g : Grammar F) (part row : Row F) (rows : Rows F) → IsSound g (many part row) rows → IsSound g part (next (many part row) rows)
 into_again g part row rows sound =
-    let parts = decided_many g part row sound.0 in
-    (parts.3,
-    λ kind is behind. elim behind [
-      inl here ↦ of_disjoint (further_of g part) (first_of g part ++ first_of g row) kind parts.2 is here
-    | inr later ↦ sound.1 kind (in_left (cond (is_nullable g row) (first_of g part ++ further_of g part) []) (further_of g row) kind (in_cond (is_nullable g row) (first_of g part ++ further_of g part) kind later.0 (in_right (first_of g part) (further_of g part) kind is))) later.1
-    ],
-    sound)
+    let parts = decided_many g part row sound.0 in (
+      parts.3,
+      λ kind is behind. elim behind [
+        | inl here ↦ of_disjoint (further_of g part) (first_of g part ++ first_of g row) kind parts.2 is here
+        | inr later ↦ sound.1 kind (in_left (cond (is_nullable g row) (first_of g part ++ further_of g part) []) (further_of g row) kind (in_cond (is_nullable g row) (first_of g part ++ further_of g part) kind later.0 (in_right (first_of g part) (further_of g part) kind is))) later.1
+      ],
+      sound,
+    )
 
 pub into_nested : {F : Type 0} (g : Grammar F) (kinds : List ℕ) (part row : Row F) (rows : Rows F) → IsSound g (nested kinds part row) rows → IsSound g part (up row rows)
 into_nested g kinds part row rows sound =
-    let parts = and_four (not (is_nullable g part)) (are_disjoint (further_of g part) (first_of g row)) (is_decided g part) (is_decided g row) sound.0 in
-    (parts.2,
-    λ kind is behind. part_apart g (further_of g part) (further_of g part) row rows parts.1 sound.1 kind is is behind,
-    (parts.3, rest_apart g (further_of g part) row rows sound.1, sound.2))
+    let parts = and_four (not (is_nullable g part)) (are_disjoint (further_of g part) (first_of g row)) (is_decided g part) (is_decided g row) sound.0 in (
+      parts.2,
+      λ kind is behind. part_apart g (further_of g part) (further_of g part) row rows parts.1 sound.1 kind is is behind,
+      (parts.3, rest_apart g (further_of g part) row rows sound.1, sound.2),
+    )
 
 module _ {F : Type 0} (g : Grammar F) (predictive : IsPredictive g) where
   -- an optional part is there where the token ahead is its
@@ -115,8 +121,8 @@ module _ {F : Type 0} (g : Grammar F) (predictive : IsPredictive g) where
   goes_by part row rows kind sound ahead (present m) =
       let starts : Starts g part (next row rows) kind = starts_of g predictive m in
       elim starts [
-        inl here ↦ absurd (both_ways (has (first_of g part) kind) ahead here)
-      | inr later ↦ absurd (both_ways (is_nullable g part) (decided_maybe g part row sound.0).0 later.0)
+        | inl here ↦ absurd (both_ways (has (first_of g part) kind) ahead here)
+        | inr later ↦ absurd (both_ways (is_nullable g part) (decided_maybe g part row sound.0).0 later.0)
       ]
 
   pub goes_again : {x : Extent} (part row : Row F) (rows : Rows F) (kind : ℕ) {tokens : List ℕ} {nestings : ℕ} → IsSound g (many part row) rows → has (first_of g part) kind ≡ true → Matches g x (many part row) rows (kind ∷ tokens) nestings → Matches g x part (next (many part row) rows) (kind ∷ tokens) nestings
@@ -129,26 +135,26 @@ module _ {F : Type 0} (g : Grammar F) (predictive : IsPredictive g) where
   goes_past part row rows kind sound ahead (again m) =
       let starts : Starts g part (next (many part row) rows) kind = starts_of g predictive m in
       elim starts [
-        inl here ↦ absurd (both_ways (has (first_of g part) kind) ahead here)
-      | inr later ↦ absurd (both_ways (is_nullable g part) (decided_many g part row sound.0).0 later.0)
+        | inl here ↦ absurd (both_ways (has (first_of g part) kind) ahead here)
+        | inr later ↦ absurd (both_ways (is_nullable g part) (decided_many g part row sound.0).0 later.0)
       ]
 
   -- the place of an alternative that matches is that of the one that begins with the token ahead
   pub place_chosen : (n : F) (place other : ℕ) (choice chosen row : Row F) (rows : Rows F) (kind : ℕ) → IsSound g (form n row) rows → slice_get (g.alternatives n) place ≡ Some choice → slice_get (g.alternatives n) other ≡ Some chosen → has (first_of g choice) kind ≡ true → Starts g chosen (next row rows) kind → place ≡ other
   place_chosen n place other choice chosen row rows kind sound at also ahead starts =
       elim starts [
-        inl here ↦ one_first g predictive n place other choice chosen kind at also ahead here
-      | inr later ↦
-        let further = of_subset (g.first n) (g.further n) kind ((agrees_at g predictive n other chosen also).empty later.0).1 (of_subset (first_of g choice) (g.first n) kind (agrees_at g predictive n place choice at).first ahead) in
-        absurd (form_apart g n row rows sound kind further later.1)
+        | inl here ↦ one_first g predictive n place other choice chosen kind at also ahead here
+        | inr later ↦
+            let further = of_subset (g.first n) (g.further n) kind ((agrees_at g predictive n other chosen also).empty later.0).1 (of_subset (first_of g choice) (g.first n) kind (agrees_at g predictive n place choice at).first ahead) in
+            absurd (form_apart g n row rows sound kind further later.1)
       ]
 
   -- and where none begins with it, that of the one that may be empty
   pub place_by_default : (n : F) (place other : ℕ) (choice chosen row : Row F) (rows : Rows F) (kind : ℕ) → slice_get (g.alternatives n) place ≡ Some choice → slice_get (g.alternatives n) other ≡ Some chosen → is_nullable g choice ≡ true → has (g.first n) kind ≡ false → Starts g chosen (next row rows) kind → place ≡ other
   place_by_default n place other choice chosen row rows kind at also empty ahead starts =
       elim starts [
-        inl here ↦ absurd (both_ways (has (g.first n) kind) ahead (of_subset (first_of g chosen) (g.first n) kind (agrees_at g predictive n other chosen also).first here))
-      | inr later ↦ one_empty g predictive n place other choice chosen at also empty later.0
+        | inl here ↦ absurd (both_ways (has (g.first n) kind) ahead (of_subset (first_of g chosen) (g.first n) kind (agrees_at g predictive n other chosen also).first here))
+        | inr later ↦ one_empty g predictive n place other choice chosen at also empty later.0
       ]
 
   pub goes_chosen : {x : Extent} (n : F) (place : ℕ) (choice row : Row F) (rows : Rows F) (kind : ℕ) {tokens : List ℕ} {nestings : ℕ} → IsSound g (form n row) rows → slice_get (g.alternatives n) place ≡ Some choice → has (first_of g choice) kind ≡ true → Matches g x (form n row) rows (kind ∷ tokens) nestings → Matches g x choice (next row rows) (kind ∷ tokens) nestings
@@ -166,8 +172,8 @@ module _ {F : Type 0} (g : Grammar F) (predictive : IsPredictive g) where
   goes_nowhere n row rows kind not_empty ahead (alternative other chosen also m) =
       let starts : Starts g chosen (next row rows) kind = starts_of g predictive m in
       elim starts [
-        inl here ↦ both_ways (has (g.first n) kind) ahead (of_subset (first_of g chosen) (g.first n) kind (agrees_at g predictive n other chosen also).first here)
-      | inr later ↦ both_ways (g.may_be_empty n) not_empty ((agrees_at g predictive n other chosen also).empty later.0).0
+        | inl here ↦ both_ways (has (g.first n) kind) ahead (of_subset (first_of g chosen) (g.first n) kind (agrees_at g predictive n other chosen also).first here)
+        | inr later ↦ both_ways (g.may_be_empty n) not_empty ((agrees_at g predictive n other chosen also).empty later.0).0
       ]
 
   not_both_of : (tokens : List ℕ) {nestings other : ℕ} {behind : Rows F} (part row : Row F) (rows : Rows F) → IsApart g (cond (is_nullable g row) (first_of g part ++ further_of g part) [] ++ further_of g row) rows → is_nullable g part ≡ false → are_disjoint (first_of g part) (first_of g row) ≡ true → Matches g Whole part behind tokens nestings → Matches g Whole row rows tokens other → ⊥
@@ -175,8 +181,8 @@ module _ {F : Type 0} (g : Grammar F) (predictive : IsPredictive g) where
   not_both_of (kind ∷ tokens) {behind = behind} part row rows apart not_empty disjoint m k =
       let starts : Starts g part behind kind = starts_of g predictive m in
       elim starts [
-        inl here ↦ part_apart g (first_of g part) (first_of g part ++ further_of g part) row rows disjoint apart kind here (in_left (first_of g part) (further_of g part) kind here) (starts_of g predictive k)
-      | inr later ↦ both_ways (is_nullable g part) not_empty later.0
+        | inl here ↦ part_apart g (first_of g part) (first_of g part ++ further_of g part) row rows disjoint apart kind here (in_left (first_of g part) (further_of g part) kind here) (starts_of g predictive k)
+        | inr later ↦ both_ways (is_nullable g part) not_empty later.0
       ]
 
   -- an optional part isn't both there and not

@@ -1,9 +1,9 @@
 -- Fronts of lists: what a row begins with it begins with up to any place; where a list stops is one place, for one reason.
-use Rattle.std.proofs.Common.{◌≡◌, ℕ, zero, suc, ◌≤◌, ◌<◌, Bool, true, false, List, [], ◌∷◌, ◌++◌, refl, sym, subst, ap, ◌∙◌, ◌⊎◌, inl, inr, arith, append-nil, append_assoc}
+use Rattle.std.proofs.Common.{◌≡◌, ℕ, ◌≤◌, ◌<◌, true, List, [], ◌∷◌, ◌++◌, refl, sym, subst, ◌∙◌, arith, append-nil, append_assoc}
 use Rattle.grammar_rows.specs.Kinds.{has}
-use Rattle.grammar_rows.specs.Grammar.{Row, Rows, Grammar, nestings_of}
+use Rattle.grammar_rows.specs.Grammar.{Row, Rows, Grammar}
 use Rattle.grammar_rows.specs.Matches.{Begins, Derives, Extent, Matches}
-use Rattle.grammar_rows.specs.Matches.Extent.{Whole, Front}
+use Rattle.grammar_rows.specs.Matches.Extent.{Front}
 use Rattle.grammar_rows.specs.Matches.Matches.{stopped, ended, one, alternative, present, absent, again, enough, inside, on, outside}
 use Rattle.grammar_rows.specs.Faults.{Stop, IsWithin, IsLongest, IsOpenerTooDeep, IsStop}
 use Rattle.grammar_rows.specs.Faults.Stop.{Passed, Bad, Deep, Short}
@@ -77,7 +77,10 @@ module _ {F : Type 0} (g : Grammar F) (limit : ℕ) (row : Row F) (rows : Rows F
       record { front = front; rest = kind ∷ later; split = split; within = within; reason = other kind later refl longest not_whole not_deep }
   seen tokens stop (too_short within begins not_whole) =
       record {
-        front = tokens; rest = []; split = sym (append-nil tokens); within = within;
+        front = tokens;
+        rest = [];
+        split = sym (append-nil tokens);
+        within = within;
         reason = nothing refl (record { begins = begins; not_further = λ kind later is m. no_element kind later is }) not_whole;
       }
 

@@ -7,3 +7,4 @@ pub mod Carried
 pub mod FirstFault
 pub mod Fronts
 pub mod OneChoice
+pub mod Steps

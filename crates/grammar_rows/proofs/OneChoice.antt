@@ -1,20 +1,19 @@
 -- A list is the parts of a row by one list of choices.
-use Rattle.std.proofs.Common.{◌≡◌, ℕ, zero, suc, Bool, true, false, List, [], ◌∷◌, ◌++◌, Option, Some, refl, sym, subst, ap, ◌∙◌, ◌⊎◌, inl, inr}
+use Rattle.std.proofs.Common.{◌≡◌, ℕ, List, [], ◌∷◌, Some, refl, sym, subst, ap, ◌∙◌, inl, inr}
 use mathlib.Core.Path.{path_j, subst_refl}
 use Rattle.std.specs.List.{slice_get}
-use Rattle.std.proofs.lemmas.Bool.{both_ways}
-use Rattle.grammar_rows.specs.Kinds.{has}
-use Rattle.grammar_rows.specs.Grammar.{Row, Rows, Grammar, is_nullable, first_of, further_of}
-use Rattle.grammar_rows.specs.Grammar.Row.{done, token, form, maybe, many, nested}
-use Rattle.grammar_rows.specs.Grammar.Rows.{end, next, up}
-use Rattle.grammar_rows.specs.Matches.{Derives, Extent, Matches}
-use Rattle.grammar_rows.specs.Matches.Extent.{Whole, Front}
-use Rattle.grammar_rows.specs.Matches.Matches.{stopped, ended, one, alternative, present, absent, again, enough, inside, on, outside}
+use Rattle.grammar_rows.specs.Grammar.{Row, Rows, Grammar}
+use Rattle.grammar_rows.specs.Grammar.Row.{done, form}
+use Rattle.grammar_rows.specs.Grammar.Rows.{end, next}
+use Rattle.grammar_rows.specs.Matches.{Derives, Matches}
+use Rattle.grammar_rows.specs.Matches.Extent.{Whole}
+use Rattle.grammar_rows.specs.Matches.Matches.{ended, one, alternative, present, absent, again, enough, inside, on, outside}
 use Rattle.grammar_rows.specs.Choices.{choices_of}
 use Rattle.grammar_rows.specs.Predictive.{IsPredictive}
-use Rattle.grammar_rows.proofs.Tables.{one_first, one_empty, one_row}
+use Rattle.grammar_rows.proofs.Tables.{one_empty, one_row}
 use Rattle.grammar_rows.proofs.Starts.{Starts, starts_of, nullable_of}
-use Rattle.grammar_rows.proofs.Forced.{IsSound, AreSound, into_form, into_rest, into_part, into_end, into_again, into_nested, decided_maybe, decided_many, not_both, not_both_many, place_chosen, place_by_default}
+use Rattle.grammar_rows.proofs.Forced.{IsSound, into_form, into_rest, into_part, into_end, into_again, into_nested, not_both, not_both_many, place_chosen}
+use Rattle.grammar_rows.proofs.FirstFault.{form_sound}
 
 module _ {F : Type 0} (g : Grammar F) (predictive : IsPredictive g) where
   -- two alternatives that match one list are at one place
@@ -24,10 +23,10 @@ module _ {F : Type 0} (g : Grammar F) (predictive : IsPredictive g) where
       let left : Starts g chosen (next row rows) kind = starts_of g predictive m in
       let right : Starts g actual (next row rows) kind = starts_of g predictive k in
       elim left [
-        inl here ↦ place_chosen g predictive n i j chosen actual row rows kind sound at also here (starts_of g predictive k)
-      | inr later ↦ elim right [
-          inl here ↦ sym (place_chosen g predictive n j i actual chosen row rows kind sound also at here (starts_of g predictive m))
-        | inr behind ↦ one_empty g predictive n i j chosen actual at also later.0 behind.0
+        | inl here ↦ place_chosen g predictive n i j chosen actual row rows kind sound at also here (starts_of g predictive k)
+        | inr later ↦ elim right [
+          | inl here ↦ sym (place_chosen g predictive n j i actual chosen row rows kind sound also at here (starts_of g predictive m))
+          | inr behind ↦ one_empty g predictive n i j chosen actual at also later.0 behind.0
         ]
       ]
 
@@ -56,3 +55,6 @@ module _ {F : Type 0} (g : Grammar F) (predictive : IsPredictive g) where
   one_choice sound (inside {kinds = kinds} {part = part} {row = row} {rows = rows} is m) (inside also k) = one_choice (into_nested g kinds part row rows sound) m k
   one_choice sound (on m) (on k) = one_choice sound.2 m k
   one_choice sound (outside m) (outside k) = one_choice sound.2 m k
+
+pub one_choice_of_form : {F : Type 0} (g : Grammar F) → IsPredictive g → (n : F) (tokens : List ℕ) (m k : Derives g (form n done) end tokens) → choices_of m ≡ choices_of k
+one_choice_of_form g predictive n tokens m k = one_choice g predictive (form_sound g n) m k

@@ -1,16 +1,15 @@
 -- What a row and the rows behind it begin with, and what they are of no token.
-use Rattle.std.proofs.Common.{◌≡◌, ℕ, zero, suc, ◌≤◌, Bool, true, false, ◌&&◌, cond, List, [], ◌∷◌, ◌++◌, Option, Some, refl, sym, subst, ◌⊎◌, inl, inr, arith, le_refl, le_trans}
-use Rattle.std.specs.List.{slice_get}
-use Rattle.std.proofs.lemmas.Bool.{and_parts, and_from, false≢true, both_ways, cases_Bool}
+use Rattle.std.proofs.Common.{◌≡◌, ℕ, ◌≤◌, Bool, true, false, ◌&&◌, cond, List, [], ◌∷◌, refl, sym, ◌⊎◌, inl, inr, arith, le_refl, le_trans}
+use Rattle.std.proofs.lemmas.Bool.{and_from, false≢true}
 use Rattle.grammar_rows.specs.Kinds.{has}
 use Rattle.grammar_rows.specs.Grammar.{Row, Rows, Grammar, nestings_of, is_nullable, first_of}
-use Rattle.grammar_rows.specs.Grammar.Row.{done, token, form, maybe, many, nested}
+use Rattle.grammar_rows.specs.Grammar.Row.{form, maybe, many}
 use Rattle.grammar_rows.specs.Grammar.Rows.{end, next, up}
 use Rattle.grammar_rows.specs.Matches.{Extent, Matches}
 use Rattle.grammar_rows.specs.Matches.Extent.{Whole, Front}
 use Rattle.grammar_rows.specs.Matches.Matches.{stopped, ended, one, alternative, present, absent, again, enough, inside, on, outside}
 use Rattle.grammar_rows.specs.Predictive.{IsPredictive}
-use Rattle.grammar_rows.proofs.KindSets.{in_left, in_right, in_either, of_subset, in_cond, from_cond}
+use Rattle.grammar_rows.proofs.KindSets.{in_left, in_right, of_subset, in_cond}
 use Rattle.grammar_rows.proofs.Tables.{Agrees, agrees_at}
 
 abbrev pub RowsStart : {F : Type 0} → Grammar F → Rows F → ℕ → Type 0
@@ -25,37 +24,37 @@ Starts g row rows kind = (has (first_of g row) kind ≡ true) ⊎ ((is_nullable 
 form_starts : {F : Type 0} (g : Grammar F) (n : F) (chosen row : Row F) (rows : Rows F) (kind : ℕ) → Agrees g n chosen → Starts g chosen (next row rows) kind → Starts g (form n row) rows kind
 form_starts g n chosen row rows kind agrees starts =
     elim starts [
-      inl here ↦ inl (in_left (g.first n) (cond (g.may_be_empty n) (first_of g row) []) kind (of_subset (first_of g chosen) (g.first n) kind agrees.first here))
-    | inr later ↦
-      let empty = (agrees.empty later.0).0 in
-      elim (later.1) [
-        inl next_one ↦ inl (in_right (g.first n) (cond (g.may_be_empty n) (first_of g row) []) kind (in_cond (g.may_be_empty n) (first_of g row) kind empty next_one))
-      | inr behind ↦ inr (and_from (g.may_be_empty n) (is_nullable g row) empty behind.0, behind.1)
-      ]
+      | inl here ↦ inl (in_left (g.first n) (cond (g.may_be_empty n) (first_of g row) []) kind (of_subset (first_of g chosen) (g.first n) kind agrees.first here))
+      | inr later ↦
+          let empty = (agrees.empty later.0).0 in
+          elim (later.1) [
+            | inl next_one ↦ inl (in_right (g.first n) (cond (g.may_be_empty n) (first_of g row) []) kind (in_cond (g.may_be_empty n) (first_of g row) kind empty next_one))
+            | inr behind ↦ inr (and_from (g.may_be_empty n) (is_nullable g row) empty behind.0, behind.1)
+          ]
     ]
 
 part_starts : {F : Type 0} (g : Grammar F) (part row : Row F) (rows : Rows F) (kind : ℕ) → Starts g part (next row rows) kind → Starts g (maybe part row) rows kind
 part_starts g part row rows kind starts =
     elim starts [
-      inl here ↦ inl (in_left (first_of g part) (first_of g row) kind here)
-    | inr later ↦ elim (later.1) [
-        inl next_one ↦ inl (in_right (first_of g part) (first_of g row) kind next_one)
-      | inr behind ↦ inr behind
+      | inl here ↦ inl (in_left (first_of g part) (first_of g row) kind here)
+      | inr later ↦ elim (later.1) [
+        | inl next_one ↦ inl (in_right (first_of g part) (first_of g row) kind next_one)
+        | inr behind ↦ inr behind
       ]
     ]
 
 row_starts : {F : Type 0} (g : Grammar F) (part row : Row F) (rows : Rows F) (kind : ℕ) → Starts g row rows kind → Starts g (maybe part row) rows kind
 row_starts g part row rows kind starts =
     elim starts [
-      inl here ↦ inl (in_right (first_of g part) (first_of g row) kind here)
-    | inr behind ↦ inr behind
+      | inl here ↦ inl (in_right (first_of g part) (first_of g row) kind here)
+      | inr behind ↦ inr behind
     ]
 
 again_starts : {F : Type 0} (g : Grammar F) (part row : Row F) (rows : Rows F) (kind : ℕ) → Starts g part (next (many part row) rows) kind → Starts g (many part row) rows kind
 again_starts g part row rows kind starts =
     elim starts [
-      inl here ↦ inl (in_left (first_of g part) (first_of g row) kind here)
-    | inr later ↦ later.1
+      | inl here ↦ inl (in_left (first_of g part) (first_of g row) kind here)
+      | inr later ↦ later.1
     ]
 
 -- what matches a list begins with its first token by the table

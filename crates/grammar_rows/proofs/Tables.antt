@@ -1,11 +1,11 @@
 -- What the test of a table says of each alternative of a form, and of two of them.
-use Rattle.std.proofs.Common.{◌≡◌, ℕ, zero, suc, ◌<◌, ◌≢◌, Bool, true, false, not, ◌&&◌, ◌||◌, List, [], ◌∷◌, ◌++◌, Option, Some, None, refl, sym, subst, ap, ◌∙◌, ◌⊎◌, inl, inr, arith}
-use Rattle.std.specs.List.{slice_get, list_all, flat_map}
-use Rattle.std.proofs.lemmas.Bool.{or_cases, and_parts, and_from, both_ways, not-true, false≢true, true≢false, not_from_true, cases_eq}
+use Rattle.std.proofs.Common.{◌≡◌, ℕ, zero, suc, ◌<◌, Bool, true, not, ◌&&◌, ◌||◌, List, [], ◌∷◌, length, slice_index_or, Option, Some, None, refl, sym, subst, ap, ◌∙◌, inl, inr, arith}
+use Rattle.std.specs.List.{slice_get, list_all, flat_map, Contains}
+use Rattle.std.proofs.lemmas.Bool.{or_cases, and_parts, and_from, both_ways, not-true, cases_eq}
 use Rattle.std.proofs.lemmas.Option.{same_Some}
 use Rattle.grammar_rows.specs.Kinds.{has, is_subset, are_disjoint}
-use Rattle.grammar_rows.specs.Grammar.{Row, Rows, Grammar, is_nullable, first_of, further_of}
-use Rattle.grammar_rows.specs.Predictive.{is_decided, differs_from_all, are_different, agrees_with, is_form_predictive, IsPredictive}
+use Rattle.grammar_rows.specs.Grammar.{Row, Grammar, is_nullable, first_of, further_of}
+use Rattle.grammar_rows.specs.Predictive.{is_decided, differs_from_all, are_different, agrees_with, is_form_predictive, is_predictive, IsPredictive}
 use Rattle.grammar_rows.proofs.KindSets.{of_disjoint}
 
 pub and_three : (x y z : Bool) → x && y && z ≡ true → (x ≡ true) × (y ≡ true) × (z ≡ true)
@@ -42,8 +42,8 @@ agrees_at g predictive n place row at =
       first = parts.1;
       further = parts.2;
       empty = λ nullable. elim (or_cases (not (is_nullable g row)) (g.may_be_empty n && is_subset (g.first n) (g.further n)) parts.3) [
-        inl not_nullable ↦ absurd (both_ways (is_nullable g row) (not-true (is_nullable g row) not_nullable) nullable)
-      | inr both ↦ and_parts (g.may_be_empty n) (is_subset (g.first n) (g.further n)) both
+        | inl not_nullable ↦ absurd (both_ways (is_nullable g row) (not-true (is_nullable g row) not_nullable) nullable)
+        | inr both ↦ and_parts (g.may_be_empty n) (is_subset (g.first n) (g.further n)) both
       ];
     }
 
@@ -81,18 +81,30 @@ different_at g (r ∷ rows) row other (suc i) (suc j) different at also ne =
 pub one_first : {F : Type 0} (g : Grammar F) → IsPredictive g → (n : F) (i j : ℕ) (row other : Row F) (kind : ℕ) → slice_get (g.alternatives n) i ≡ Some row → slice_get (g.alternatives n) j ≡ Some other → has (first_of g row) kind ≡ true → has (first_of g other) kind ≡ true → i ≡ j
 one_first g predictive n i j row other kind at also is has_also =
     elim (cases_eq i j) [
-      inl same ↦ same
-    | inr ne ↦ absurd ((different_at g (g.alternatives n) row other i j (parts_of_form g predictive n).1 at also ne).first kind is has_also)
+      | inl same ↦ same
+      | inr ne ↦ absurd ((different_at g (g.alternatives n) row other i j (parts_of_form g predictive n).1 at also ne).first kind is has_also)
     ]
 
 pub one_empty : {F : Type 0} (g : Grammar F) → IsPredictive g → (n : F) (i j : ℕ) (row other : Row F) → slice_get (g.alternatives n) i ≡ Some row → slice_get (g.alternatives n) j ≡ Some other → is_nullable g row ≡ true → is_nullable g other ≡ true → i ≡ j
 one_empty g predictive n i j row other at also is is_also =
     elim (cases_eq i j) [
-      inl same ↦ same
-    | inr ne ↦ absurd ((different_at g (g.alternatives n) row other i j (parts_of_form g predictive n).1 at also ne).empty is is_also)
+      | inl same ↦ same
+      | inr ne ↦ absurd ((different_at g (g.alternatives n) row other i j (parts_of_form g predictive n).1 at also ne).empty is is_also)
     ]
 
 -- one place has one alternative
 pub one_row : {F : Type 0} (g : Grammar F) (n : F) (i j : ℕ) (row other : Row F) → slice_get (g.alternatives n) i ≡ Some row → slice_get (g.alternatives n) j ≡ Some other → i ≡ j → row ≡ other
 one_row g n i j row other at also same =
     same_Some row other (sym at ∙ ap (slice_get (g.alternatives n)) same ∙ also)
+
+all_index : {X : Type 0} (test : X → Bool) (xs : List X) (x : X) (k : ℕ) → list_all test xs ≡ true → k < length xs → slice_index_or xs k x ≡ x → test x ≡ true
+all_index test [] x k all lt is = absurd (let no : k < 0 = lt in omega arith)
+all_index test (y ∷ ys) x zero all lt is = subst (λ z. test z ≡ true) is (and_parts (test y) (list_all test ys) all).0
+all_index test (y ∷ ys) x (suc k) all lt is = all_index test ys x k (and_parts (test y) (list_all test ys) all).1 (omega arith) is
+
+all_of : {X : Type 0} (test : X → Bool) (xs : List X) (x : X) → list_all test xs ≡ true → Contains xs x → test x ≡ true
+all_of test xs x all among = all_index test xs x among.0 all among.1 among.2
+
+-- where the test of each of a list of forms holds, and these are all the forms, it holds of the table
+pub predictive_by : {F : Type 0} (g : Grammar F) (forms : List F) → ((n : F) → Contains forms n) → is_predictive g forms ≡ true → IsPredictive g
+predictive_by g forms among all n = all_of (is_form_predictive g) forms n all (among n)

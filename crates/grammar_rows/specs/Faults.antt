@@ -1,7 +1,7 @@
 -- Where a list of tokens ceases to be the parts of a row, and why: the first token with which no list of these parts
 -- begins so, or the first one that opens a nesting above the limit. This is said of lists and of what begins the parts,
 -- and not of a reader.
-use Rattle.std.specs.Prelude.{◌≡◌, ℕ, ◌≤◌, ◌<◌, ◌⊎◌, Bool, true, List, [], ◌∷◌, ◌++◌}
+use Rattle.std.specs.Prelude.{◌≡◌, ℕ, ◌≤◌, ◌<◌, true, List, [], ◌∷◌, ◌++◌}
 use Rattle.grammar_rows.specs.Kinds.{has}
 use Rattle.grammar_rows.specs.Grammar.{Row, Rows, Grammar}
 use Rattle.grammar_rows.specs.Matches.{Matches, Derives, Begins}

@@ -1,7 +1,7 @@
 -- A grammar as a table: for each form its alternatives, each of which is a row of parts. The forms are a type of the
 -- table's own. What a form begins with, what it could go on with where it may end, and whether it may be empty stand
 -- beside the alternatives; specs/Predictive.antt says when these agree with them.
-use Rattle.std.specs.Prelude.{ℕ, suc, Bool, true, false, ◌&&◌, cond, List, [], ◌∷◌, ◌++◌}
+use Rattle.std.specs.Prelude.{ℕ, suc, Bool, true, false, ◌&&◌, cond, List, [], ◌++◌}
 
 -- parts one after another; each has behind it the parts that follow
 pub data Row (F : Type 0) : Type 0 where

@@ -2,7 +2,7 @@
 -- part. A list begins the parts where it is whole ones of them in a row, and behind these a list that begins the next
 -- one, or nothing. No reading from left to right is meant: an alternative is any one of its form's, and an optional part
 -- is there or isn't, as the list asks for.
-use Rattle.std.specs.Prelude.{◌≡◌, ℕ, Bool, true, List, [], ◌∷◌, Option, Some}
+use Rattle.std.specs.Prelude.{◌≡◌, ℕ, true, List, [], ◌∷◌, Some}
 use Rattle.std.specs.List.{slice_get}
 use Rattle.grammar_rows.specs.Kinds.{has}
 use Rattle.grammar_rows.specs.Grammar.{Row, Rows, Grammar, nestings_of}

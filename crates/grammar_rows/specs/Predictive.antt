@@ -1,10 +1,10 @@
 -- When one token ahead decides, row by row: the alternatives of a form begin with different tokens, an optional or
 -- repeated part begins with no token with which what is behind it does, and no part begins with a token with which the
 -- part before it could go on. Such a table is LL(1). For a finite list of forms it is computed.
-use Rattle.std.specs.Prelude.{◌≡◌, ℕ, Bool, true, false, not, ◌&&◌, ◌||◌, List, [], ◌∷◌, ◌++◌}
+use Rattle.std.specs.Prelude.{◌≡◌, Bool, true, not, ◌&&◌, ◌||◌, List, [], ◌∷◌, ◌++◌}
 use Rattle.std.specs.List.{flat_map, list_all}
-use Rattle.grammar_rows.specs.Kinds.{has, is_subset, are_disjoint}
-use Rattle.grammar_rows.specs.Grammar.{Row, Rows, Grammar, is_nullable, first_of, further_of}
+use Rattle.grammar_rows.specs.Kinds.{is_subset, are_disjoint}
+use Rattle.grammar_rows.specs.Grammar.{Row, Grammar, is_nullable, first_of, further_of}
 use Rattle.grammar_rows.specs.Grammar.Row.{done, token, form, maybe, many, nested}
 
 -- one token ahead decides in the row

@@ -1,7 +1,7 @@
 -- A reader that looks at one token ahead and never goes back, as a relation on lists of tokens: it goes into a part
 -- exactly where the token ahead is one that the part can begin with. That it stops exactly where the list does is the
 -- law of this crate; contracts of reading functions say by `Passes` and `Fails` how far such a reader comes.
-use Rattle.std.specs.Prelude.{◌≡◌, ℕ, zero, suc, Bool, true, false, cond, List, [], ◌∷◌, Option, Some}
+use Rattle.std.specs.Prelude.{◌≡◌, ℕ, zero, suc, true, false, cond, List, [], ◌∷◌, Some}
 use Rattle.std.specs.List.{slice_get}
 use Rattle.grammar_rows.specs.Kinds.{has, is_ahead}
 use Rattle.grammar_rows.specs.Grammar.{Row, Rows, Grammar, is_nullable, first_of}
@@ -57,11 +57,16 @@ pub data Stops {F : Type 0} (g : Grammar F) : ℕ → Row F → Rows F → List 
   unopened : {depth : ℕ} {kinds : List ℕ} {part row : Row F} {rows : Rows F} {tokens : List ℕ}
       → is_ahead kinds tokens ≡ false → Stops g depth (nested kinds part row) rows tokens (refusal g depth tokens)
 
--- the reader of these parts comes from the first list to the second, whatever is behind the parts
-abbrev pub Passes : {F : Type 0} → Grammar F → ℕ → Row F → List ℕ → List ℕ → Type 0
-Passes {F} g depth row tokens left =
-    (rows : Rows F) (stop : Stop) → Stops g depth done rows left stop → Stops g depth row rows tokens stop
+-- the reader of a part comes from the first list to the second, whatever is behind the part. A part is what it puts before
+-- a row, as `form n` or `many part`.
+abbrev pub Passes : {F : Type 0} → Grammar F → ℕ → (Row F → Row F) → List ℕ → List ℕ → Type 0
+Passes {F} g depth part tokens left =
+    (row : Row F) (rows : Rows F) (stop : Stop) → Stops g depth row rows left stop → Stops g depth (part row) rows tokens stop
 
--- the reader of these parts stops inside them, whatever is behind the parts
-abbrev pub Fails : {F : Type 0} → Grammar F → ℕ → Row F → List ℕ → Stop → Type 0
-Fails {F} g depth row tokens stop = (rows : Rows F) → Stops g depth row rows tokens stop
+-- the reader of a part stops inside it, whatever is behind the part
+abbrev pub Fails : {F : Type 0} → Grammar F → ℕ → (Row F → Row F) → List ℕ → Stop → Type 0
+Fails {F} g depth part tokens stop = (row : Row F) (rows : Rows F) → Stops g depth (part row) rows tokens stop
+
+-- one part behind another
+abbrev pub followed_by : {F : Type 0} → (Row F → Row F) → (Row F → Row F) → Row F → Row F
+followed_by part other row = part (other row)
