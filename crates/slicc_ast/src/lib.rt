@@ -8,6 +8,7 @@ mod body;
 mod machine;
 mod named;
 mod token;
+pub mod tree;
 
 pub use body::{Dequeue, If, Peek, Trigger};
 pub use machine::{Action, Event, Events, InPort, Machine, State, States, Transition};

@@ -1,0 +1,10 @@
+//! Reads the bytes of a protocol in SLICC as its tokens, or finds the first place where they are none.
+#![tactic(auto)]
+
+mod fault;
+mod token;
+
+pub use fault::LexFault;
+pub use ruby_base::{NoMemory, Seq, Text};
+pub use slicc_ast::tree::{Sign, Span, TokenKind, Word};
+pub use token::Token;
