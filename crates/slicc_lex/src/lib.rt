@@ -1,8 +1,14 @@
 //! Reads the bytes of a protocol in SLICC as its tokens, or finds the first place where they are none.
 #![tactic(auto)]
 
+mod bytes;
+mod comment;
 mod fault;
+mod number;
+mod piece;
+mod sign;
 mod token;
+mod word;
 
 pub use fault::LexFault;
 pub use ruby_base::{NoMemory, Seq, Text};

@@ -1,0 +1,6 @@
+pub mod Words
+pub mod Signs
+pub mod Numbers
+pub mod Pieces
+pub mod Tokens
+pub mod Lexing

@@ -1,0 +1,35 @@
+-- The reserved words as they are written.
+use Rattle.std.specs.Prelude.{ℕ, List, codes}
+use Rattle.slicc_ast.specs.declared.tree.token.Word.{Word}
+use Rattle.slicc_ast.specs.declared.tree.token.Word.TheVariants.{Protocol, Include, Machine, Enumeration, StateDeclaration, Structure, InPort, OutPort, Action, Transition, Peek, Enqueue, StallAndWait, CheckAllocate, If, Else, Return, True, False, Ood, New, IsValid, IsInvalid, StaticCast, Error, Assert, Dprintf, AppendTransitionComment, While}
+
+abbrev pub word_bytes : Word → List ℕ
+word_bytes Protocol = codes "protocol"
+word_bytes Include = codes "include"
+word_bytes Machine = codes "machine"
+word_bytes Enumeration = codes "enumeration"
+word_bytes StateDeclaration = codes "state_declaration"
+word_bytes Structure = codes "structure"
+word_bytes InPort = codes "in_port"
+word_bytes OutPort = codes "out_port"
+word_bytes Action = codes "action"
+word_bytes Transition = codes "transition"
+word_bytes Peek = codes "peek"
+word_bytes Enqueue = codes "enqueue"
+word_bytes StallAndWait = codes "stall_and_wait"
+word_bytes CheckAllocate = codes "check_allocate"
+word_bytes If = codes "if"
+word_bytes Else = codes "else"
+word_bytes Return = codes "return"
+word_bytes True = codes "true"
+word_bytes False = codes "false"
+word_bytes Ood = codes "OOD"
+word_bytes New = codes "new"
+word_bytes IsValid = codes "is_valid"
+word_bytes IsInvalid = codes "is_invalid"
+word_bytes StaticCast = codes "static_cast"
+word_bytes Error = codes "error"
+word_bytes Assert = codes "assert"
+word_bytes Dprintf = codes "DPRINTF"
+word_bytes AppendTransitionComment = codes "APPEND_TRANSITION_COMMENT"
+word_bytes While = codes "while"
