@@ -1,0 +1,4 @@
+pub mod TokenKinds
+pub mod Form
+pub mod Parts
+pub mod Table
