@@ -8,3 +8,4 @@ pub mod FirstFault
 pub mod Fronts
 pub mod OneChoice
 pub mod Steps
+pub mod Joining

@@ -5,3 +5,4 @@ pub mod Faults
 pub mod Predictive
 pub mod Reader
 pub mod Choices
+pub mod Same
