@@ -1,13 +1,11 @@
 -- A row with another right behind it matches what the two joined to one do; so a table whose alternatives another covers
 -- has no lists but those of the other.
-use Rattle.std.proofs.Common.{◌≡◌, ℕ, zero, suc, List, [], ◌∷◌, Option, Some, refl, sym, subst, ap}
-use Rattle.std.specs.List.{slice_get}
-use Rattle.grammar_rows.specs.Kinds.{has}
+use Rattle.std.proofs.Common.{◌≡◌, ℕ, suc, List, [], refl, sym, subst, ap}
 use Rattle.grammar_rows.specs.Grammar.{Row, Rows, Grammar, nestings_of}
 use Rattle.grammar_rows.specs.Grammar.Row.{done, token, form, maybe, many, nested}
-use Rattle.grammar_rows.specs.Grammar.Rows.{end, next, up}
+use Rattle.grammar_rows.specs.Grammar.Rows.{next, up}
 use Rattle.grammar_rows.specs.Matches.{Extent, Matches}
-use Rattle.grammar_rows.specs.Matches.Extent.{Whole, Front}
+use Rattle.grammar_rows.specs.Matches.Extent.{Front}
 use Rattle.grammar_rows.specs.Matches.Matches.{stopped, ended, one, alternative, present, absent, again, enough, inside, on, outside}
 use Rattle.grammar_rows.specs.Same.{Covers, HaveSameLists, joined}
 

@@ -9,3 +9,4 @@ pub mod Fronts
 pub mod OneChoice
 pub mod Steps
 pub mod Joining
+pub mod InARow

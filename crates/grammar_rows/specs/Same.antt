@@ -1,5 +1,5 @@
 -- When two tables of the same forms have the same lists of tokens, and leave the same nestings open behind them.
-use Rattle.std.specs.Prelude.{◌≡◌, ◌↔◌, ℕ, List, Option, Some}
+use Rattle.std.specs.Prelude.{◌≡◌, ◌↔◌, ℕ, List, Some}
 use Rattle.std.specs.List.{slice_get}
 use Rattle.grammar_rows.specs.Grammar.{Row, Rows, Grammar}
 use Rattle.grammar_rows.specs.Grammar.Row.{done, token, form, maybe, many, nested}

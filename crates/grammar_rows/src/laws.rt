@@ -1,6 +1,6 @@
 // What holds of every table, whatever the type F of the names of its forms. These functions do nothing: their contracts
 // are the laws.
-ghost use Rattle.std.specs.Prelude.{◌≡◌, ◌↔◌, ℕ, zero, suc, Bool, true, false, List, [], ◌∷◌, ◌++◌, Option, Some};
+ghost use Rattle.std.specs.Prelude.{◌≡◌, ◌↔◌, ◌⊎◌, ℕ, zero, suc, Bool, true, false, List, [], ◌∷◌, ◌++◌, Option, Some};
 ghost use Rattle.std.specs.List.{Contains, slice_get};
 ghost use Rattle.grammar_rows.specs.Choices.{choices_of};
 ghost use Rattle.grammar_rows.specs.Faults.{IsFirstFault, IsStop, IsWithin, Stop};
@@ -12,6 +12,7 @@ ghost use Rattle.grammar_rows.specs.Kinds.{has, is_ahead};
 ghost use Rattle.grammar_rows.specs.Matches.{Begins, Derives, Extent, IsViable, Matches};
 ghost use Rattle.grammar_rows.specs.Predictive.{IsPredictive, is_predictive};
 ghost use Rattle.grammar_rows.specs.Reader.{Fails, Passes, Stops, followed_by, refusal};
+ghost use Rattle.grammar_rows.specs.Same.{Covers, HaveSameLists, joined};
 
 /// Where one token ahead decides, a reader that goes by it stops exactly where the list does: at the first token with
 /// which the list so far begins no list of the form, or at the first that opens a nesting above the limit, or behind the
@@ -67,4 +68,17 @@ pub fn reader_fails_by_steps<F>()
     ensures nesting { (g : Grammar F) (depth : ℕ) (kinds : List ℕ) (part : Row F → Row F) (kind : ℕ) (tokens : List ℕ) (stop : Stop) → has kinds kind ≡ true → Fails g depth part tokens stop → Fails g (suc depth) (nested kinds (part done)) (kind ∷ tokens) stop }
     ensures unopened { (g : Grammar F) (depth : ℕ) (kinds : List ℕ) (part : Row F) (tokens : List ℕ) → is_ahead kinds tokens ≡ false → Fails g depth (nested kinds part) tokens (refusal g depth tokens) }
     ensures deep { (g : Grammar F) (kinds : List ℕ) (part : Row F) (kind : ℕ) (tokens : List ℕ) → has kinds kind ≡ true → Fails g 0 (nested kinds part) (kind ∷ tokens) (Deep (kind ∷ tokens)) }
+{}
+
+/// A list is two rows, one behind the other, where it is a list of the one and then a list of the other. It begins them
+/// where it begins the one, or is a list of the one and then begins the other.
+pub fn rows_are_in_a_row<F>()
+    ensures derived { (g : Grammar F) (row other : Row F) (tokens : List ℕ) → Derives g (joined row other) end tokens ↔ ((front rest : List ℕ) × (tokens ≡ front ++ rest) × Derives g row end front × Derives g other end rest) }
+    ensures begun { (g : Grammar F) (row other : Row F) (tokens : List ℕ) → Begins g (joined row other) end tokens ↔ (Begins g row end tokens ⊎ ((front rest : List ℕ) × (tokens ≡ front ++ rest) × Derives g row end front × Begins g other end rest)) }
+{}
+
+/// Two tables of the same forms have the same lists where what is an alternative of a form in either is that form in the
+/// other.
+pub fn tables_with_the_same_lists<F>()
+    ensures { (g other : Grammar F) → Covers g other → Covers other g → HaveSameLists g other }
 {}

@@ -6,5 +6,5 @@ mod laws;
 
 pub use laws::{
     choices_are_one, lists_stop_in_one_way, reader_fails_by_steps, reader_passes_by_steps,
-    reader_stops_at_the_first_fault,
+    reader_stops_at_the_first_fault, rows_are_in_a_row, tables_with_the_same_lists,
 };
