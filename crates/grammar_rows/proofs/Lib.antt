@@ -10,3 +10,4 @@ pub mod OneChoice
 pub mod Steps
 pub mod Joining
 pub mod InARow
+pub mod Rewriting
