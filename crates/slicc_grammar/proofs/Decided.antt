@@ -2,7 +2,7 @@
 use Rattle.std.proofs.Common.{◌≡◌, true, refl}
 use Rattle.grammar_rows.specs.Predictive.{is_form_predictive, IsPredictive}
 use Rattle.slicc_grammar.specs.Form.{Form}
-use Rattle.slicc_grammar.specs.Form.Form.{file, item, enumeration, states, structure, member, member_end, functional_end, pair, machine, machine_name, parameter, literal, declaration, declaration_end, named_end, body, out_port, in_port, action, transition, transition_end, names, formals, formal, block, statement, statement_end, conditional, otherwise, expression, conjunction, equality, order, sum, product, unary, opening, constant, name_end, suffix, arguments, balanced_part}
+use Rattle.slicc_grammar.specs.Form.Form.{file, item, enumeration, states, structure, member, member_end, functional_end, pair, machine, machine_name, parameter, literal, declaration, declaration_end, named_end, body, out_port, in_port, action, transition, transition_end, names, formals, formal, block, statement, statement_end, conditional, otherwise, expression, conjunction, equality, order, sum, product, unary, postfix, primary, constant, opening, name_end, suffix, arguments, balanced_part}
 use Rattle.slicc_grammar.specs.Table.{table}
 
 pub one_token_decides : IsPredictive table
@@ -43,8 +43,10 @@ one_token_decides order = refl
 one_token_decides sum = refl
 one_token_decides product = refl
 one_token_decides unary = refl
-one_token_decides opening = refl
+one_token_decides postfix = refl
+one_token_decides primary = refl
 one_token_decides constant = refl
+one_token_decides opening = refl
 one_token_decides name_end = refl
 one_token_decides suffix = refl
 one_token_decides arguments = refl

@@ -46,10 +46,12 @@ pub data Form : Type 0 where
   sum : Form
   product : Form
   unary : Form
-  -- a unary expression that doesn't begin with a name
-  opening : Form
+  postfix : Form
+  primary : Form
   -- a primary expression that doesn't begin with a name
   constant : Form
+  -- a unary expression that doesn't begin with a name
+  opening : Form
   -- what may stand behind a name at the start of a primary expression
   name_end : Form
   suffix : Form

@@ -1,4 +1,7 @@
 pub mod TokenKinds
 pub mod Form
 pub mod Parts
+pub mod Ends
+pub mod Ahead
+pub mod Written
 pub mod Table

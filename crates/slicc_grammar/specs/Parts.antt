@@ -1,12 +1,14 @@
 -- The parts that the rows of the grammar are made of. A part is what it puts before a row.
-use Rattle.std.specs.Prelude.{ℕ, List, [], ◌∷◌, map}
+use Rattle.std.specs.Prelude.{ℕ, List, [], ◌∷◌, ◌++◌, map}
 use Rattle.slicc_ast.specs.declared.tree.token.Word.{Word}
+use Rattle.slicc_ast.specs.declared.tree.token.Word.TheVariants.{Protocol, Include, Machine, Enumeration, StateDeclaration, Structure, InPort, OutPort, Action, Transition, Peek, Enqueue, StallAndWait, CheckAllocate, If, Else, Return, True, False, Ood, New, IsValid, IsInvalid, StaticCast, Error, Assert, Dprintf, AppendTransitionComment, While}
 use Rattle.slicc_ast.specs.declared.tree.token.Sign.{Sign}
-use Rattle.slicc_ast.specs.declared.tree.token.Sign.TheVariants.{OpenBrace, CloseBrace, OpenParenthesis, CloseParenthesis, OpenBracket, CloseBracket, Semicolon, Colon, Comma, Dot, Equals, Assign, Minus, Star, Not}
+use Rattle.slicc_ast.specs.declared.tree.token.Sign.TheVariants.{OpenBrace, CloseBrace, OpenParenthesis, CloseParenthesis, OpenBracket, CloseBracket, Semicolon, Colon, Comma, Dot, Equals, Assign, Equal, Unequal, Less, Greater, LessOrEqual, GreaterOrEqual, Plus, Minus, Star, Not, And, Or}
 use Rattle.grammar_rows.specs.Grammar.{Row}
 use Rattle.grammar_rows.specs.Grammar.Row.{done, token, form, maybe, many, nested}
 use Rattle.grammar_rows.specs.Reader.{followed_by}
 use Rattle.slicc_grammar.specs.Form.{Form}
+use Rattle.slicc_grammar.specs.Form.Form.{unary, product, sum, order, equality, conjunction}
 use Rattle.slicc_grammar.specs.TokenKinds.{other_name, machine_type, functional_name, number, quoted, end_of_text, word_kind, sign_kind}
 
 abbrev pub Part : Type 0
@@ -109,3 +111,32 @@ pairs = repeated (comma ▸ of Form.pair)
 
 abbrev pub balanced : Part
 balanced = repeated (of Form.balanced_part)
+
+-- the operators behind an operand, level by level, each with operands of the next tighter level
+abbrev pub products : Part
+products = repeated (star ▸ of unary)
+
+abbrev pub sums : Part
+sums = repeated (signs (Plus ∷ Minus ∷ []) ▸ of product)
+
+abbrev pub orders : Part
+orders = repeated (signs (Less ∷ Greater ∷ LessOrEqual ∷ GreaterOrEqual ∷ []) ▸ of sum)
+
+abbrev pub equalities : Part
+equalities = repeated (signs (Equal ∷ Unequal ∷ []) ▸ of order)
+
+abbrev pub conjunctions : Part
+conjunctions = repeated (sign And ▸ of equality)
+
+abbrev pub disjunctions : Part
+disjunctions = repeated (sign Or ▸ of conjunction)
+
+abbrev pub operators : Part
+operators = products ▸ sums ▸ orders ▸ equalities ▸ conjunctions ▸ disjunctions
+
+-- what a token of a balanced part may be, brackets aside: all kinds but those of the brackets and the end of the text
+abbrev pub unbracketed : List ℕ
+unbracketed =
+    names_of ++ number ∷ quoted
+    ∷ map word_kind (Protocol ∷ Include ∷ Machine ∷ Enumeration ∷ StateDeclaration ∷ Structure ∷ InPort ∷ OutPort ∷ Action ∷ Transition ∷ Peek ∷ Enqueue ∷ StallAndWait ∷ CheckAllocate ∷ If ∷ Else ∷ Return ∷ True ∷ False ∷ Ood ∷ New ∷ IsValid ∷ IsInvalid ∷ StaticCast ∷ Error ∷ Assert ∷ Dprintf ∷ AppendTransitionComment ∷ While ∷ [])
+    ++ map sign_kind (Semicolon ∷ Colon ∷ Comma ∷ Dot ∷ Equals ∷ Assign ∷ Equal ∷ Unequal ∷ Less ∷ Greater ∷ LessOrEqual ∷ GreaterOrEqual ∷ Plus ∷ Minus ∷ Star ∷ Not ∷ And ∷ Or ∷ [])
