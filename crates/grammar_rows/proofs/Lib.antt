@@ -11,3 +11,4 @@ pub mod Steps
 pub mod Joining
 pub mod InARow
 pub mod Rewriting
+pub mod Translating
