@@ -12,3 +12,4 @@ pub mod Joining
 pub mod InARow
 pub mod Rewriting
 pub mod Translating
+pub mod SameStops

@@ -1,13 +1,12 @@
 -- What a table's own rows are made of, for comparing two tables: a form is one of its alternatives before what follows,
 -- and what stands at the end of a row may be exchanged for what matches the same.
-use Rattle.std.proofs.Common.{◌≡◌, ℕ, zero, suc, ◌≤◌, List, [], ◌∷◌, ◌++◌, length, Option, Some, refl, sym, subst, ap, ◌⊎◌, inl, inr, arith}
+use Rattle.std.proofs.Common.{◌≡◌, ℕ, suc, ◌≤◌, List, [], length, Some, refl, sym, subst, ap, ◌⊎◌, inl, inr, arith}
 use Rattle.std.specs.List.{slice_get}
-use Rattle.grammar_rows.specs.Kinds.{has}
 use Rattle.grammar_rows.specs.Grammar.{Row, Rows, Grammar, nestings_of}
-use Rattle.grammar_rows.specs.Grammar.Row.{done, token, form, maybe, many, nested}
-use Rattle.grammar_rows.specs.Grammar.Rows.{end, next, up}
+use Rattle.grammar_rows.specs.Grammar.Row.{done, form, maybe, many}
+use Rattle.grammar_rows.specs.Grammar.Rows.{next, up}
 use Rattle.grammar_rows.specs.Matches.{Extent, Matches}
-use Rattle.grammar_rows.specs.Matches.Extent.{Whole, Front}
+use Rattle.grammar_rows.specs.Matches.Extent.{Front}
 use Rattle.grammar_rows.specs.Matches.Matches.{stopped, ended, one, alternative, present, absent, again, enough, inside, on, outside}
 use Rattle.grammar_rows.specs.Same.{joined}
 use Rattle.grammar_rows.proofs.Joining.{merge, part}
@@ -108,6 +107,7 @@ module _ {F : Type 0} (g : Grammar F) where
       step x tokens nestings stopped = inr stopped
       step x tokens nestings (present k) = inl (merge g inner row rest k)
       step x tokens nestings (absent k) = inr k
+
       go : {x : Extent} {tokens : List ℕ} {nestings : ℕ} → Either x front (next (joined inner row) rest) (next row rest) tokens nestings → Matches g x (joined front (joined inner row)) rest tokens nestings ⊎ Matches g x (joined front row) rest tokens nestings
       go (inl k) = inl (merge g front (joined inner row) rest k)
       go (inr k) = inr (merge g front row rest k)

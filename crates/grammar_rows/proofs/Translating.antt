@@ -1,19 +1,19 @@
 -- What matches one row matches another: the steps by which one table's rows are turned into another's, between rows with
 -- the same rows behind them.
-use Rattle.std.proofs.Common.{◌≡◌, ℕ, zero, suc, ◌≤◌, Bool, true, false, List, [], ◌∷◌, ◌++◌, length, Option, Some, None, refl, sym, subst, ap, ◌⊎◌, inl, inr, arith}
+use Rattle.std.proofs.Common.{◌≡◌, ℕ, zero, suc, true, List, [], ◌∷◌, Option, Some, None, refl, subst, ap, ◌⊎◌, inl, inr, arith}
 use Rattle.std.specs.List.{slice_get}
 use Rattle.std.proofs.lemmas.Option.{same_Some}
 use Rattle.grammar_rows.specs.Kinds.{has, is_subset}
 use Rattle.grammar_rows.specs.Grammar.{Row, Rows, Grammar, nestings_of}
-use Rattle.grammar_rows.specs.Grammar.Row.{done, token, form, maybe, many, nested}
-use Rattle.grammar_rows.specs.Grammar.Rows.{end, next, up}
+use Rattle.grammar_rows.specs.Grammar.Row.{token, form, maybe, many, nested}
+use Rattle.grammar_rows.specs.Grammar.Rows.{next, up}
 use Rattle.grammar_rows.specs.Matches.{Extent, Matches}
-use Rattle.grammar_rows.specs.Matches.Extent.{Whole, Front}
+use Rattle.grammar_rows.specs.Matches.Extent.{Front}
 use Rattle.grammar_rows.specs.Matches.Matches.{stopped, ended, one, alternative, present, absent, again, enough, inside, on, outside}
 use Rattle.grammar_rows.specs.Same.{joined, Covers}
 use Rattle.grammar_rows.proofs.KindSets.{of_subset}
 use Rattle.grammar_rows.proofs.Joining.{merge, part}
-use Rattle.grammar_rows.proofs.Rewriting.{fold, exchange_within, exchange_end, choose_end}
+use Rattle.grammar_rows.proofs.Rewriting.{fold, exchange_end, choose_end}
 
 -- a statement of each row of a list
 abbrev pub Each : {X : Type 0} → (X → Type 0) → List X → Type 0
@@ -104,8 +104,8 @@ module _ {F : Type 0} (g : Grammar F) where
   either_to all kinds others row to split f h x tokens nestings stopped = f x [] _ stopped
   either_to all kinds others row to split f h x tokens nestings (one {kind = kind} {tokens = later} is m) =
       elim (split kind is) [
-        inl this ↦ f x (kind ∷ later) nestings (one this m)
-      | inr that ↦ h x (kind ∷ later) nestings (one that m)
+        | inl this ↦ f x (kind ∷ later) nestings (one this m)
+        | inr that ↦ h x (kind ∷ later) nestings (one that m)
       ]
 
   pub maybe_to : {rows : Rows F} (inner row to : Row F) → To rows (joined inner row) to → To rows row to → To rows (maybe inner row) to

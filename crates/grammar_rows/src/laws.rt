@@ -78,7 +78,8 @@ pub fn rows_are_in_a_row<F>()
 {}
 
 /// Two tables of the same forms have the same lists where what is an alternative of a form in either is that form in the
-/// other.
+/// other. A list then stops at the same place by both, where the same tokens open a nesting anywhere.
 pub fn tables_with_the_same_lists<F>()
-    ensures { (g other : Grammar F) → Covers g other → Covers other g → HaveSameLists g other }
+    ensures covered { (g other : Grammar F) → Covers g other → Covers other g → HaveSameLists g other }
+    ensures stops { (g other : Grammar F) → HaveSameLists g other → g.openers ≡ other.openers → (limit : ℕ) (row : Row F) (rows : Rows F) (tokens : List ℕ) (stop : Stop) → IsStop g limit row rows tokens stop → IsStop other limit row rows tokens stop }
 {}

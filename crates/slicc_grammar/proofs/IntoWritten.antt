@@ -1,24 +1,17 @@
 -- The rows of the table that one token ahead decides are turned into those of the written grammar.
-use Rattle.std.proofs.Common.{◌≡◌, ℕ, zero, suc, ◌≤◌, ◌||◌, ◌==◌, Bool, true, false, List, [], ◌∷◌, ◌++◌, length, Option, Some, refl, ◌⊎◌, inl, inr, arith}
-use Rattle.std.specs.List.{slice_get}
-use Rattle.std.proofs.lemmas.Bool.{or_cases, or_left, or_right, false≢true}
+use Rattle.std.proofs.Common.{◌≡◌, ℕ, true, List, [], ◌∷◌, refl}
 use Rattle.slicc_ast.specs.declared.tree.token.Word.TheVariants.{Transition, Machine, If, Else}
-use Rattle.slicc_ast.specs.declared.tree.token.Sign.TheVariants.{Comma, OpenBrace, CloseBrace, OpenParenthesis, CloseParenthesis, Not, Minus, Equals}
-use Rattle.grammar_rows.specs.Kinds.{has, is_subset}
-use Rattle.grammar_rows.specs.Grammar.{Row, Rows, Grammar}
-use Rattle.grammar_rows.specs.Grammar.Row.{done, token, form, maybe, many, nested}
+use Rattle.slicc_ast.specs.declared.tree.token.Sign.TheVariants.{Comma, OpenParenthesis, CloseParenthesis, Equals}
+use Rattle.grammar_rows.specs.Kinds.{is_subset}
+use Rattle.grammar_rows.specs.Grammar.{Row, Rows}
+use Rattle.grammar_rows.specs.Grammar.Row.{done, token, form, maybe, many}
 use Rattle.grammar_rows.specs.Grammar.Rows.{up}
-use Rattle.grammar_rows.specs.Matches.{Extent, Matches}
-use Rattle.grammar_rows.specs.Matches.Matches.{stopped, one, present, absent, again, enough}
 use Rattle.grammar_rows.specs.Same.{Covers, joined}
-use Rattle.grammar_rows.proofs.KindSets.{in_either}
-use Rattle.grammar_rows.proofs.Joining.{merge}
-use Rattle.grammar_rows.proofs.Rewriting.{exchange_within, fold}
-use Rattle.grammar_rows.proofs.Translating.{To, Each, IsFormCovered, covers_by, covered_by_itself, then_to, same_to, fold_to, form_to, token_to, wider_to, either_to, maybe_to, to_present, to_absent, many_to, to_again, to_enough, nested_to, end_to, form_end_to, maybe_end_to}
+use Rattle.grammar_rows.proofs.Translating.{To, Each, IsFormCovered, covers_by, covered_by_itself, then_to, fold_to, form_to, token_to, wider_to, maybe_to, to_present, to_absent, to_again, to_enough, nested_to, end_to, form_end_to, maybe_end_to}
 use Rattle.slicc_grammar.specs.Form.{Form}
-use Rattle.slicc_grammar.specs.Form.Form.{file, item, enumeration, states, structure, member, member_end, functional_end, pair, machine, machine_name, parameter, literal, declaration, declaration_end, named_end, body, out_port, in_port, action, transition, transition_end, names, formals, formal, block, statement, statement_end, conditional, otherwise, expression, conjunction, equality, order, sum, product, unary, postfix, primary, constant, opening, name_end, suffix, arguments, balanced_part}
-use Rattle.slicc_grammar.specs.TokenKinds.{other_name, machine_type, functional_name, number, quoted, word_kind, sign_kind}
-use Rattle.slicc_grammar.specs.Parts.{Part, ◌▸◌, rows, of, optional, repeated, word, sign, signs, names_of, name, type, plain_name, skipped_name, machine_type_name, other_than_machine_type, value, string, comma, colon, semicolon, assign, star, parentheses, braces, prefixed, pairs, balanced, products, sums, orders, equalities, conjunctions, disjunctions, operators}
+use Rattle.slicc_grammar.specs.Form.Form.{member, member_end, functional_end, pair, machine, machine_name, parameter, declaration, declaration_end, named_end, transition, transition_end, names, formals, block, statement, statement_end, conditional, otherwise, expression, conjunction, equality, order, sum, product, unary, postfix, primary, constant, opening, name_end, suffix}
+use Rattle.slicc_grammar.specs.TokenKinds.{other_name, machine_type, functional_name, word_kind, sign_kind}
+use Rattle.slicc_grammar.specs.Parts.{◌▸◌, of, optional, repeated, word, sign, names_of, name, type, plain_name, skipped_name, machine_type_name, value, string, comma, colon, semicolon, assign, star, parentheses, braces, pairs, products, sums, orders, equalities, conjunctions, disjunctions, operators}
 use Rattle.slicc_grammar.specs.Written.{written}
 use Rattle.slicc_grammar.specs.Table.{table}
 
@@ -48,17 +41,24 @@ plain_member : (r : Row Form) (S : Rows Form) → To written S ((type ▸ plain_
 plain_member r S = then_to written (token_to written names_of (wider_to written plain_kinds names_of ((pairs ▸ semicolon) r) refl)) (fold_to written member 0 refl)
 
 member_rows : Each (IsFormCovered written member) (table.alternatives member)
-member_rows =
-    (λ r S. form_end_to written (type done) member_end r (form member r) ((plain_name ▸ pairs ▸ semicolon) r) (plain_member r S)
-      (maybe_end_to written ((type ▸ plain_name) done) formals_part ((pairs ▸ semicolon) r) (form member r)
+member_rows = (
+  λ r S. form_end_to written (type done) member_end r (form member r) ((plain_name ▸ pairs ▸ semicolon) r) (plain_member r S) (
+    maybe_end_to written ((type ▸ plain_name) done) formals_part ((pairs ▸ semicolon) r) (form member r)
         (fold_to written member 1 refl)
         (plain_member r S),
-      (form_end_to written ((type ▸ skipped_name) done) functional_end r (form member r) ((pairs ▸ semicolon) r) (skipped_member r S)
-        (skipped_member r S,
-        (fold_to written member 2 refl,
-        tt)),
-      tt)),
-    tt)
+    (
+      form_end_to written ((type ▸ skipped_name) done) functional_end r (form member r) ((pairs ▸ semicolon) r) (skipped_member r S) (
+        skipped_member r S,
+        (
+          fold_to written member 2 refl,
+          tt,
+        ),
+      ),
+      tt,
+    ),
+  ),
+  tt,
+)
   where
     skipped_member : (r : Row Form) (S : Rows Form) → To written S ((type ▸ skipped_name ▸ pairs ▸ semicolon) r) (form member r)
     skipped_member r S = then_to written (token_to written names_of (wider_to written skipped_kinds names_of ((pairs ▸ semicolon) r) refl)) (fold_to written member 0 refl)
@@ -69,26 +69,52 @@ declaration_object kinds r S sub =
     (fold_to written declaration 9 refl)
 
 declaration_rows : Each (IsFormCovered written declaration) (table.alternatives declaration)
-declaration_rows =
-    (λ r S. fold_to written declaration 0 refl,
-    (λ r S. fold_to written declaration 1 refl,
-    (λ r S. fold_to written declaration 2 refl,
-    (λ r S. fold_to written declaration 3 refl,
-    (λ r S. fold_to written declaration 4 refl,
-    (λ r S. fold_to written declaration 5 refl,
-    (λ r S. fold_to written declaration 6 refl,
-    (λ r S. form_end_to written (type done) declaration_end r (form declaration r) ((plain_name ▸ pairs ▸ semicolon) r) (declaration_object plain_kinds r S refl)
-      (then_to written (token_to written names_of (to_present written (star done) ((name ▸ pairs ▸ semicolon) r))) (fold_to written declaration 9 refl),
-      (form_end_to written ((type ▸ plain_name) done) named_end r (form declaration r) ((pairs ▸ semicolon) r) (declaration_object plain_kinds r S refl)
-        (declaration_object plain_kinds r S refl,
-        (fold_to written declaration 7 refl,
-        tt)),
-      (form_end_to written ((type ▸ skipped_name) done) functional_end r (form declaration r) ((pairs ▸ semicolon) r) (declaration_object skipped_kinds r S refl)
-        (declaration_object skipped_kinds r S refl,
-        (fold_to written declaration 8 refl,
-        tt)),
-      tt))),
-    tt))))))))
+declaration_rows = (
+  λ r S. fold_to written declaration 0 refl,
+  (
+    λ r S. fold_to written declaration 1 refl,
+    (
+      λ r S. fold_to written declaration 2 refl,
+      (
+        λ r S. fold_to written declaration 3 refl,
+        (
+          λ r S. fold_to written declaration 4 refl,
+          (
+            λ r S. fold_to written declaration 5 refl,
+            (
+              λ r S. fold_to written declaration 6 refl,
+              (
+                λ r S. form_end_to written (type done) declaration_end r (form declaration r) ((plain_name ▸ pairs ▸ semicolon) r) (declaration_object plain_kinds r S refl) (
+                  then_to written (token_to written names_of (to_present written (star done) ((name ▸ pairs ▸ semicolon) r))) (fold_to written declaration 9 refl),
+                  (
+                    form_end_to written ((type ▸ plain_name) done) named_end r (form declaration r) ((pairs ▸ semicolon) r) (declaration_object plain_kinds r S refl) (
+                      declaration_object plain_kinds r S refl,
+                      (
+                        fold_to written declaration 7 refl,
+                        tt,
+                      ),
+                    ),
+                    (
+                      form_end_to written ((type ▸ skipped_name) done) functional_end r (form declaration r) ((pairs ▸ semicolon) r) (declaration_object skipped_kinds r S refl) (
+                        declaration_object skipped_kinds r S refl,
+                        (
+                          fold_to written declaration 8 refl,
+                          tt,
+                        ),
+                      ),
+                      tt,
+                    ),
+                  ),
+                ),
+                tt,
+              ),
+            ),
+          ),
+        ),
+      ),
+    ),
+  ),
+)
 
 abbrev machine_head : Row Form
 machine_head = (comma ▸ string ▸ pairs) closed
@@ -97,18 +123,22 @@ abbrev written_head : Row Form
 written_head = optional (machine_type_name ▸ colon) (name machine_head)
 
 machine_rows : Each (IsFormCovered written machine) (table.alternatives machine)
-machine_rows =
-    (λ r S. then_to written (token_to written (word_kind Machine ∷ [])
+machine_rows = (
+  λ r S. then_to written (token_to written (word_kind Machine ∷ [])
       (nested_to written (sign_kind OpenParenthesis ∷ []) (of machine_name machine_head) written_head
-        ((colon ▸ repeated (of parameter) ▸ braces (repeated (of declaration))) r)
-        (form_to written machine_name machine_head written_head
-          (maybe_end_to written (machine_type_name done) ((colon ▸ name) done) machine_head written_head
+      ((colon ▸ repeated (of parameter) ▸ braces (repeated (of declaration))) r)
+      (form_to written machine_name machine_head written_head (
+        maybe_end_to written (machine_type_name done) ((colon ▸ name) done) machine_head written_head
             (to_present written ((machine_type_name ▸ colon) done) (name machine_head))
             (then_to written (wider_to written (machine_type ∷ []) names_of machine_head refl) (to_absent written ((machine_type_name ▸ colon) done) (name machine_head))),
-          (then_to written (wider_to written (other_name ∷ functional_name ∷ []) names_of machine_head refl) (to_absent written ((machine_type_name ▸ colon) done) (name machine_head)),
-          tt)))))
+        (
+          then_to written (wider_to written (other_name ∷ functional_name ∷ []) names_of machine_head refl) (to_absent written ((machine_type_name ▸ colon) done) (name machine_head)),
+          tt,
+        ),
+      ))))
       (fold_to written machine 0 refl),
-    tt)
+  tt,
+)
 
 abbrev written_tail : Row Form
 written_tail = optional (comma ▸ name) (pairs closed)
@@ -126,25 +156,29 @@ transition_tail : (S : Rows Form) → To written S (optional (comma ▸ of trans
 transition_tail S =
     maybe_to written ((comma ▸ of transition_end) done) closed written_tail
     (form_end_to written (comma done) transition_end closed written_tail ((string ▸ pairs) closed)
-      (then_to written (token_to written (sign_kind Comma ∷ []) (fold_to written pair 1 refl)) (another_pair S))
-      (maybe_end_to written ((comma ▸ name) done) given (pairs closed) written_tail
-        (then_to written (token_to written (sign_kind Comma ∷ []) (fold_to written pair 0 refl)) (another_pair S))
-        (to_present written ((comma ▸ name) done) (pairs closed)),
-      (then_to written (token_to written (sign_kind Comma ∷ []) (fold_to written pair 1 refl)) (another_pair S),
-      tt)))
+    (then_to written (token_to written (sign_kind Comma ∷ []) (fold_to written pair 1 refl)) (another_pair S)) (
+      maybe_end_to written ((comma ▸ name) done) given (pairs closed) written_tail
+          (then_to written (token_to written (sign_kind Comma ∷ []) (fold_to written pair 0 refl)) (another_pair S))
+          (to_present written ((comma ▸ name) done) (pairs closed)),
+      (
+        then_to written (token_to written (sign_kind Comma ∷ []) (fold_to written pair 1 refl)) (another_pair S),
+        tt,
+      ),
+    ))
     (then_to written (to_enough written pair_part closed) (to_absent written ((comma ▸ name) done) (pairs closed)))
 
 transition_rows : Each (IsFormCovered written transition) (table.alternatives transition)
-transition_rows =
-    (λ r S. then_to written (token_to written (word_kind Transition ∷ [])
+transition_rows = (
+  λ r S. then_to written (token_to written (word_kind Transition ∷ [])
       (nested_to written (sign_kind OpenParenthesis ∷ [])
-        ((of names ▸ comma ▸ of names ▸ optional (comma ▸ of transition_end)) closed)
-        ((of names ▸ comma ▸ of names ▸ optional (comma ▸ name) ▸ pairs) closed)
-        (braces (repeated (name ▸ semicolon)) r)
-        (end_to written ((of names ▸ comma ▸ of names) done) (optional (comma ▸ of transition_end) closed) written_tail
-          (transition_tail (up (braces (repeated (name ▸ semicolon)) r) S)))))
+      ((of names ▸ comma ▸ of names ▸ optional (comma ▸ of transition_end)) closed)
+      ((of names ▸ comma ▸ of names ▸ optional (comma ▸ name) ▸ pairs) closed)
+      (braces (repeated (name ▸ semicolon)) r)
+      (end_to written ((of names ▸ comma ▸ of names) done) (optional (comma ▸ of transition_end) closed) written_tail
+      (transition_tail (up (braces (repeated (name ▸ semicolon)) r) S)))))
       (fold_to written transition 0 refl),
-    tt)
+  tt,
+)
 
 -- the levels of operators around a unary expression
 product_up : (r : Row Form) (S : Rows Form) → To written S ((of unary ▸ products) r) (form product r)
@@ -169,10 +203,13 @@ expression_up r S = then_to written (conjunction_up (disjunctions r) S) (fold_to
 named_primary : (r : Row Form) (S : Rows Form) → To written S ((name ▸ named) r) (form primary r)
 named_primary r S =
     maybe_end_to written (name done) ((of name_end) done) r (form primary r)
-    (form_end_to written (name done) name_end r (form primary r) r (fold_to written primary 1 refl)
-      (fold_to written primary 2 refl,
-      (fold_to written primary 3 refl,
-      tt)))
+    (form_end_to written (name done) name_end r (form primary r) r (fold_to written primary 1 refl) (
+      fold_to written primary 2 refl,
+      (
+        fold_to written primary 3 refl,
+        tt,
+      ),
+    ))
     (fold_to written primary 1 refl)
 
 named_postfix : (r : Row Form) (S : Rows Form) → To written S ((name ▸ named ▸ suffixes) r) (form postfix r)
@@ -186,11 +223,16 @@ constant_postfix r S = then_to written (fold_to written primary 0 refl) (fold_to
 
 opening_unary : (r : Row Form) (S : Rows Form) → To written S (form opening r) (form unary r)
 opening_unary r S =
-    form_to written opening r (form unary r)
-    (fold_to written unary 0 refl,
-    (fold_to written unary 1 refl,
-    (then_to written (constant_postfix r S) (fold_to written unary 2 refl),
-    tt)))
+    form_to written opening r (form unary r) (
+      fold_to written unary 0 refl,
+      (
+        fold_to written unary 1 refl,
+        (
+          then_to written (constant_postfix r S) (fold_to written unary 2 refl),
+          tt,
+        ),
+      ),
+    )
 
 -- what begins as an expression is a statement in either of two ways
 either_statement : (front r : Row Form) (S : Rows Form) → ((from : Row Form) → To written S (joined front from) (form expression from)) → To written S (joined front (maybe assigned (semicolon r))) (form statement r)
@@ -200,23 +242,47 @@ either_statement front r S step =
     (then_to written (step (semicolon r)) (fold_to written statement 2 refl))
 
 statement_rows : Each (IsFormCovered written statement) (table.alternatives statement)
-statement_rows =
-    (λ r S. form_end_to written (name done) statement_end r (form statement r) ((name ▸ assign ▸ of expression ▸ semicolon) r) (fold_to written statement 0 refl)
-      (fold_to written statement 0 refl,
-      (either_statement ((name ▸ named ▸ suffixes ▸ operators) done) r S
-        (λ from. then_to written (named_unary (operators from) S) (expression_up from S)),
-      tt)),
-    (λ r S. either_statement ((of opening ▸ operators) done) r S (λ from. then_to written (opening_unary (operators from) S) (expression_up from S)),
-    (λ r S. fold_to written statement 3 refl,
-    (λ r S. fold_to written statement 4 refl,
-    (λ r S. fold_to written statement 5 refl,
-    (λ r S. fold_to written statement 6 refl,
-    (λ r S. fold_to written statement 7 refl,
-    (λ r S. fold_to written statement 8 refl,
-    (λ r S. fold_to written statement 9 refl,
-    (λ r S. fold_to written statement 10 refl,
-    (λ r S. fold_to written statement 11 refl,
-    tt)))))))))))
+statement_rows = (
+  λ r S. form_end_to written (name done) statement_end r (form statement r) ((name ▸ assign ▸ of expression ▸ semicolon) r) (fold_to written statement 0 refl) (
+    fold_to written statement 0 refl,
+    (
+      either_statement ((name ▸ named ▸ suffixes ▸ operators) done) r S
+          (λ from. then_to written (named_unary (operators from) S) (expression_up from S)),
+      tt,
+    ),
+  ),
+  (
+    λ r S. either_statement ((of opening ▸ operators) done) r S (λ from. then_to written (opening_unary (operators from) S) (expression_up from S)),
+    (
+      λ r S. fold_to written statement 3 refl,
+      (
+        λ r S. fold_to written statement 4 refl,
+        (
+          λ r S. fold_to written statement 5 refl,
+          (
+            λ r S. fold_to written statement 6 refl,
+            (
+              λ r S. fold_to written statement 7 refl,
+              (
+                λ r S. fold_to written statement 8 refl,
+                (
+                  λ r S. fold_to written statement 9 refl,
+                  (
+                    λ r S. fold_to written statement 10 refl,
+                    (
+                      λ r S. fold_to written statement 11 refl,
+                      tt,
+                    ),
+                  ),
+                ),
+              ),
+            ),
+          ),
+        ),
+      ),
+    ),
+  ),
+)
 
 abbrev else_ifs : Row Form
 else_ifs = (word Else ▸ word If ▸ parentheses (of expression) ▸ of block) done
@@ -236,16 +302,20 @@ block_end r S = then_to written (to_present written last_else r) (to_enough writ
 conditional_end : (r : Row Form) (S : Rows Form) → To written S (maybe else_part r) (written_end r)
 conditional_end r S =
     maybe_to written else_part r (written_end r)
-    (form_end_to written (word Else done) otherwise r (written_end r) (form block r) (block_end r S)
-      (form_end_to written (word Else done) conditional r (written_end r) (form block r) (block_end r S) (to_again written else_ifs (maybe last_else r), tt),
-      (block_end r S,
-      tt)))
+    (form_end_to written (word Else done) otherwise r (written_end r) (form block r) (block_end r S) (
+      form_end_to written (word Else done) conditional r (written_end r) (form block r) (block_end r S) (to_again written else_ifs (maybe last_else r), tt),
+      (
+        block_end r S,
+        tt,
+      ),
+    ))
     (then_to written (to_absent written last_else r) (to_enough written else_ifs (maybe last_else r)))
 
 conditional_rows : Each (IsFormCovered written conditional) (table.alternatives conditional)
-conditional_rows =
-    (λ r S. then_to written (end_to written ((word If ▸ parentheses (of expression) ▸ of block) done) (maybe else_part r) (written_end r) (conditional_end r S)) (fold_to written conditional 0 refl),
-    tt)
+conditional_rows = (
+  λ r S. then_to written (end_to written ((word If ▸ parentheses (of expression) ▸ of block) done) (maybe else_part r) (written_end r) (conditional_end r S)) (fold_to written conditional 0 refl),
+  tt,
+)
 
 table_is_covered : (n : Form) → Each (IsFormCovered written n) (table.alternatives n)
 table_is_covered member = member_rows

@@ -1,3 +1,4 @@
 pub mod Decided
 pub mod IntoTable
 pub mod IntoWritten
+pub mod Readers

@@ -1,16 +1,12 @@
 -- The grammar as it is read with one token ahead. It is the written one but for the forms some alternatives of which begin
 -- alike: of these, what they have in common is read first, and a form beside those of the grammar has what may stand
 -- behind it. Operators are read level by level behind their first operand. Both tables have the same lists of tokens.
-use Rattle.std.specs.Prelude.{ℕ, Bool, false, List, [], ◌∷◌, ◌++◌, map}
-use Rattle.slicc_ast.specs.declared.tree.token.Word.{Word}
-use Rattle.slicc_ast.specs.declared.tree.token.Word.TheVariants.{Protocol, Include, Machine, Enumeration, StateDeclaration, Structure, InPort, OutPort, Action, Transition, Peek, Enqueue, StallAndWait, CheckAllocate, If, Else, Return, True, False, Ood, New, IsValid, IsInvalid, StaticCast, Error, Assert, Dprintf, AppendTransitionComment, While}
-use Rattle.slicc_ast.specs.declared.tree.token.Sign.{Sign}
-use Rattle.slicc_ast.specs.declared.tree.token.Sign.TheVariants.{OpenBrace, OpenParenthesis, OpenBracket, Semicolon, Colon, Comma, Dot, Equals, Assign, Equal, Unequal, Less, Greater, LessOrEqual, GreaterOrEqual, Plus, Minus, Star, Not, And, Or}
+use Rattle.std.specs.Prelude.{false, List, [], ◌∷◌}
+use Rattle.slicc_ast.specs.declared.tree.token.Word.TheVariants.{Machine, Transition, Peek, Enqueue, StallAndWait, CheckAllocate, If, Else, Return, Error, Assert, Dprintf, AppendTransitionComment}
 use Rattle.grammar_rows.specs.Grammar.{Row, Grammar}
 use Rattle.slicc_grammar.specs.Form.{Form}
-use Rattle.slicc_grammar.specs.Form.Form.{file, item, enumeration, states, structure, member, member_end, functional_end, pair, machine, machine_name, parameter, literal, declaration, declaration_end, named_end, body, out_port, in_port, action, transition, transition_end, names, formals, formal, block, statement, statement_end, conditional, otherwise, expression, conjunction, equality, order, sum, product, unary, postfix, primary, constant, opening, name_end, suffix, arguments, balanced_part}
-use Rattle.slicc_grammar.specs.TokenKinds.{other_name, machine_type, functional_name, number, quoted, end_of_text, word_kind, sign_kind}
-use Rattle.slicc_grammar.specs.Parts.{Part, ◌▸◌, rows, of, optional, repeated, word, sign, signs, words, names_of, name, type, plain_name, skipped_name, machine_type_name, other_than_machine_type, value, number_token, string, end_token, comma, colon, semicolon, assign, star, parentheses, braces, brackets, prefixed, pairs, balanced, products, sums, orders, equalities, conjunctions, disjunctions, operators, unbracketed}
+use Rattle.slicc_grammar.specs.Form.Form.{enumeration, states, structure, member, member_end, machine, machine_name, parameter, declaration, declaration_end, out_port, in_port, action, transition, transition_end, names, block, statement, statement_end, conditional, otherwise, expression, conjunction, equality, order, sum, unary, postfix, primary, constant, opening, name_end, suffix}
+use Rattle.slicc_grammar.specs.Parts.{◌▸◌, rows, of, optional, repeated, word, words, name, type, string, comma, colon, semicolon, assign, parentheses, braces, pairs, balanced, products, sums, orders, equalities, conjunctions, operators}
 use Rattle.slicc_grammar.specs.Ahead.{first_of_form, further_of_form, openers}
 use Rattle.slicc_grammar.specs.Written.{written_rows}
 
@@ -18,12 +14,12 @@ abbrev pub table_rows : Form → List (Row Form)
 table_rows member = rows (type ▸ of member_end ∷ [])
 table_rows machine =
     rows (
-      word Machine ▸ parentheses (of machine_name ▸ comma ▸ string ▸ pairs) ▸ colon ▸ repeated (of parameter)
-      ▸ braces (repeated (of declaration))
+    word Machine ▸ parentheses (of machine_name ▸ comma ▸ string ▸ pairs) ▸ colon ▸ repeated (of parameter)
+    ▸ braces (repeated (of declaration))
     ∷ [])
 table_rows declaration =
     rows (
-      of states
+    of states
     ∷ of enumeration
     ∷ of structure
     ∷ of out_port
@@ -34,12 +30,12 @@ table_rows declaration =
     ∷ [])
 table_rows transition =
     rows (
-      word Transition ▸ parentheses (of names ▸ comma ▸ of names ▸ optional (comma ▸ of transition_end))
-      ▸ braces (repeated (name ▸ semicolon))
+    word Transition ▸ parentheses (of names ▸ comma ▸ of names ▸ optional (comma ▸ of transition_end))
+    ▸ braces (repeated (name ▸ semicolon))
     ∷ [])
 table_rows statement =
     rows (
-      name ▸ of statement_end
+    name ▸ of statement_end
     ∷ of opening ▸ operators ▸ optional (assign ▸ of expression) ▸ semicolon
     ∷ word Return ▸ optional (of expression) ▸ semicolon
     ∷ of conditional
@@ -60,17 +56,17 @@ table_rows order = rows (of unary ▸ products ▸ sums ▸ orders ∷ [])
 table_rows sum = rows (of unary ▸ products ▸ sums ∷ [])
 table_rows unary =
     rows (
-      of opening
+    of opening
     ∷ name ▸ optional (of name_end) ▸ repeated (of suffix)
     ∷ [])
 table_rows postfix =
     rows (
-      of constant ▸ repeated (of suffix)
+    of constant ▸ repeated (of suffix)
     ∷ name ▸ optional (of name_end) ▸ repeated (of suffix)
     ∷ [])
 table_rows primary =
     rows (
-      of constant
+    of constant
     ∷ name ▸ optional (of name_end)
     ∷ [])
 table_rows form = written_rows form

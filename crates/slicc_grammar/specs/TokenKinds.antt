@@ -1,11 +1,10 @@
 -- The kind of a token, as the grammar sees it. Names are of three kinds: `MachineType`, the one name that may stand before
 -- a machine's own with a colon; `functionalRead` and `functionalWrite`, the names of the functions that are skipped; and
 -- all others. Each reserved word, each sign and the end of the text is a kind of its own.
-use Rattle.std.specs.Prelude.{ℕ, ◌+◌, ◌||◌, Bool, true, false, cond, List, [], ◌∷◌, codes}
+use Rattle.std.specs.Prelude.{ℕ, ◌||◌, cond, List, codes}
 use Rattle.std.specs.Str.{bytes_eq}
 use Rattle.slicc_ast.specs.declared.tree.token.TokenKind.{TokenKind}
 use Rattle.slicc_ast.specs.declared.tree.token.TokenKind.TheVariants.{Name, Number, Quoted, End}
-use Rattle.slicc_ast.specs.declared.tree.token.TokenKind.TheVariants as token
 use Rattle.slicc_ast.specs.declared.tree.token.Word.{Word}
 use Rattle.slicc_ast.specs.declared.tree.token.Word.TheVariants.{Protocol, Include, Machine, Enumeration, StateDeclaration, Structure, InPort, OutPort, Action, Transition, Peek, Enqueue, StallAndWait, CheckAllocate, If, Else, Return, True, False, Ood, New, IsValid, IsInvalid, StaticCast, Error, Assert, Dprintf, AppendTransitionComment, While}
 use Rattle.slicc_ast.specs.declared.tree.token.Sign.{Sign}

@@ -3,16 +3,13 @@
 -- tokens in which brackets close in pairs. In a machine's head the name before the colon is `MachineType`. Operators of
 -- one level group to the left, which is no matter of lists of tokens. A nesting is what a bracket, brace, parenthesis or
 -- unary operator opens.
-use Rattle.std.specs.Prelude.{ℕ, Bool, false, List, [], ◌∷◌, ◌++◌, map}
-use Rattle.slicc_ast.specs.declared.tree.token.Word.{Word}
-use Rattle.slicc_ast.specs.declared.tree.token.Word.TheVariants.{Protocol, Include, Machine, Enumeration, StateDeclaration, Structure, InPort, OutPort, Action, Transition, Peek, Enqueue, StallAndWait, CheckAllocate, If, Else, Return, True, False, Ood, New, IsValid, IsInvalid, StaticCast, Error, Assert, Dprintf, AppendTransitionComment, While}
-use Rattle.slicc_ast.specs.declared.tree.token.Sign.{Sign}
-use Rattle.slicc_ast.specs.declared.tree.token.Sign.TheVariants.{OpenBrace, OpenParenthesis, OpenBracket, Semicolon, Colon, Comma, Dot, Equals, Assign, Equal, Unequal, Less, Greater, LessOrEqual, GreaterOrEqual, Plus, Minus, Star, Not, And, Or}
+use Rattle.std.specs.Prelude.{false, List, [], ◌∷◌}
+use Rattle.slicc_ast.specs.declared.tree.token.Word.TheVariants.{Protocol, Include, Machine, Enumeration, StateDeclaration, Structure, InPort, OutPort, Action, Transition, Peek, Enqueue, StallAndWait, CheckAllocate, If, Else, Return, True, False, Ood, New, IsValid, IsInvalid, StaticCast, Error, Assert, Dprintf, AppendTransitionComment}
+use Rattle.slicc_ast.specs.declared.tree.token.Sign.TheVariants.{Dot, Equals, Minus, Not}
 use Rattle.grammar_rows.specs.Grammar.{Row, Grammar}
 use Rattle.slicc_grammar.specs.Form.{Form}
-use Rattle.slicc_grammar.specs.Form.Form.{file, item, enumeration, states, structure, member, member_end, functional_end, pair, machine, machine_name, parameter, literal, declaration, declaration_end, named_end, body, out_port, in_port, action, transition, transition_end, names, formals, formal, block, statement, statement_end, conditional, otherwise, expression, conjunction, equality, order, sum, product, unary, postfix, primary, constant, opening, name_end, suffix, arguments, balanced_part}
-use Rattle.slicc_grammar.specs.TokenKinds.{other_name, machine_type, functional_name, number, quoted, end_of_text, word_kind, sign_kind}
-use Rattle.slicc_grammar.specs.Parts.{Part, ◌▸◌, rows, of, optional, repeated, word, sign, signs, words, names_of, name, type, plain_name, skipped_name, machine_type_name, other_than_machine_type, value, number_token, string, end_token, comma, colon, semicolon, assign, star, parentheses, braces, brackets, prefixed, pairs, balanced, products, sums, orders, equalities, conjunctions, disjunctions, operators, unbracketed}
+use Rattle.slicc_grammar.specs.Form.Form.{file, item, enumeration, states, structure, member, pair, machine, parameter, literal, declaration, body, out_port, in_port, action, transition, names, formals, formal, block, statement, conditional, expression, conjunction, equality, order, sum, product, unary, postfix, primary, constant, suffix, arguments, balanced_part}
+use Rattle.slicc_grammar.specs.Parts.{◌▸◌, rows, of, optional, repeated, word, sign, words, name, type, plain_name, skipped_name, machine_type_name, value, number_token, string, end_token, comma, colon, semicolon, assign, star, parentheses, braces, brackets, prefixed, pairs, balanced, products, sums, orders, equalities, conjunctions, disjunctions, unbracketed}
 use Rattle.slicc_grammar.specs.Ends.{rows_behind}
 use Rattle.slicc_grammar.specs.Ahead.{first_of_form, further_of_form, openers}
 
@@ -20,7 +17,7 @@ abbrev pub written_rows : Form → List (Row Form)
 written_rows file = rows (optional (word Protocol ▸ string ▸ semicolon) ▸ of item ▸ repeated (of item) ▸ end_token ∷ [])
 written_rows item =
     rows (
-      word Include ▸ string ▸ semicolon
+    word Include ▸ string ▸ semicolon
     ∷ of enumeration
     ∷ of structure
     ∷ of machine
@@ -29,31 +26,31 @@ written_rows enumeration =
     rows (word Enumeration ▸ parentheses (name ▸ pairs) ▸ braces (repeated (name ▸ pairs ▸ semicolon)) ∷ [])
 written_rows states =
     rows (
-      word StateDeclaration ▸ parentheses (name ▸ pairs) ▸ braces (repeated (name ▸ comma ▸ name ▸ colon ▸ name ▸ pairs ▸ semicolon))
+    word StateDeclaration ▸ parentheses (name ▸ pairs) ▸ braces (repeated (name ▸ comma ▸ name ▸ colon ▸ name ▸ pairs ▸ semicolon))
     ∷ [])
 written_rows structure =
     rows (word Structure ▸ parentheses (name ▸ pairs) ▸ braces (repeated (of member)) ∷ [])
 written_rows member =
     rows (
-      type ▸ name ▸ pairs ▸ semicolon
+    type ▸ name ▸ pairs ▸ semicolon
     ∷ type ▸ plain_name ▸ parentheses (optional (of formals)) ▸ pairs ▸ semicolon
     ∷ type ▸ skipped_name ▸ parentheses balanced ▸ pairs ▸ braces balanced
     ∷ [])
 written_rows pair =
     rows (
-      name ▸ sign Equals ▸ value
+    name ▸ sign Equals ▸ value
     ∷ string
     ∷ [])
 written_rows machine =
     rows (
-      word Machine ▸ parentheses (optional (machine_type_name ▸ colon) ▸ name ▸ comma ▸ string ▸ pairs) ▸ colon
-      ▸ repeated (of parameter) ▸ braces (repeated (of declaration))
+    word Machine ▸ parentheses (optional (machine_type_name ▸ colon) ▸ name ▸ comma ▸ string ▸ pairs) ▸ colon
+    ▸ repeated (of parameter) ▸ braces (repeated (of declaration))
     ∷ [])
 written_rows parameter =
     rows (type ▸ optional star ▸ name ▸ optional (assign ▸ of literal) ▸ pairs ▸ semicolon ∷ [])
 written_rows literal =
     rows (
-      number_token
+    number_token
     ∷ sign Minus ▸ number_token
     ∷ string
     ∷ word True
@@ -61,7 +58,7 @@ written_rows literal =
     ∷ [])
 written_rows declaration =
     rows (
-      of states
+    of states
     ∷ of enumeration
     ∷ of structure
     ∷ of out_port
@@ -80,12 +77,12 @@ written_rows in_port =
 written_rows action = rows (word Action ▸ parentheses (name ▸ pairs) ▸ of block ∷ [])
 written_rows transition =
     rows (
-      word Transition ▸ parentheses (of names ▸ comma ▸ of names ▸ optional (comma ▸ name) ▸ pairs)
-      ▸ braces (repeated (name ▸ semicolon))
+    word Transition ▸ parentheses (of names ▸ comma ▸ of names ▸ optional (comma ▸ name) ▸ pairs)
+    ▸ braces (repeated (name ▸ semicolon))
     ∷ [])
 written_rows names =
     rows (
-      name
+    name
     ∷ braces (name ▸ repeated (comma ▸ name))
     ∷ [])
 written_rows formals = rows (of formal ▸ repeated (comma ▸ of formal) ∷ [])
@@ -93,7 +90,7 @@ written_rows formal = rows (type ▸ optional star ▸ optional name ∷ [])
 written_rows block = rows (braces (repeated (of statement)) ∷ [])
 written_rows statement =
     rows (
-      type ▸ name ▸ assign ▸ of expression ▸ semicolon
+    type ▸ name ▸ assign ▸ of expression ▸ semicolon
     ∷ of expression ▸ assign ▸ of expression ▸ semicolon
     ∷ of expression ▸ semicolon
     ∷ word Return ▸ optional (of expression) ▸ semicolon
@@ -108,8 +105,8 @@ written_rows statement =
     ∷ [])
 written_rows conditional =
     rows (
-      word If ▸ parentheses (of expression) ▸ of block
-      ▸ repeated (word Else ▸ word If ▸ parentheses (of expression) ▸ of block) ▸ optional (word Else ▸ of block)
+    word If ▸ parentheses (of expression) ▸ of block
+    ▸ repeated (word Else ▸ word If ▸ parentheses (of expression) ▸ of block) ▸ optional (word Else ▸ of block)
     ∷ [])
 written_rows expression = rows (of conjunction ▸ disjunctions ∷ [])
 written_rows conjunction = rows (of equality ▸ conjunctions ∷ [])
@@ -119,21 +116,21 @@ written_rows sum = rows (of product ▸ sums ∷ [])
 written_rows product = rows (of unary ▸ products ∷ [])
 written_rows unary =
     rows (
-      prefixed Not (of unary)
+    prefixed Not (of unary)
     ∷ prefixed Minus (of unary)
     ∷ of postfix
     ∷ [])
 written_rows postfix = rows (of primary ▸ repeated (of suffix) ∷ [])
 written_rows primary =
     rows (
-      of constant
+    of constant
     ∷ name
     ∷ name ▸ colon ▸ name
     ∷ name ▸ parentheses (optional (of arguments))
     ∷ [])
 written_rows constant =
     rows (
-      number_token
+    number_token
     ∷ word True
     ∷ word False
     ∷ word Ood
@@ -145,13 +142,13 @@ written_rows constant =
     ∷ [])
 written_rows suffix =
     rows (
-      sign Dot ▸ name ▸ optional (parentheses (optional (of arguments)))
+    sign Dot ▸ name ▸ optional (parentheses (optional (of arguments)))
     ∷ brackets (of expression)
     ∷ [])
 written_rows arguments = rows (of expression ▸ repeated (comma ▸ of expression) ∷ [])
 written_rows balanced_part =
     rows (
-      Row.token unbracketed
+    Row.token unbracketed
     ∷ parentheses balanced
     ∷ brackets balanced
     ∷ braces balanced

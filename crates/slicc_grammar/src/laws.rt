@@ -1,0 +1,32 @@
+// What holds of the grammar. These functions do nothing: their contracts are the laws.
+ghost use Rattle.std.specs.Prelude.{◌≡◌, ℕ, true, List};
+ghost use Rattle.std.specs.List.{Contains};
+ghost use Rattle.grammar_rows.specs.Choices.{choices_of};
+ghost use Rattle.grammar_rows.specs.Faults.{IsFirstFault, Stop};
+ghost use Rattle.grammar_rows.specs.Faults.Stop.{Passed};
+ghost use Rattle.grammar_rows.specs.Grammar.Row.{done, form};
+ghost use Rattle.grammar_rows.specs.Grammar.Rows.{end};
+ghost use Rattle.grammar_rows.specs.Matches.{Extent, Matches};
+ghost use Rattle.grammar_rows.specs.Predictive.{IsPredictive, is_predictive};
+ghost use Rattle.grammar_rows.specs.Reader.{Fails, Passes};
+ghost use Rattle.grammar_rows.specs.Same.{HaveSameLists};
+ghost use Rattle.slicc_grammar.specs.Form.{Form as FormOfGrammar, all_forms};
+ghost use Rattle.slicc_grammar.specs.Table.{table};
+ghost use Rattle.slicc_grammar.specs.Written.{written};
+
+/// One token ahead decides in the table, which has the lists of tokens of the written grammar, and leaves the same
+/// nestings open behind them.
+pub fn one_token_ahead_decides()
+    ensures computed { is_predictive table all_forms ≡ true }
+    ensures all { (n : FormOfGrammar) → Contains all_forms n }
+    ensures decided { IsPredictive table }
+    ensures written { HaveSameLists written table }
+{}
+
+/// So a reader that goes by the table stops exactly where the list does by the written grammar, and by the table a list is
+/// a form in one way at most.
+pub fn reader_keeps_to_the_written_grammar()
+    ensures passes { (limit : ℕ) (n : FormOfGrammar) (tokens left : List ℕ) → Passes table limit (form n) tokens left → IsFirstFault written limit n tokens (Passed left) }
+    ensures fails { (limit : ℕ) (n : FormOfGrammar) (tokens : List ℕ) (stop : Stop) → Fails table limit (form n) tokens stop → IsFirstFault written limit n tokens stop }
+    ensures one { (n : FormOfGrammar) (tokens : List ℕ) (m k : Matches table Extent.Whole (form n done) end tokens 0) → choices_of m ≡ choices_of k }
+{}
