@@ -2,10 +2,10 @@
 use Rattle.std.proofs.Common.{◌≡◌, ℕ, ◌≤◌, ◌<◌, true, List, [], ◌∷◌, ◌++◌, refl, sym, subst, ◌∙◌, arith, append-nil, append_assoc}
 use Rattle.grammar_rows.specs.Kinds.{has}
 use Rattle.grammar_rows.specs.Grammar.{Row, Rows, Grammar}
-use Rattle.grammar_rows.specs.Matches.{Begins, Derives, Extent, Matches}
+use Rattle.grammar_rows.specs.Matches.{Begins, Derives, Extent, IsViable, Matches}
 use Rattle.grammar_rows.specs.Matches.Extent.{Front}
 use Rattle.grammar_rows.specs.Matches.Matches.{stopped, ended, one, alternative, present, absent, again, enough, inside, on, outside}
-use Rattle.grammar_rows.specs.Faults.{Stop, IsWithin, IsLongest, IsOpenerTooDeep, IsStop}
+use Rattle.grammar_rows.specs.Faults.{Stop, IsFirstFault, IsWithin, IsLongest, IsOpenerTooDeep, IsStop}
 use Rattle.grammar_rows.specs.Faults.Stop.{Passed, Bad, Deep, Short}
 use Rattle.grammar_rows.specs.Faults.IsStop.{one_too_deep, whole, opener_too_deep, not_viable, too_short}
 use Rattle.grammar_rows.proofs.Carried.{first_same, rest_same, no_element}
@@ -170,3 +170,8 @@ module _ {F : Type 0} (g : Grammar F) (limit : ℕ) (row : Row F) (rows : Rows F
   passes_whole tokens (whole front rest split within longest m) =
       let is : tokens ≡ front = split ∙ append-nil front in
       (subst (λ v. Derives g row rows v) (sym is) m, subst (λ v. IsWithin g limit row rows v) (sym is) within)
+
+-- at a bad token the list so far is viable, and with the token it isn't
+pub not_viable_at : {F : Type 0} (g : Grammar F) (limit : ℕ) (n : F) (tokens later : List ℕ) (kind : ℕ) → IsFirstFault g limit n tokens (Bad (kind ∷ later)) → (front : List ℕ) × (tokens ≡ front ++ kind ∷ later) × IsViable g n front × (IsViable g n (front ++ kind ∷ []) → ⊥)
+not_viable_at g limit n tokens later kind (not_viable front _ _ split within longest not_whole not_deep) =
+    (front, split, longest.begins, λ viable. longest.not_further kind later refl viable)

@@ -13,7 +13,7 @@ use Rattle.grammar_rows.specs.Matches.Matches.{stopped, ended, one, alternative,
 use Rattle.grammar_rows.specs.Same.{joined, Covers}
 use Rattle.grammar_rows.proofs.KindSets.{of_subset}
 use Rattle.grammar_rows.proofs.Joining.{merge, part}
-use Rattle.grammar_rows.proofs.Rewriting.{fold, exchange_end, choose_end}
+use Rattle.grammar_rows.proofs.Rewriting.{fold}
 
 -- a statement of each row of a list
 abbrev pub Each : {X : Type 0} → (X → Type 0) → List X → Type 0
@@ -134,8 +134,12 @@ module _ {F : Type 0} (g : Grammar F) where
   nested_to kinds inner other row f x tokens nestings stopped = stopped
   nested_to kinds inner other row f x tokens nestings (inside {tokens = later} is m) = inside is (f x later nestings m)
 
+  end_by : {rows : Rows F} (front from to : Row F) → To rows from to → (x : Extent) (tokens : List ℕ) (nestings : ℕ) → Reach x front none from rows tokens nestings → Matches g x (joined front to) rows tokens nestings
+  end_by {rows} front from to f x tokens nestings (untouched all) = merge g front to rows (all to)
+  end_by {rows} front from to f x tokens nestings (touched left m all) = merge g front to rows (all to (f x left nestings m))
+
   pub end_to : {rows : Rows F} (front from to : Row F) → To rows from to → To rows (joined front from) (joined front to)
-  end_to {rows} front from to f x tokens nestings m = exchange_end g front from to rows f x tokens nestings m
+  end_to {rows} front from to f x tokens nestings m = end_by front from to f x tokens nestings (reach at_place (part g front from rows m))
 
   -- by cases of what stands at the end of a row
   form_reached : {rows : Rows F} (front : Row F) (n : F) (row to other : Row F) → To rows (joined front other) to → Each (λ a. To rows (joined front (joined a row)) to) (g.alternatives n) → (x : Extent) (tokens left : List ℕ) (nestings : ℕ) → ((behind : Row F) → Matches g x behind rows left nestings → Matches g x front (next behind rows) tokens nestings) → Matches g x (form n row) rows left nestings → Matches g x to rows tokens nestings
@@ -151,12 +155,18 @@ module _ {F : Type 0} (g : Grammar F) where
   pub form_end_to : {rows : Rows F} (front : Row F) (n : F) (row to other : Row F) → To rows (joined front other) to → Each (λ a. To rows (joined front (joined a row)) to) (g.alternatives n) → To rows (joined front (form n row)) to
   form_end_to {rows} front n row to other default each x tokens nestings m = form_by front n row to other default each x tokens nestings (reach at_place (part g front (form n row) rows m))
 
-  maybe_by : {rows : Rows F} (front inner row to : Row F) → To rows (joined front (joined inner row)) to → To rows (joined front row) to → (x : Extent) (tokens : List ℕ) (nestings : ℕ) → Matches g x (joined front (joined inner row)) rows tokens nestings ⊎ Matches g x (joined front row) rows tokens nestings → Matches g x to rows tokens nestings
-  maybe_by front inner row to f h x tokens nestings (inl m) = f x tokens nestings m
-  maybe_by front inner row to f h x tokens nestings (inr m) = h x tokens nestings m
+  maybe_reached : {rows : Rows F} (front inner row to : Row F) → To rows (joined front (joined inner row)) to → To rows (joined front row) to → (x : Extent) (tokens left : List ℕ) (nestings : ℕ) → ((behind : Row F) → Matches g x behind rows left nestings → Matches g x front (next behind rows) tokens nestings) → Matches g x (maybe inner row) rows left nestings → Matches g x to rows tokens nestings
+  maybe_reached {rows} front inner row to f h x tokens left nestings all stopped = h x tokens nestings (merge g front row rows (all row stopped))
+  maybe_reached {rows} front inner row to f h x tokens left nestings all (present m) =
+      f x tokens nestings (merge g front (joined inner row) rows (all (joined inner row) (merge g inner row rows m)))
+  maybe_reached {rows} front inner row to f h x tokens left nestings all (absent m) = h x tokens nestings (merge g front row rows (all row m))
+
+  maybe_by : {rows : Rows F} (front inner row to : Row F) → To rows (joined front (joined inner row)) to → To rows (joined front row) to → (x : Extent) (tokens : List ℕ) (nestings : ℕ) → Reach x front none (maybe inner row) rows tokens nestings → Matches g x to rows tokens nestings
+  maybe_by {rows} front inner row to f h x tokens nestings (untouched all) = h x tokens nestings (merge g front row rows (all row))
+  maybe_by front inner row to f h x tokens nestings (touched left k all) = maybe_reached front inner row to f h x tokens left nestings all k
 
   pub maybe_end_to : {rows : Rows F} (front inner row to : Row F) → To rows (joined front (joined inner row)) to → To rows (joined front row) to → To rows (joined front (maybe inner row)) to
-  maybe_end_to {rows} front inner row to f h x tokens nestings m = maybe_by front inner row to f h x tokens nestings (choose_end g front inner row rows m)
+  maybe_end_to {rows} front inner row to f h x tokens nestings m = maybe_by front inner row to f h x tokens nestings (reach at_place (part g front (maybe inner row) rows m))
 
 -- a form of the one table is covered by that of the other
 abbrev pub IsFormCovered : {F : Type 0} → Grammar F → F → Row F → Type 0

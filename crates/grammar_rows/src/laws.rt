@@ -4,7 +4,7 @@ ghost use Rattle.std.specs.Prelude.{◌≡◌, ◌↔◌, ◌⊎◌, ℕ, zero, 
 ghost use Rattle.std.specs.List.{Contains, slice_get};
 ghost use Rattle.grammar_rows.specs.Choices.{choices_of};
 ghost use Rattle.grammar_rows.specs.Faults.{IsFirstFault, IsStop, IsWithin, Stop};
-ghost use Rattle.grammar_rows.specs.Faults.Stop.{Deep, Passed};
+ghost use Rattle.grammar_rows.specs.Faults.Stop.{Bad, Deep, Passed};
 ghost use Rattle.grammar_rows.specs.Grammar.{Grammar, Row, Rows, first_of, is_nullable};
 ghost use Rattle.grammar_rows.specs.Grammar.Row.{done, form, many, maybe, nested, token};
 ghost use Rattle.grammar_rows.specs.Grammar.Rows.{end};
@@ -25,10 +25,12 @@ pub fn reader_stops_at_the_first_fault<F>()
 {}
 
 /// In any table, a list stops at one place and for one reason. It passes whole exactly where it is the parts and no token
-/// of it opens a nesting above the limit. What is the front of a list that begins the parts begins them too.
+/// of it opens a nesting above the limit. At a bad token the list so far is viable, and with the token it isn't. What is
+/// the front of a list that begins the parts begins them too.
 pub fn lists_stop_in_one_way<F>()
     ensures once { (g : Grammar F) (limit : ℕ) (row : Row F) (rows : Rows F) (tokens : List ℕ) (stop other : Stop) → IsStop g limit row rows tokens stop → IsStop g limit row rows tokens other → stop ≡ other }
     ensures whole { (g : Grammar F) (limit : ℕ) (row : Row F) (rows : Rows F) (tokens : List ℕ) → (Derives g row rows tokens × IsWithin g limit row rows tokens) ↔ IsStop g limit row rows tokens (Passed []) }
+    ensures bad { (g : Grammar F) (limit : ℕ) (n : F) (tokens later : List ℕ) (kind : ℕ) → IsFirstFault g limit n tokens (Bad (kind ∷ later)) → (front : List ℕ) × (tokens ≡ front ++ kind ∷ later) × IsViable g n front × (IsViable g n (front ++ kind ∷ []) → ⊥) }
     ensures fronts { (g : Grammar F) (row : Row F) (rows : Rows F) (front rest : List ℕ) → Begins g row rows (front ++ rest) → Begins g row rows front }
     ensures derived { (g : Grammar F) (row : Row F) (rows : Rows F) (tokens : List ℕ) → Derives g row rows tokens → Begins g row rows tokens }
 {}
