@@ -1,3 +1,12 @@
 pub mod Words
 pub mod Numbers
 pub mod Comments
+pub mod Spans
+pub mod Shapes
+pub mod Longest
+pub mod Classes
+pub mod FoundWords
+pub mod FoundNumbers
+pub mod FoundStrings
+pub mod FoundSigns
+pub mod FoundGaps

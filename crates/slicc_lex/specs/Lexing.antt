@@ -1,6 +1,7 @@
 -- What the steps of the lexer answer: how many bytes a stretch has, and the piece at the front of bytes or its fault.
 use Rattle.std.specs.Prelude.{◌≡◌, ◌⊎◌, ◌+◌, ◌≤◌, ◌==◌, ◌&&◌, ◌||◌, ℕ, Bool, cond, Option, Some, None, Result, List, [], ◌∷◌, length, take, drop, MatchResult}
 use Rattle.std.specs.Option.{option_map}
+use Rattle.std.specs.List.{prefix_len}
 use Rattle.slicc_ast.specs.declared.tree.token.Sign.{Sign}
 use Rattle.slicc_ast.specs.declared.tree.token.Sign.TheVariants.{OpenBrace, CloseBrace, OpenParenthesis, CloseParenthesis, OpenBracket, CloseBracket, Semicolon, Colon, Comma, Dot, Equals, Assign, Equal, Unequal, Less, Greater, LessOrEqual, GreaterOrEqual, Plus, Minus, Star, Not, And, Or}
 use Rattle.slicc_lex.specs.declared.fault.LexFault.{LexFault}
@@ -8,10 +9,8 @@ use Rattle.slicc_lex.specs.declared.fault.LexFault.TheVariants.{NoMemory}
 use Rattle.slicc_lex.specs.declared.piece.Piece.{Piece}
 use Rattle.slicc_lex.specs.declared.piece.Piece.TheVariants.{Gap, Lexeme}
 use Rattle.slicc_lex.specs.Pieces.{IsNext}
+use Rattle.slicc_lex.specs.Numbers.{is_hexadecimal}
 use Rattle.slicc_lex.specs.Tokens.{IsWithinLimits, IsFault}
-
-abbrev pub is_quote : ℕ → Bool
-is_quote c = (c == 34) || (c == 39)
 
 -- how many bytes there are up to the first star and slash, these two included
 abbrev pub close_len : List ℕ → Option ℕ
@@ -27,6 +26,11 @@ pair_sign c d =
     (cond ((c == 62) && (d == 61)) (Some GreaterOrEqual) (cond ((c == 38) && (d == 38)) (Some And)
     (cond ((c == 124) && (d == 124)) (Some Or) None))))))
 
+-- the sign of a byte and the one behind it
+abbrev pub pair_front : ℕ → List ℕ → Option Sign
+pair_front c [] = None
+pair_front c (d ∷ ds) = pair_sign c d
+
 -- the sign of one byte
 abbrev pub single_sign : ℕ → Option Sign
 single_sign c =
@@ -36,6 +40,12 @@ single_sign c =
     (cond (c == 46) (Some Dot) (cond (c == 61) (Some Equals) (cond (c == 60) (Some Less)
     (cond (c == 62) (Some Greater) (cond (c == 43) (Some Plus) (cond (c == 45) (Some Minus)
     (cond (c == 42) (Some Star) (cond (c == 33) (Some Not) None))))))))))))))))
+
+-- how many hexadecimal digits follow `0x` at the front
+abbrev pub hexadecimal_size : List ℕ → ℕ
+hexadecimal_size [] = 0
+hexadecimal_size (c ∷ []) = 0
+hexadecimal_size (c ∷ d ∷ cs) = cond ((c == 48) && (d == 120)) (prefix_len is_hexadecimal cs) 0
 
 -- a gap has no limits
 abbrev pub IsPieceWithinLimits : Piece → Type 0

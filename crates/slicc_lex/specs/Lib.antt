@@ -3,4 +3,5 @@ pub mod Signs
 pub mod Numbers
 pub mod Pieces
 pub mod Tokens
+pub mod Classes
 pub mod Lexing

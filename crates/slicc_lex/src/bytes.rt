@@ -3,7 +3,7 @@ ghost use Rattle.std.specs.List.{prefix_len};
 ghost use Rattle.slicc_ast.specs.Bytes.{is_blank, is_letter, is_word_byte, is_printable};
 ghost use Rattle.slicc_lex.specs.Numbers.{is_digit, is_hexadecimal};
 ghost use Rattle.slicc_lex.specs.Pieces.{is_in_line, is_inside};
-ghost use Rattle.slicc_lex.specs.Lexing.{is_quote};
+ghost use Rattle.slicc_lex.specs.Classes.{is_quote};
 
 /// Whether the byte is a space, a tab, a carriage return or a line feed.
 pub fn is_blank(byte: u8) -> bool

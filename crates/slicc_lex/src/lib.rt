@@ -2,6 +2,7 @@
 #![tactic(auto)]
 
 mod bytes;
+mod class;
 mod comment;
 mod fault;
 mod number;
