@@ -1,5 +1,5 @@
 -- What is known of a byte by its class.
-use Rattle.std.proofs.Common.{◌≡◌, ◌≤◌, ℕ, Bool, true, false, cond, List, [], ◌∷◌, refl, eqb}
+use Rattle.std.proofs.Common.{◌≡◌, ℕ, Bool, true, false, cond, List, [], ◌∷◌, refl, eqb}
 use Rattle.slicc_ast.specs.Bytes.{is_blank, is_letter}
 use Rattle.slicc_lex.specs.declared.class.Class.{Class}
 use Rattle.slicc_lex.specs.declared.class.Class.TheVariants.{Blank, Letter, Digit, Quote, Slash, Other}

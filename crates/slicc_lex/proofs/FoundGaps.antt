@@ -1,5 +1,5 @@
 -- The gap at the front of bytes, a blank or a comment, or the fault of a slash that begins none.
-use Rattle.std.proofs.Common.{◌≡◌, ◌≢◌, ◌+◌, ◌≤◌, ◌<◌, ◌&&◌, ℕ, suc, Bool, true, false, Option, Some, None, List, [], ◌∷◌, ◌++◌, length, take, drop, refl, sym, ap, ◌∙◌, subst, arith, eqb, inl, inr, length-append, append_assoc, take_at}
+use Rattle.std.proofs.Common.{◌≡◌, ◌≢◌, ◌+◌, ◌≤◌, ◌&&◌, ℕ, suc, true, false, Some, None, List, [], ◌∷◌, ◌++◌, length, take, refl, sym, ap, ◌∙◌, subst, arith, eqb, inl, inr, length-append, append_assoc, take_at}
 use Rattle.std.specs.List.{prefix_len, list_all}
 use Rattle.std.proofs.lemmas.Bool.{ne_eqb}
 use Rattle.std.proofs.lemmas.Option.{none-some}
@@ -14,7 +14,7 @@ use Rattle.slicc_lex.specs.Lexing.{close_len, Stands}
 use Rattle.slicc_lex.proofs.Spans.{span_is}
 use Rattle.slicc_lex.proofs.Comments.{closes_after}
 use Rattle.slicc_lex.proofs.Classes.{blank_from}
-use Rattle.slicc_lex.proofs.Longest.{AreWithin, first_is, stands, stuck, blank_within, line_within, block_closes, slash_none}
+use Rattle.slicc_lex.proofs.Longest.{AreWithin, stands, stuck, blank_within, line_within, block_closes, slash_none}
 
 pub found_blank : (bytes : List ℕ) (c : ℕ) (cs : List ℕ) → bytes ≡ c ∷ cs → class_of c ≡ Blank → Stands bytes Gap 1
 found_blank bytes c cs split is =
@@ -47,9 +47,11 @@ found_block text size is =
     (omega (arith, ap length whole, long, length-append (47 ∷ 42 ∷ closes.text ++ 42 ∷ 47 ∷ []) closes.rest))
 
 pub comment_open : (at : ℕ) (text : List ℕ) → close_len text ≡ None → IsFault at (47 ∷ 42 ∷ text) (OpenComment at)
-comment_open at text none =
-    (stuck (47 ∷ 42 ∷ text) (λ written shape behind split. let closes = block_closes text written shape behind split in none-some closes.0 (sym none ∙ closes.1)),
-    refl, refl)
+comment_open at text none = (
+  stuck (47 ∷ 42 ∷ text) (λ written shape behind split. let closes = block_closes text written shape behind split in none-some closes.0 (sym none ∙ closes.1)),
+  refl,
+  refl,
+)
 
 pub slash_alone : (at : ℕ) (behind : List ℕ) → behind ≡ [] → IsFault at (47 ∷ behind) (BadByte at)
 slash_alone at behind none =
@@ -61,3 +63,12 @@ slash_before at second behind text is no_slash no_star =
     let star : eqb second 42 ≡ false = ne_eqb second 42 no_star in
     subst (λ b. IsFault at (47 ∷ b) (BadByte at)) (sym is)
     (inl (record { some = λ empty. cc; stuck = stuck (47 ∷ second ∷ text) (slash_none (second ∷ text) (ne_eqb second 47 no_slash) star); no_string = refl; no_comment = ap (λ b. b && true) (ne_eqb 42 second (λ same. no_star (sym same))) }, refl))
+
+-- the bytes behind a slash, of which the first is known
+pub after_slash : (behind : List ℕ) (second : ℕ) (text : List ℕ) (which : ℕ) → behind ≡ second ∷ text → second ≡ which → 47 ∷ which ∷ text ≡ 47 ∷ behind
+after_slash behind second text which is same = sym (ap (λ b. 47 ∷ b) (is ∙ ap (λ d. d ∷ text) same))
+
+pub block_inside : (text : List ℕ) (size : ℕ) → close_len text ≡ Some size → size ≤ length text
+block_inside text size is =
+    let closes = closes_after text size is in
+    omega (arith, closes.size_is, ap length closes.split, length-append closes.text (42 ∷ 47 ∷ closes.rest))

@@ -1,14 +1,13 @@
 -- The number at the front of bytes is a token or a fault.
-use Rattle.std.proofs.Common.{◌≡◌, ◌+◌, ◌≤◌, ◌<◌, ◌^◌, ◌&&◌, ℕ, suc, Bool, true, false, cond, List, [], ◌∷◌, ◌++◌, length, take, drop, refl, sym, ap, ◌∙◌, subst, arith, one-add, eqb, eqb-true, inl, inr, ⊎_elim, pos, ℤ}
+use Rattle.std.proofs.Common.{◌≡◌, ◌+◌, ◌≤◌, ◌<◌, ◌^◌, ◌&&◌, ℕ, suc, true, List, [], ◌∷◌, length, take, drop, refl, sym, ap, ◌∙◌, subst, arith, eqb, eqb-true, inl, inr, ⊎_elim, pos, ℤ, to_z, of_z, w64, SFits, rules}
 use Rattle.std.specs.List.{prefix_len, list_all}
 use Rattle.std.proofs.lemmas.Bool.{cond-true, cond-false, cases_Bool, and_parts}
 use Rattle.std.proofs.lemmas.List.{length-take-le}
 use Rattle.std.proofs.lemmas.List.Sums.{prefix_len-le-length}
-use Rattle.std.proofs.lemmas.Int.{ints}
+use Rattle.std.proofs.lemmas.Int.{ints, to_z-of_z}
 use Rattle.slicc_ast.specs.declared.tree.token.TokenKind.TheVariants.{Number}
 use Rattle.slicc_lex.specs.declared.class.Class.TheVariants.{Digit}
 use Rattle.slicc_lex.specs.declared.fault.LexFault.TheVariants.{NumberTooLarge}
-use Rattle.slicc_lex.specs.declared.piece.Piece.{Piece}
 use Rattle.slicc_lex.specs.declared.piece.Piece.TheVariants.{Lexeme}
 use Rattle.slicc_lex.specs.Numbers.{is_digit, is_hexadecimal, number_of, IsNumeral, AreHexadecimal, IsDecimal}
 use Rattle.slicc_lex.specs.Tokens.{IsFault, IsWithinLimits}
@@ -75,11 +74,15 @@ found_hexadecimal bytes digits behind size n is size_is some behind_is digits_ar
 
 pub hexadecimal_too_large : (at : ℕ) (bytes digits behind : List ℕ) (size : ℕ) → BeginsWith Digit bytes → size ≡ hexadecimal_size bytes → 1 ≤ size → behind ≡ drop 2 bytes → digits ≡ take size behind → 2 ^ 63 ≤ number_of 16 digits → IsFault at bytes (NumberTooLarge at)
 hexadecimal_too_large at bytes digits behind size is size_is some behind_is digits_are large =
-    let piece = is_prefixed bytes digits behind size size_is some behind_is digits_are in
-    (number_of 16 digits, take (2 + size) bytes, drop (2 + size) bytes,
-    next_is bytes (Lexeme (Number (pos (number_of 16 digits)))) (2 + size) (number_of 16 digits, refl, piece.numeral)
-    (subst (λ k. AreWithin bytes (2 + k)) (sym size_is) (hexadecimal_within bytes (first_from Digit bytes is) (subst (λ k. 1 ≤ k) size_is some))) piece.inside,
-    large, refl)
+    let piece = is_prefixed bytes digits behind size size_is some behind_is digits_are in (
+      number_of 16 digits,
+      take (2 + size) bytes,
+      drop (2 + size) bytes,
+      next_is bytes (Lexeme (Number (pos (number_of 16 digits)))) (2 + size) (number_of 16 digits, refl, piece.numeral)
+          (subst (λ k. AreWithin bytes (2 + k)) (sym size_is) (hexadecimal_within bytes (first_from Digit bytes is) (subst (λ k. 1 ≤ k) size_is some))) piece.inside,
+      large,
+      refl,
+    )
 
 digit_some : (bytes : List ℕ) → BeginsWith Digit bytes → 1 ≤ prefix_len is_digit bytes
 digit_some [] is = absurd is
@@ -99,8 +102,27 @@ found_decimal bytes digits size hexadecimal n is other none size_is cut value =
     (omega (arith, size_is, digit_some bytes is)) (omega (arith, size_is, prefix_len-le-length is_digit bytes))
 
 pub decimal_too_large : (at : ℕ) (bytes digits : List ℕ) (size hexadecimal : ℕ) → BeginsWith Digit bytes → hexadecimal ≡ hexadecimal_size bytes → hexadecimal ≤ 0 → size ≡ prefix_len is_digit bytes → digits ≡ take size bytes → 2 ^ 63 ≤ number_of 10 digits → IsFault at bytes (NumberTooLarge at)
-decimal_too_large at bytes digits size hexadecimal is other none size_is cut large =
-    (number_of 10 digits, take size bytes, drop size bytes,
-    next_is bytes (Lexeme (Number (pos (number_of 10 digits)))) size (number_of 10 digits, refl, decimal_is bytes digits size is size_is cut)
-    (subst (AreWithin bytes) (sym size_is) (decimal_within bytes (first_from Digit bytes is) (omega (arith, other, none))))
-    (omega (arith, size_is, prefix_len-le-length is_digit bytes)), large, refl)
+decimal_too_large at bytes digits size hexadecimal is other none size_is cut large = (
+  number_of 10 digits,
+  take size bytes,
+  drop size bytes,
+  next_is bytes (Lexeme (Number (pos (number_of 10 digits)))) size (number_of 10 digits, refl, decimal_is bytes digits size is size_is cut)
+      (subst (AreWithin bytes) (sym size_is) (decimal_within bytes (first_from Digit bytes is) (omega (arith, other, none))))
+      (omega (arith, size_is, prefix_len-le-length is_digit bytes)),
+  large,
+  refl,
+)
+
+-- the digits are all there
+pub hexadecimal_fits : (bytes behind : List ℕ) (size : ℕ) → size ≡ hexadecimal_size bytes → 1 ≤ size → behind ≡ drop 2 bytes → size ≤ length behind
+hexadecimal_fits bytes behind size size_is some behind_is =
+    let is = prefixed bytes (subst (λ n. 1 ≤ n) size_is some) in
+    let tail : behind ≡ is.digits = behind_is ∙ ap (drop 2) is.split in
+    omega (arith, size_is, is.size, prefix_len-le-length is_hexadecimal is.digits, ap length tail)
+
+fits_below : (value : ℕ) → value < 2 ^ 63 → SFits w64 (pos value)
+fits_below value small = search rules
+
+-- a number that fits is itself as a signed one
+pub same_number : (n : ℤ) (value : ℕ) → (n ≡ pos value) × (value < 2 ^ 63) → n ≡ to_z w64 (of_z w64 n)
+same_number n value is = let fits : SFits w64 n = subst (SFits w64) (sym is.0) (fits_below value is.1) in sym (to_z-of_z w64 n fits)

@@ -1,5 +1,5 @@
 -- The sign at the front of bytes is a token, and where there is none the first byte is bad.
-use Rattle.std.proofs.Common.{◌≡◌, ◌≢◌, ◌⊎◌, ◌+◌, ◌≤◌, ◌<◌, ◌&&◌, ℕ, Bool, true, false, cond, Option, Some, None, List, [], ◌∷◌, ◌++◌, length, take, drop, refl, sym, ap, ◌∙◌, subst, arith, eqb, eqb-true, inl, inr, ⊎_elim}
+use Rattle.std.proofs.Common.{◌≡◌, ◌⊎◌, ◌≤◌, ◌&&◌, ℕ, cond, Option, Some, None, List, [], ◌∷◌, ◌++◌, length, take, refl, sym, ap, ◌∙◌, arith, eqb, eqb-true, inl, inr, ⊎_elim}
 use Rattle.std.specs.List.{starts_with}
 use Rattle.std.specs.Prelude.{nat_eq}
 use Rattle.std.proofs.lemmas.Bool.{cond-true, cond-false, cases_Bool, and_parts, ne_eqb, eqb-false}
@@ -16,7 +16,7 @@ use Rattle.slicc_lex.specs.Classes.{class_of}
 use Rattle.slicc_lex.specs.Lexing.{pair_sign, pair_front, single_sign, Stands}
 use Rattle.slicc_lex.proofs.Comments.{and_false_left}
 use Rattle.slicc_lex.proofs.Classes.{other_from}
-use Rattle.slicc_lex.proofs.Shapes.{Shape, mark, shape_class}
+use Rattle.slicc_lex.proofs.Shapes.{mark, shape_class}
 use Rattle.slicc_lex.proofs.Longest.{AreWithin, HaveNone, stands, stuck, wrong}
 
 -- a sign is of one byte or of two, and is found by them
@@ -147,9 +147,12 @@ found_single first behind sign is none found =
 pub bad_sign : (at first : ℕ) (behind : List ℕ) → class_of first ≡ Other → pair_front first behind ≡ None → single_sign first ≡ None → IsFault at (first ∷ behind) (BadByte at)
 bad_sign at first behind is none alone =
     let no = other_from first is in
-    inl (record {
-      some = λ empty. cc;
-      stuck = stuck (first ∷ behind) (no_mark first behind is none alone);
-      no_string = no.0;
-      no_comment = and_false_left (eqb 47 first) (starts_with nat_eq behind (42 ∷ [])) (ne_eqb 47 first (λ same. eqb-false first 47 no.1 (sym same)));
-    }, refl)
+    inl (
+      record {
+        some = λ empty. cc;
+        stuck = stuck (first ∷ behind) (no_mark first behind is none alone);
+        no_string = no.0;
+        no_comment = and_false_left (eqb 47 first) (starts_with nat_eq behind (42 ∷ [])) (ne_eqb 47 first (λ same. eqb-false first 47 no.1 (sym same)));
+      },
+      refl,
+    )

@@ -1,7 +1,8 @@
 -- The string at the front of bytes is a token or a fault.
-use Rattle.std.proofs.Common.{◌≡◌, ◌≢◌, ◌+◌, ◌≤◌, ◌<◌, ◌||◌, ℕ, suc, Bool, true, false, List, [], ◌∷◌, ◌++◌, length, take, drop, refl, sym, ap, ◌∙◌, subst, arith, eqb, eqb-true, inl, inr, ⊎_elim, take-append-drop, append_assoc, length-append, length-drop, take_at}
+use Rattle.std.proofs.Common.{◌≡◌, ◌≢◌, ◌+◌, ◌≤◌, ◌<◌, ℕ, true, false, List, [], ◌∷◌, ◌++◌, length, take, drop, refl, sym, ap, ◌∙◌, subst, arith, eqb, eqb-true, inl, inr, ⊎_elim, take-append-drop, append_assoc, length-append, length-drop, take_at}
 use Rattle.std.specs.List.{prefix_len, list_all}
-use Rattle.std.proofs.lemmas.Bool.{cases_Bool, or_cases, ne_eqb}
+use Rattle.std.proofs.lemmas.Bool.{or_cases}
+use Rattle.std.proofs.Math.Seq.{take-length}
 use Rattle.std.proofs.lemmas.List.{length-take-le}
 use Rattle.std.proofs.lemmas.List.Sums.{prefix_len-le-length}
 use Rattle.slicc_ast.specs.declared.tree.token.TokenKind.TheVariants.{Quoted}
@@ -10,7 +11,7 @@ use Rattle.slicc_lex.specs.declared.class.Class.TheVariants.{Quote}
 use Rattle.slicc_lex.specs.declared.fault.LexFault.TheVariants.{BadByte, OpenString}
 use Rattle.slicc_lex.specs.declared.piece.Piece.TheVariants.{Lexeme}
 use Rattle.slicc_lex.specs.Pieces.{is_inside, IsQuotedBy, IsWritten, IsNext}
-use Rattle.slicc_lex.specs.Tokens.{IsFault, IsBadInside}
+use Rattle.slicc_lex.specs.Tokens.{IsFault}
 use Rattle.slicc_lex.specs.Classes.{class_of, is_quote}
 use Rattle.slicc_lex.specs.Lexing.{Stands}
 use Rattle.slicc_lex.proofs.Spans.{begins, span_is}
@@ -19,12 +20,30 @@ use Rattle.slicc_lex.proofs.Longest.{AreWithin, stands, next_is, stuck, quoted_c
 
 -- without a quote behind the text the string is open
 pub string_open : (at quote : ℕ) (behind ahead : List ℕ) (size : ℕ) → class_of quote ≡ Quote → size ≡ prefix_len (is_inside quote) behind → ahead ≡ drop size behind → ((rest : List ℕ) → ahead ≢ quote ∷ rest) → IsFault at (quote ∷ behind) (OpenString at)
-string_open at quote behind ahead size is size_is cut no_close =
-    (stuck (quote ∷ behind)
-    (λ written shape after split.
-    let closes = quoted_closes quote behind is written shape after split in
-    no_close closes.rest (cut ∙ ap (λ n. drop n behind) size_is ∙ closes.closed)),
-    quote_from quote is, refl)
+string_open at quote behind ahead size is size_is cut no_close = (
+  stuck (quote ∷ behind)
+      (λ written shape after split.
+      let closes = quoted_closes quote behind is written shape after split in
+      no_close closes.rest (cut ∙ ap (λ n. drop n behind) size_is ∙ closes.closed)),
+  quote_from quote is,
+  refl,
+)
+
+-- nothing is behind the text, or another byte
+pub no_quote : (quote : ℕ) (ahead : List ℕ) → ahead ≡ [] → (rest : List ℕ) → ahead ≢ quote ∷ rest
+no_quote quote ahead none rest same = let clash : [] ≡ quote ∷ rest = sym none ∙ same in cc
+
+pub other_quote : (quote close : ℕ) (ahead behind : List ℕ) → ahead ≡ close ∷ behind → close ≢ quote → (rest : List ℕ) → ahead ≢ quote ∷ rest
+other_quote quote close ahead behind is differs rest same = let both : close ∷ behind ≡ quote ∷ rest = sym is ∙ same in differs (cc both)
+
+pub closed_by : (quote close : ℕ) (ahead behind : List ℕ) → ahead ≡ close ∷ behind → close ≡ quote → ahead ≡ quote ∷ behind
+closed_by quote close ahead behind is same = is ∙ ap (λ q. q ∷ behind) same
+
+-- where no byte is bad, all are printable
+pub all_printable : (text : List ℕ) (size : ℕ) → size ≡ prefix_len is_printable text → length text ≤ size → list_all is_printable text ≡ true
+all_printable text size is long =
+    let fits : length text ≡ prefix_len is_printable text = omega (arith, is, long, prefix_len-le-length is_printable text) in
+    ap (list_all is_printable) (sym (take-length text) ∙ ap (λ n. take n text) fits) ∙ (span_is is_printable text).0
 
 -- the first byte of a text that isn't printable
 record Bad (text : List ℕ) (before : ℕ) : Type 0 where
@@ -90,14 +109,18 @@ module _ (quote : ℕ) (behind text ahead rest : List ℕ) (size : ℕ) (is : cl
   pub bad_inside : (at before : ℕ) → before ≡ prefix_len is_printable text → before < length text → IsFault at (quote ∷ behind) (BadByte (at + 1 + before))
   bad_inside at before before_is early =
       let bad = bad_at text before before_is early in
-      inr (1 + before, record {
-        text = take before text;
-        bad = bad.byte;
-        later = bad.later;
-        written = take (length text + 2) (quote ∷ behind);
-        rest = drop (length text + 2) (quote ∷ behind);
-        next = subst (λ t. IsNext (quote ∷ behind) (Lexeme (Quoted t)) (take (length text + 2) (quote ∷ behind)) (drop (length text + 2) (quote ∷ behind))) bad.split (next_is (quote ∷ behind) (Lexeme (Quoted text)) (length text + 2) string_is string_within string_inside);
-        printable = bad.printable;
-        unprintable = bad.unprintable;
-        place = ap (λ n. 1 + n) (sym (length-take-le before text (omega arith)));
-      }, omega arith)
+      inr (
+        1 + before,
+        record {
+          text = take before text;
+          bad = bad.byte;
+          later = bad.later;
+          written = take (length text + 2) (quote ∷ behind);
+          rest = drop (length text + 2) (quote ∷ behind);
+          next = subst (λ t. IsNext (quote ∷ behind) (Lexeme (Quoted t)) (take (length text + 2) (quote ∷ behind)) (drop (length text + 2) (quote ∷ behind))) bad.split (next_is (quote ∷ behind) (Lexeme (Quoted text)) (length text + 2) string_is string_within string_inside);
+          printable = bad.printable;
+          unprintable = bad.unprintable;
+          place = ap (λ n. 1 + n) (sym (length-take-le before text (omega arith)));
+        },
+        omega arith,
+      )

@@ -1,6 +1,6 @@
 -- The word at the front of bytes is a name, a reserved word or a fault.
-use Rattle.std.proofs.Common.{◌≡◌, ◌≢◌, ◌+◌, ◌≤◌, ◌<◌, ℕ, suc, true, List, [], ◌∷◌, length, take, drop, refl, sym, ap, ◌∙◌, subst, arith, one-add}
-use Rattle.std.specs.List.{prefix_len, list_all}
+use Rattle.std.proofs.Common.{◌≡◌, ◌≢◌, ◌+◌, ◌≤◌, ◌<◌, ℕ, suc, List, [], ◌∷◌, length, take, drop, refl, sym, ap, ◌∙◌, subst, arith, one-add}
+use Rattle.std.specs.List.{prefix_len}
 use Rattle.std.proofs.lemmas.Bool.{cond-true, or_left}
 use Rattle.std.proofs.lemmas.List.{length-take-le}
 use Rattle.std.proofs.lemmas.List.Sums.{prefix_len-le-length}
@@ -52,9 +52,13 @@ found_name bytes text name size is size_is cut free copied short =
 pub name_too_long : (at : ℕ) (bytes text : List ℕ) (size : ℕ) → BeginsWith Letter bytes → size ≡ prefix_len is_word_byte bytes → text ≡ take size bytes → ((reserved : Reserved) → text ≢ word_bytes reserved) → 128 < size → IsFault at bytes (NameTooLong at)
 name_too_long at bytes text size is size_is cut free long =
     let inside : size ≤ length bytes = omega (arith, size_is, prefix_len-le-length is_word_byte bytes) in
-    let taken : IsWord (take size bytes) = subst (λ n. IsWord (take n bytes)) (sym size_is) (word_is bytes is) in
-    (take size bytes, take size bytes, drop size bytes,
-    next_is bytes (Lexeme (Name (take size bytes))) size
-    (refl, taken, λ reserved same. free reserved (cut ∙ same))
-    (subst (λ n. AreWithin bytes n) (sym size_is) (word_within bytes (first_from Letter bytes is))) inside,
-    omega (arith, long, length-take-le size bytes inside), refl)
+    let taken : IsWord (take size bytes) = subst (λ n. IsWord (take n bytes)) (sym size_is) (word_is bytes is) in (
+      take size bytes,
+      take size bytes,
+      drop size bytes,
+      next_is bytes (Lexeme (Name (take size bytes))) size
+          (refl, taken, λ reserved same. free reserved (cut ∙ same))
+          (subst (λ n. AreWithin bytes n) (sym size_is) (word_within bytes (first_from Letter bytes is))) inside,
+      omega (arith, long, length-take-le size bytes inside),
+      refl,
+    )

@@ -10,3 +10,4 @@ pub mod FoundNumbers
 pub mod FoundStrings
 pub mod FoundSigns
 pub mod FoundGaps
+pub mod Lexed

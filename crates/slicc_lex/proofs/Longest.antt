@@ -1,19 +1,19 @@
 -- The longest piece at the front of bytes, class by class of their first byte; and where no piece is there.
-use Rattle.std.proofs.Common.{◌≡◌, ◌≢◌, ◌+◌, ◌≤◌, ◌<◌, ◌&&◌, not, ℕ, Bool, true, false, Option, Some, None, List, [], ◌∷◌, ◌++◌, length, take, drop, refl, sym, ap, ◌∙◌, subst, arith, append_assoc, take-append-drop, drop_at, length-append, eqb, eqb-true, eq-eqb}
+use Rattle.std.proofs.Common.{◌≡◌, ◌≢◌, ◌+◌, ◌≤◌, ◌&&◌, not, ℕ, Bool, true, false, Some, List, [], ◌∷◌, ◌++◌, length, take, drop, refl, sym, ap, ◌∙◌, subst, arith, append_assoc, take-append-drop, drop_at, length-append, eqb, eq-eqb}
 use Rattle.std.specs.List.{prefix_len, list_all}
-use Rattle.std.proofs.lemmas.Bool.{cond-true, cond-false, and_parts, and_from, or_left, false≢true, ne_eqb}
+use Rattle.std.proofs.lemmas.Bool.{cond-false, and_parts, and_from, or_left, false≢true, ne_eqb}
 use Rattle.std.proofs.lemmas.List.{length-take-le}
-use Rattle.slicc_ast.specs.Bytes.{is_blank, is_letter, is_word_byte}
+use Rattle.slicc_ast.specs.Bytes.{is_letter, is_word_byte}
 use Rattle.slicc_lex.specs.declared.class.Class.{Class}
-use Rattle.slicc_lex.specs.declared.class.Class.TheVariants.{Blank, Letter, Digit, Quote, Slash, Other}
+use Rattle.slicc_lex.specs.declared.class.Class.TheVariants.{Blank, Letter, Digit, Quote, Slash}
 use Rattle.slicc_lex.specs.declared.piece.Piece.{Piece}
 use Rattle.slicc_lex.specs.Numbers.{is_digit, is_hexadecimal}
-use Rattle.slicc_lex.specs.Pieces.{is_in_line, is_inside, has_close, IsPiece, IsNext, IsStuck}
+use Rattle.slicc_lex.specs.Pieces.{is_in_line, is_inside, IsPiece, IsNext, IsStuck}
 use Rattle.slicc_lex.specs.Classes.{class_of}
 use Rattle.slicc_lex.specs.Lexing.{hexadecimal_size, close_len, IsPieceWithinLimits, Stands}
 use Rattle.slicc_lex.proofs.Comments.{close_at, and_false_right}
-use Rattle.slicc_lex.proofs.Spans.{begins, front_within, len_span}
-use Rattle.slicc_lex.proofs.Shapes.{Shape, blank, line, block, word, decimal, hexadecimal, quoted, mark, shape_of, shape_class, first_class, class_is}
+use Rattle.slicc_lex.proofs.Spans.{front_within, len_span}
+use Rattle.slicc_lex.proofs.Shapes.{Shape, blank, line, block, word, decimal, hexadecimal, quoted, shape_of, shape_class, first_class, class_is}
 
 abbrev pub first_is : ℕ → List ℕ → Bool
 first_is c [] = false

@@ -1,5 +1,5 @@
 -- The number that digits stand for is at least that of the first of them.
-use Rattle.std.proofs.Common.{◌≡◌, ◌+◌, ◌*◌, ◌<◌, ◌≤◌, ℕ, List, [], ◌∷◌, ◌++◌, take, drop, refl, sym, ap, ◌∙◌, arith, fold, length, get_or, take-append-drop, subst}
+use Rattle.std.proofs.Common.{◌≡◌, ◌+◌, ◌*◌, ◌<◌, ◌≤◌, ℕ, List, [], ◌∷◌, take, drop, sym, ap, ◌∙◌, arith, fold, length, get_or, take-append-drop, subst}
 use Rattle.std.proofs.Math.Nat.{le_trans, le-mul_of_pos_right}
 use Rattle.std.proofs.lemmas.List.Sums.{fold_more, fold-append}
 use Rattle.slicc_lex.specs.Numbers.{digit_value, number_of}

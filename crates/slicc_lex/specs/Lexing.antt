@@ -1,16 +1,17 @@
 -- What the steps of the lexer answer: how many bytes a stretch has, and the piece at the front of bytes or its fault.
-use Rattle.std.specs.Prelude.{◌≡◌, ◌⊎◌, ◌+◌, ◌≤◌, ◌==◌, ◌&&◌, ◌||◌, ℕ, Bool, cond, Option, Some, None, Result, List, [], ◌∷◌, length, take, drop, MatchResult}
+use Rattle.std.specs.Prelude.{◌≡◌, ◌⊎◌, ◌+◌, ◌≤◌, ◌==◌, ◌&&◌, ℕ, cond, Option, Some, None, Result, List, [], ◌∷◌, length, take, drop, MatchResult}
 use Rattle.std.specs.Option.{option_map}
 use Rattle.std.specs.List.{prefix_len}
 use Rattle.slicc_ast.specs.declared.tree.token.Sign.{Sign}
 use Rattle.slicc_ast.specs.declared.tree.token.Sign.TheVariants.{OpenBrace, CloseBrace, OpenParenthesis, CloseParenthesis, OpenBracket, CloseBracket, Semicolon, Colon, Comma, Dot, Equals, Assign, Equal, Unequal, Less, Greater, LessOrEqual, GreaterOrEqual, Plus, Minus, Star, Not, And, Or}
+use Rattle.slicc_lex.specs.declared.token.Token.{Token}
 use Rattle.slicc_lex.specs.declared.fault.LexFault.{LexFault}
 use Rattle.slicc_lex.specs.declared.fault.LexFault.TheVariants.{NoMemory}
 use Rattle.slicc_lex.specs.declared.piece.Piece.{Piece}
 use Rattle.slicc_lex.specs.declared.piece.Piece.TheVariants.{Gap, Lexeme}
 use Rattle.slicc_lex.specs.Pieces.{IsNext}
 use Rattle.slicc_lex.specs.Numbers.{is_hexadecimal}
-use Rattle.slicc_lex.specs.Tokens.{IsWithinLimits, IsFault}
+use Rattle.slicc_lex.specs.Tokens.{IsWithinLimits, IsFault, token_at}
 
 -- how many bytes there are up to the first star and slash, these two included
 abbrev pub close_len : List ℕ → Option ℕ
@@ -63,3 +64,8 @@ pub record Stands (bytes : List ℕ) (piece : Piece) (size : ℕ) : Type 0 where
 abbrev pub Finds : ℕ → List ℕ → Result (Piece × ℕ) LexFault → Type 0
 Finds at bytes answer =
     MatchResult answer (λ found. Stands bytes found.0 found.1) (λ fault. (fault ≡ NoMemory) ⊎ IsFault at bytes fault)
+
+-- the tokens that a piece between two places of a file makes
+abbrev pub tokens_of : ℕ → ℕ → ℕ → Piece → List Token
+tokens_of file start end Gap = []
+tokens_of file start end (Lexeme kind) = token_at file start end kind ∷ []

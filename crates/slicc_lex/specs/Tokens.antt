@@ -1,15 +1,13 @@
 -- The tokens of a text, with their places, or the first place where it has none. The text is read piece by piece from its
 -- first byte to its last, and each token goes from its first byte to right after its last one.
-use Rattle.std.specs.Prelude.{◌≡◌, ◌≢◌, ◌⊎◌, ◌+◌, ◌^◌, ◌<◌, ◌≤◌, ◌++◌, ◌==◌, ◌||◌, ℕ, Bool, false, IsTrue, Result, Ok, Err, List, [], ◌∷◌, length, codes, pos, nat_eq, MatchResult, ◌≤ℤ◌}
+use Rattle.std.specs.Prelude.{◌≡◌, ◌≢◌, ◌⊎◌, ◌+◌, ◌^◌, ◌<◌, ◌≤◌, ◌++◌, ◌==◌, ◌||◌, ℕ, Bool, false, IsTrue, Result, Ok, Err, List, [], ◌∷◌, length, codes, pos, nat_eq, ◌≤ℤ◌}
 use Rattle.std.specs.List.{list_all, starts_with}
-use Rattle.slicc_ast.specs.declared.tree.span.Span.{Span}
 use Rattle.slicc_ast.specs.declared.tree.token.TokenKind.{TokenKind}
 use Rattle.slicc_ast.specs.declared.tree.token.TokenKind.TheVariants.{Name, Number, Quoted, Word, Sign, End}
 use Rattle.slicc_ast.specs.Bytes.{is_printable}
 use Rattle.slicc_lex.specs.declared.token.Token.{Token}
 use Rattle.slicc_lex.specs.declared.fault.LexFault.{LexFault}
 use Rattle.slicc_lex.specs.declared.fault.LexFault.TheVariants.{BadByte, OpenString, OpenComment, NumberTooLarge, NameTooLong, NoMemory}
-use Rattle.slicc_lex.specs.declared.piece.Piece.{Piece}
 use Rattle.slicc_lex.specs.declared.piece.Piece.TheVariants.{Gap, Lexeme}
 use Rattle.slicc_lex.specs.Pieces.{IsNext, IsStuck}
 

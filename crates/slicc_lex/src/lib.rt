@@ -5,6 +5,8 @@ mod bytes;
 mod class;
 mod comment;
 mod fault;
+mod front;
+mod lexer;
 mod number;
 mod piece;
 mod sign;
@@ -12,6 +14,7 @@ mod token;
 mod word;
 
 pub use fault::LexFault;
+pub use lexer::lex;
 pub use ruby_base::{NoMemory, Seq, Text};
 pub use slicc_ast::tree::{Sign, Span, TokenKind, Word};
 pub use token::Token;
