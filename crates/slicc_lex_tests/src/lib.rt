@@ -1,0 +1,5 @@
+//! Texts and their tokens or faults.
+#![tactic(auto)]
+
+#[cfg(test)]
+mod tests;
