@@ -3,3 +3,10 @@ pub mod Tokens
 pub mod Spelling
 pub mod WellFormed
 pub mod SmallForm
+pub mod Outline
+pub mod Names
+pub mod Expressions
+pub mod Declarations
+pub mod Statements
+pub mod Machines
+pub mod Trees
