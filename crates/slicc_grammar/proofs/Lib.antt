@@ -2,3 +2,5 @@ pub mod Decided
 pub mod IntoTable
 pub mod IntoWritten
 pub mod Readers
+pub mod Followed
+pub mod Leading

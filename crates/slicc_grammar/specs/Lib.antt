@@ -5,3 +5,4 @@ pub mod Ends
 pub mod Ahead
 pub mod Written
 pub mod Table
+pub mod Spelled

@@ -1,0 +1,315 @@
+-- What an expression's tree spells is a list of the written grammar, of each form from its own level up.
+use Rattle.std.proofs.Common.{◌≡◌, ℕ, zero, suc, ◌+◌, ◌-◌, ◌≤◌, ◌<◌, nat_le, nat_lt, Bool, true, false, ◌||◌, ◌&&◌, cond, List, [], ◌∷◌, ◌++◌, Option, Some, None, refl, sym, subst, ap, ◌∙◌, append-nil, ◌⊎◌, inl, inr, arith, codes}
+use Rattle.std.specs.Str.{bytes_eq}
+use Rattle.std.specs.List.{slice_get}
+use Rattle.std.proofs.lemmas.Bool.{and_parts, leb-true, ltb-true, cond_both, cases_lt}
+use Rattle.slicc_ast.specs.declared.tree.token.TokenKind.TheVariants.{Number as Numeral, Quoted}
+use Rattle.slicc_ast.specs.declared.tree.token.Word.TheVariants.{True as TrueWord, False as FalseWord, Ood, New as NewWord, IsValid as IsValidWord, IsInvalid as IsInvalidWord, StaticCast}
+use Rattle.slicc_ast.specs.declared.tree.token.Sign.TheVariants.{OpenParenthesis, CloseParenthesis, OpenBracket, CloseBracket, Colon, Comma, Dot, Star, Plus as PlusSign, Minus as MinusSign, Less as LessSign, Greater as GreaterSign, LessOrEqual as LessOrEqualSign, GreaterOrEqual as GreaterOrEqualSign, Equal as EqualSign, Unequal as UnequalSign, And as AndSign, Or as OrSign}
+use Rattle.slicc_ast.specs.declared.tree.expression.Operator.{Operator}
+use Rattle.slicc_ast.specs.declared.tree.expression.Operator.TheVariants.{Or, And, Equal, Unequal, Less, Greater, LessOrEqual, GreaterOrEqual, Plus, Minus, Times}
+use Rattle.slicc_ast.specs.declared.tree.expression.Expr.{Expr, Binary', Not', Negate', Field', Method', Index', Number, True, False, Nothing, Variable, Member, Call', New, IsValid', IsInvalid', Cast', Group', Row_of-Expr, end_of-Expr, more_of-Expr}
+use Rattle.slicc_ast.specs.Outline.{Outline, node, Parts, none, token, part, provided, is_allowed, are_allowed}
+use Rattle.slicc_ast.specs.Expressions.{expr, level_of, operator_sign, operator_level, args_row, more_args_row}
+use Rattle.grammar_rows.specs.Kinds.{has}
+use Rattle.grammar_rows.specs.Grammar.{Row, Rows, Grammar}
+use Rattle.grammar_rows.specs.Grammar.Row.{done, form, maybe, many, nested}
+use Rattle.grammar_rows.specs.Grammar.Rows.{end, next, up}
+use Rattle.grammar_rows.specs.Matches.{Derives, Matches}
+use Rattle.grammar_rows.specs.Matches.Extent.{Whole}
+use Rattle.grammar_rows.specs.Matches.Matches.{ended, one, absent, enough, inside, outside}
+use Rattle.grammar_rows.specs.Same.{joined}
+use Rattle.grammar_rows.proofs.Translating.{fold_to, to_present, to_again}
+use Rattle.slicc_grammar.specs.Form.{Form}
+use Rattle.slicc_grammar.specs.Form.Form.{expression, conjunction, equality, order, sum, product, unary, postfix, primary, constant, suffix}
+use Rattle.slicc_grammar.specs.TokenKinds.{name_kind, machine_type, functional_name, other_name, sign_kind}
+use Rattle.slicc_grammar.specs.Parts.{names_of, of, comma, ◌▸◌, parentheses, optional, string}
+use Rattle.slicc_grammar.specs.Written.{written}
+use Rattle.slicc_grammar.proofs.Followed.{follow, follow_parts, follow-spelling}
+use Rattle.slicc_grammar.specs.Spelled.{spelling}
+
+pub name_is_one : (text : List ℕ) → has names_of (name_kind text) ≡ true
+name_is_one text =
+    cond_both (bytes_eq text (codes "MachineType")) machine_type
+    (cond (bytes_eq text (codes "functionalRead") || bytes_eq text (codes "functionalWrite")) functional_name other_name)
+    (λ kind. has names_of kind ≡ true) (λ is. refl)
+    (λ is. cond_both (bytes_eq text (codes "functionalRead") || bytes_eq text (codes "functionalWrite")) functional_name other_name (λ kind. has names_of kind ≡ true) (λ f. refl) (λ f. refl))
+
+-- whatever list is behind the form, the tokens before it make one of the form and it
+abbrev pub Leads : Form → (List ℕ → List ℕ) → Type 0
+Leads n tokens =
+    (r : Row Form) (S : Rows Form) (rest : List ℕ) (o : ℕ) → Matches written Whole r S rest o → Matches written Whole (form n r) S (tokens rest) o
+
+-- the forms of expressions, by how far they are above unary ones, and the operators between two of one form
+abbrev pub form_at : ℕ → Form
+form_at zero = unary
+form_at (suc zero) = product
+form_at (suc (suc zero)) = sum
+form_at (suc (suc (suc zero))) = order
+form_at (suc (suc (suc (suc zero)))) = equality
+form_at (suc (suc (suc (suc (suc zero))))) = conjunction
+form_at (suc (suc (suc (suc (suc (suc d)))))) = expression
+
+abbrev pub kinds_at : ℕ → List ℕ
+kinds_at zero = sign_kind Star ∷ []
+kinds_at (suc zero) = sign_kind PlusSign ∷ sign_kind MinusSign ∷ []
+kinds_at (suc (suc zero)) = sign_kind LessSign ∷ sign_kind GreaterSign ∷ sign_kind LessOrEqualSign ∷ sign_kind GreaterOrEqualSign ∷ []
+kinds_at (suc (suc (suc zero))) = sign_kind EqualSign ∷ sign_kind UnequalSign ∷ []
+kinds_at (suc (suc (suc (suc zero)))) = sign_kind AndSign ∷ []
+kinds_at (suc (suc (suc (suc (suc d))))) = sign_kind OrSign ∷ []
+
+abbrev pub operand_at : ℕ → Row Form
+operand_at d = Row.token (kinds_at d) (form (form_at d) done)
+
+fold_up : (d : ℕ) → d ≤ 5 → (r : Row Form) (S : Rows Form) (ts : List ℕ) (o : ℕ) → Matches written Whole (form (form_at d) (many (operand_at d) r)) S ts o → Matches written Whole (form (form_at (suc d)) r) S ts o
+fold_up zero le r S ts o m = fold_to written product 0 refl Whole ts o m
+fold_up (suc zero) le r S ts o m = fold_to written sum 0 refl Whole ts o m
+fold_up (suc (suc zero)) le r S ts o m = fold_to written order 0 refl Whole ts o m
+fold_up (suc (suc (suc zero))) le r S ts o m = fold_to written equality 0 refl Whole ts o m
+fold_up (suc (suc (suc (suc zero)))) le r S ts o m = fold_to written conjunction 0 refl Whole ts o m
+fold_up (suc (suc (suc (suc (suc zero))))) le r S ts o m = fold_to written expression 0 refl Whole ts o m
+fold_up (suc (suc (suc (suc (suc (suc d)))))) le r S ts o m = absurd (omega arith)
+
+climb_one : (d : ℕ) (tokens : List ℕ → List ℕ) → d ≤ 5 → Leads (form_at d) tokens → Leads (form_at (suc d)) tokens
+climb_one d tokens le leads r S rest o m = fold_up d le r S (tokens rest) o (leads (many (operand_at d) r) S rest o (enough m))
+
+climb : (k d e : ℕ) (tokens : List ℕ → List ℕ) → d + k ≡ e → e ≤ 6 → Leads (form_at d) tokens → Leads (form_at e) tokens
+climb zero d e tokens same le leads = subst (λ f. Leads (form_at f) tokens) (let is : d ≡ e = omega arith in is) leads
+climb (suc k) d e tokens same le leads = climb k (suc d) e tokens (omega arith) le (climb_one d tokens (omega arith) leads)
+
+-- the same before more operands of the level
+abbrev pub LeadsOn : ℕ → (List ℕ → List ℕ) → Type 0
+LeadsOn d tokens =
+    (r : Row Form) (S : Rows Form) (rest : List ℕ) (o : ℕ) → Matches written Whole (many (operand_at d) r) S rest o → Matches written Whole (form (form_at d) (many (operand_at d) r)) S (tokens rest) o
+
+abbrev pub suffix_part : Row Form
+suffix_part = form suffix done
+
+abbrev pub LeadsPrimary : (List ℕ → List ℕ) → Type 0
+LeadsPrimary tokens =
+    (r : Row Form) (S : Rows Form) (rest : List ℕ) (o : ℕ) → Matches written Whole (many suffix_part r) S rest o → Matches written Whole (form primary (many suffix_part r)) S (tokens rest) o
+
+-- an expression of a level, from 1 for the loosest operator to 8, leads the forms from its own up
+pub record Leading (level : ℕ) (tokens : List ℕ → List ℕ) : Type 0 where
+  pub up_from : (d : ℕ) → d ≤ 6 → 7 ≤ d + level → Leads (form_at d) tokens
+  pub before : (d : ℕ) → d ≤ 5 → 6 ≤ d + level → LeadsOn d tokens
+  pub with_suffixes : 8 ≤ level → LeadsPrimary tokens
+
+of_unary : (level : ℕ) (tokens : List ℕ → List ℕ) → 7 ≤ level → Leads unary tokens → (8 ≤ level → LeadsPrimary tokens) → Leading level tokens
+of_unary level tokens le leads tight =
+    record {
+      up_from = λ d small enough_of. climb d 0 d tokens (omega arith) small leads;
+      before = λ d small enough_of r S rest o m. climb d 0 d tokens (omega arith) (omega arith) leads (many (operand_at d) r) S rest o m;
+      with_suffixes = tight;
+    }
+
+of_postfix : (tokens : List ℕ → List ℕ) → LeadsPrimary tokens → Leading 8 tokens
+of_postfix tokens leads =
+    of_unary 8 tokens (omega arith)
+    (λ r S rest o m. fold_to written unary 2 refl Whole (tokens rest) o (fold_to written postfix 0 refl Whole (tokens rest) o (leads r S rest o (enough m))))
+    (λ le. leads)
+
+-- how far the operands of an operator are above unary expressions
+abbrev depth_of : Operator → ℕ
+depth_of Times = 0
+depth_of Plus = 1
+depth_of Minus = 1
+depth_of Less = 2
+depth_of Greater = 2
+depth_of LessOrEqual = 2
+depth_of GreaterOrEqual = 2
+depth_of Equal = 3
+depth_of Unequal = 3
+depth_of And = 4
+depth_of Or = 5
+
+depth_level : (op : Operator) → depth_of op + operator_level op ≡ 6
+depth_level Times = refl
+depth_level Plus = refl
+depth_level Minus = refl
+depth_level Less = refl
+depth_level Greater = refl
+depth_level LessOrEqual = refl
+depth_level GreaterOrEqual = refl
+depth_level Equal = refl
+depth_level Unequal = refl
+depth_level And = refl
+depth_level Or = refl
+
+sign_at : (op : Operator) → has (kinds_at (depth_of op)) (sign_kind (operator_sign op)) ≡ true
+sign_at Times = refl
+sign_at Plus = refl
+sign_at Minus = refl
+sign_at Less = refl
+sign_at Greater = refl
+sign_at LessOrEqual = refl
+sign_at GreaterOrEqual = refl
+sign_at Equal = refl
+sign_at Unequal = refl
+sign_at And = refl
+sign_at Or = refl
+
+some_level : (op : Operator) → 1 ≤ operator_level op
+some_level Times = omega arith
+some_level Plus = omega arith
+some_level Minus = omega arith
+some_level Less = omega arith
+some_level Greater = omega arith
+some_level LessOrEqual = omega arith
+some_level GreaterOrEqual = omega arith
+some_level Equal = omega arith
+some_level Unequal = omega arith
+some_level And = omega arith
+some_level Or = omega arith
+
+of_binary : (op : Operator) (low high : ℕ) (left right : List ℕ → List ℕ) → operator_level op ≤ low → operator_level op < high → Leading low left → Leading high right → Leading (operator_level op) (λ rest. left (sign_kind (operator_sign op) ∷ right rest))
+of_binary op low high left right le lt l r =
+    let d = depth_of op in
+    let sums_to : d + operator_level op ≡ 6 = depth_level op in
+    let some : 1 ≤ operator_level op = some_level op in
+    let own : LeadsOn d (λ rest. left (sign_kind (operator_sign op) ∷ right rest)) =
+        λ q S rest o m. l.before d (omega arith) (omega arith) q S (sign_kind (operator_sign op) ∷ right rest) o
+          (to_again written (operand_at d) q Whole (sign_kind (operator_sign op) ∷ right rest) o
+            (one (sign_at op) (r.up_from d (omega arith) (omega arith) (many (operand_at d) q) S rest o m))) in
+    let above : Leads (form_at (suc d)) (λ rest. left (sign_kind (operator_sign op) ∷ right rest)) =
+        λ q S rest o m. fold_up d (omega arith) q S (left (sign_kind (operator_sign op) ∷ right rest)) o (own q S rest o (enough m)) in
+    record {
+      up_from = λ e small wide. up_by e small wide d sums_to above;
+      before = λ e small wide. before_by e small wide d sums_to own above;
+      with_suffixes = λ tight. absurd (let most : operator_level op ≤ 6 = omega arith in omega arith);
+    }
+  where
+    up_by : (e : ℕ) → e ≤ 6 → 7 ≤ e + operator_level op → (d : ℕ) → d + operator_level op ≡ 6 → Leads (form_at (suc d)) (λ rest. left (sign_kind (operator_sign op) ∷ right rest)) → Leads (form_at e) (λ rest. left (sign_kind (operator_sign op) ∷ right rest))
+    up_by e small wide d sums_to above =
+        elim (cases_lt d e) [
+          inl less ↦ climb (e - suc d) (suc d) e (λ rest. left (sign_kind (operator_sign op) ∷ right rest)) (omega arith) small above
+        | inr more ↦ absurd (omega arith)
+        ]
+    before_by : (e : ℕ) → e ≤ 5 → 6 ≤ e + operator_level op → (d : ℕ) → d + operator_level op ≡ 6 → LeadsOn d (λ rest. left (sign_kind (operator_sign op) ∷ right rest)) → Leads (form_at (suc d)) (λ rest. left (sign_kind (operator_sign op) ∷ right rest)) → LeadsOn e (λ rest. left (sign_kind (operator_sign op) ∷ right rest))
+    before_by e small wide d sums_to own above =
+        elim (cases_lt d e) [
+          inl less ↦ (λ q S rest o m. climb (e - suc d) (suc d) e (λ rest. left (sign_kind (operator_sign op) ∷ right rest)) (omega arith) (omega arith) above (many (operand_at e) q) S rest o m)
+        | inr more ↦ subst (λ v. LeadsOn v (λ rest. left (sign_kind (operator_sign op) ∷ right rest))) (let same : d ≡ e = omega arith in same) own
+        ]
+
+level_is_some : (e : Expr) → 1 ≤ level_of e
+level_is_some (Binary' op p left q right span) = some_level op
+level_is_some (Not' p operand span) = omega arith
+level_is_some (Negate' p operand span) = omega arith
+level_is_some e = omega arith
+
+abbrev pub close : Row Form
+close = Row.token (sign_kind CloseParenthesis ∷ []) done
+
+abbrev pub argument : Row Form
+argument = (comma ▸ of expression) done
+
+-- any expression leads the form of all
+as_expression : (e : Expr) → Leading (level_of e) (follow (expr e)) → Leads expression (follow (expr e))
+as_expression e leading = let some = level_is_some e in leading.up_from 6 (omega arith) (omega arith)
+
+-- a primary expression of a constant's alternative
+of_constant : (place : ℕ) (chosen : Row Form) (tokens : List ℕ → List ℕ) → slice_get (written.alternatives constant) place ≡ Some chosen → ((r : Row Form) (S : Rows Form) (rest : List ℕ) (o : ℕ) → Matches written Whole r S rest o → Matches written Whole (joined chosen r) S (tokens rest) o) → LeadsPrimary tokens
+of_constant place chosen tokens at leads r S rest o m =
+    fold_to written primary 0 refl Whole (tokens rest) o (fold_to written constant place at Whole (tokens rest) o (leads (many suffix_part r) S rest o m))
+
+mutual
+  pub expr_leads : (e : Expr) → is_allowed (expr e) ≡ true → Leading (level_of e) (follow (expr e))
+  expr_leads (Binary' op p left q right span) allowed =
+      let low = and_parts (nat_le (operator_level op) (level_of left)) _ allowed in
+      let high = and_parts (nat_lt (operator_level op) (level_of right)) _ low.1 in
+      let both = and_parts (is_allowed (expr left)) _ high.1 in
+      of_binary op (level_of left) (level_of right) (follow (expr left)) (follow (expr right))
+      (leb-true (operator_level op) (level_of left) low.0) (ltb-true (operator_level op) (level_of right) high.0)
+      (expr_leads left both.0) (expr_leads right (and_parts (is_allowed (expr right)) true both.1).0)
+  expr_leads (Not' p operand span) allowed =
+      let wide = and_parts (nat_le 7 (level_of operand)) _ allowed in
+      let inner = expr_leads operand (and_parts (is_allowed (expr operand)) true wide.1).0 in
+      let le = leb-true 7 (level_of operand) wide.0 in
+      of_unary 7 (follow (expr (Not' p operand span))) (omega arith)
+      (λ r S rest o m. fold_to written unary 0 refl Whole (follow (expr (Not' p operand span)) rest) o (inside refl (inner.up_from 0 (omega arith) (omega arith) done (up r S) rest o (outside m))))
+      (λ tight. absurd (omega arith))
+  expr_leads (Negate' p operand span) allowed =
+      let wide = and_parts (nat_le 7 (level_of operand)) _ allowed in
+      let inner = expr_leads operand (and_parts (is_allowed (expr operand)) true wide.1).0 in
+      let le = leb-true 7 (level_of operand) wide.0 in
+      of_unary 7 (follow (expr (Negate' p operand span))) (omega arith)
+      (λ r S rest o m. fold_to written unary 1 refl Whole (follow (expr (Negate' p operand span)) rest) o (inside refl (inner.up_from 0 (omega arith) (omega arith) done (up r S) rest o (outside m))))
+      (λ tight. absurd (omega arith))
+  expr_leads (Field' p value field span) allowed =
+      let wide = and_parts (nat_le 8 (level_of value)) _ allowed in
+      let inner = expr_leads value (and_parts (is_allowed (expr value)) _ wide.1).0 in
+      of_postfix (follow (expr (Field' p value field span)))
+      (λ r S rest o m. inner.with_suffixes (leb-true 8 (level_of value) wide.0) r S _ o
+        (to_again written suffix_part r Whole _ o (fold_to written suffix 0 refl Whole _ o (one refl (one (name_is_one field.text) (absent m))))))
+  expr_leads (Method' p value method shape row within span) allowed =
+      let wide = and_parts (nat_le 8 (level_of value)) _ allowed in
+      let both = and_parts (is_allowed (expr value)) _ wide.1 in
+      let inner = expr_leads value both.0 in
+      of_postfix (follow (expr (Method' p value method shape row within span)))
+      (λ r S rest o m. inner.with_suffixes (leb-true 8 (level_of value) wide.0) r S _ o
+        (to_again written suffix_part r Whole _ o (fold_to written suffix 0 refl Whole _ o (one refl (one (name_is_one method.text)
+          (to_present written (parentheses (optional (of Form.arguments)) done) (many suffix_part r) Whole _ o
+            (inside refl (call_args row (and_parts (are_allowed (args_row row)) true both.1).0 (up (many suffix_part r) S) _ o (one refl (outside m))))))))))
+  expr_leads (Index' p value q key span) allowed =
+      let wide = and_parts (nat_le 8 (level_of value)) _ allowed in
+      let both = and_parts (is_allowed (expr value)) _ wide.1 in
+      let inner = expr_leads value both.0 in
+      let inside_it = as_expression key (expr_leads key (and_parts (is_allowed (expr key)) true both.1).0) in
+      of_postfix (follow (expr (Index' p value q key span)))
+      (λ r S rest o m. inner.with_suffixes (leb-true 8 (level_of value) wide.0) r S _ o
+        (to_again written suffix_part r Whole _ o (fold_to written suffix 1 refl Whole _ o
+          (inside refl (inside_it _ (up (many suffix_part r) S) _ o (one refl (outside m)))))))
+  expr_leads (Number n span) allowed = of_postfix _ (of_constant 0 _ (follow (expr (Number n span))) refl (λ r S rest o m. one refl m))
+  expr_leads (True span) allowed = of_postfix _ (of_constant 1 _ (follow (expr (True span))) refl (λ r S rest o m. one refl m))
+  expr_leads (False span) allowed = of_postfix _ (of_constant 2 _ (follow (expr (False span))) refl (λ r S rest o m. one refl m))
+  expr_leads (Nothing span) allowed = of_postfix _ (of_constant 3 _ (follow (expr (Nothing span))) refl (λ r S rest o m. one refl m))
+  expr_leads (Variable variable) allowed =
+      of_postfix (follow (expr (Variable variable))) (λ r S rest o m. fold_to written primary 1 refl Whole _ o (one (name_is_one variable.text) m))
+  expr_leads (Member owner member span) allowed =
+      of_postfix (follow (expr (Member owner member span)))
+      (λ r S rest o m. fold_to written primary 2 refl Whole _ o (one (name_is_one owner.text) (one refl (one (name_is_one member.text) m))))
+  expr_leads (Call' function shape row within span) allowed =
+      of_postfix (follow (expr (Call' function shape row within span)))
+      (λ r S rest o m. fold_to written primary 3 refl Whole _ o (one (name_is_one function.text)
+        (inside refl (call_args row (and_parts (are_allowed (args_row row)) true allowed).0 (up (many suffix_part r) S) _ o (one refl (outside m))))))
+  expr_leads (New made span) allowed =
+      of_postfix _ (of_constant 4 _ (follow (expr (New made span))) refl (λ r S rest o m. one refl (one (name_is_one made.text) m)))
+  expr_leads (IsValid' p value span) allowed =
+      let inner = as_expression value (expr_leads value (and_parts (is_allowed (expr value)) true allowed).0) in
+      of_postfix _ (of_constant 5 _ (follow (expr (IsValid' p value span))) refl (λ r S rest o m. one refl (inside refl (inner close (up r S) _ o (one refl (outside m))))))
+  expr_leads (IsInvalid' p value span) allowed =
+      let inner = as_expression value (expr_leads value (and_parts (is_allowed (expr value)) true allowed).0) in
+      of_postfix _ (of_constant 6 _ (follow (expr (IsInvalid' p value span))) refl (λ r S rest o m. one refl (inside refl (inner close (up r S) _ o (one refl (outside m))))))
+  expr_leads (Cast' target None p value span) allowed =
+      let inner = as_expression value (expr_leads value (and_parts (is_allowed (expr value)) true allowed).0) in
+      of_postfix _ (of_constant 7 _ (follow (expr (Cast' target None p value span))) refl
+        (λ r S rest o m. one refl (inside refl (one (name_is_one target.text) (one refl (absent (inner close (up r S) _ o (one refl (outside m)))))))))
+  expr_leads (Cast' target (Some mode) p value span) allowed =
+      let inner = as_expression value (expr_leads value (and_parts (is_allowed (expr value)) true allowed).0) in
+      of_postfix _ (of_constant 7 _ (follow (expr (Cast' target (Some mode) p value span))) refl
+        (λ r S rest o m. one refl (inside refl (one (name_is_one target.text) (one refl
+          (to_present written ((string ▸ comma) done) (form expression close) Whole _ o (one refl (one refl (inner close (up r S) _ o (one refl (outside m)))))))))))
+  expr_leads (Group' p inner span) allowed =
+      let held = as_expression inner (expr_leads inner (and_parts (is_allowed (expr inner)) true allowed).0) in
+      of_postfix _ (of_constant 8 _ (follow (expr (Group' p inner span))) refl (λ r S rest o m. inside refl (held close (up r S) _ o (one refl (outside m)))))
+
+  call_args : {n : _} (row : Row_of-Expr n) → are_allowed (args_row row) ≡ true → (S : Rows Form) (rest : List ℕ) (o : ℕ) → Matches written Whole close S rest o → Matches written Whole (maybe (form Form.arguments done) close) S (follow_parts (args_row row) rest) o
+  call_args end_of-Expr allowed S rest o m = absent m
+  call_args (more_of-Expr first row) allowed S rest o m =
+      let both = and_parts (is_allowed (expr first)) (are_allowed (more_args_row row)) allowed in
+      to_present written (form Form.arguments done) close Whole _ o (fold_to written Form.arguments 0 refl Whole _ o
+        (as_expression first (expr_leads first both.0) (many argument close) S _ o (more_args row both.1 S rest o m)))
+
+  more_args : {n : _} (row : Row_of-Expr n) → are_allowed (more_args_row row) ≡ true → (S : Rows Form) (rest : List ℕ) (o : ℕ) → Matches written Whole close S rest o → Matches written Whole (many argument close) S (follow_parts (more_args_row row) rest) o
+  more_args end_of-Expr allowed S rest o m = enough m
+  more_args (more_of-Expr first row) allowed S rest o m =
+      let both = and_parts (is_allowed (expr first)) (are_allowed (more_args_row row)) allowed in
+      to_again written argument close Whole _ o (one refl
+        (as_expression first (expr_leads first both.0) (many argument close) S _ o (more_args row both.1 S rest o m)))
+
+-- so an expression's tokens are one of the written grammar
+pub expression_derives : (e : Expr) → is_allowed (expr e) ≡ true → Derives written (form expression done) end (spelling (expr e))
+expression_derives e allowed =
+    let whole = as_expression e (expr_leads e allowed) done end [] 0 ended in
+    subst (λ ts. Derives written (form expression done) end ts) (follow-spelling (expr e) [] ∙ append-nil (spelling (expr e))) whole
