@@ -205,7 +205,7 @@ abbrev pub argument : Row Form
 argument = (comma ▸ of expression) done
 
 -- any expression leads the form of all
-as_expression : (e : Expr) → Leading (level_of e) (follow (expr e)) → Leads expression (follow (expr e))
+pub as_expression : (e : Expr) → Leading (level_of e) (follow (expr e)) → Leads expression (follow (expr e))
 as_expression e leading = let some = level_is_some e in leading.up_from 6 (omega arith) (omega arith)
 
 -- a primary expression of a constant's alternative

@@ -4,3 +4,5 @@ pub mod IntoWritten
 pub mod Readers
 pub mod Followed
 pub mod Leading
+pub mod LeadingParts
+pub mod LeadingStatements
