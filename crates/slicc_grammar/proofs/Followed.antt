@@ -19,7 +19,7 @@ mutual
   pub follow-spelling : (outline : Outline) (rest : List ℕ) → follow outline rest ≡ spelling outline ++ rest
   follow-spelling (node span parts) rest = follow_parts-spelling parts rest
 
-  follow_parts-spelling : (parts : Parts) (rest : List ℕ) → follow_parts parts rest ≡ map kind_of (kinds_in parts) ++ rest
+  pub follow_parts-spelling : (parts : Parts) (rest : List ℕ) → follow_parts parts rest ≡ map kind_of (kinds_in parts) ++ rest
   follow_parts-spelling none rest = refl
   follow_parts-spelling (token kind parts) rest = ap (λ ts. kind_of kind ∷ ts) (follow_parts-spelling parts rest)
   follow_parts-spelling (part outline parts) rest =

@@ -1,5 +1,5 @@
 -- What a statement's or a block's tree spells, before what stands behind it.
-use Rattle.std.proofs.Common.{◌≡◌, ℕ, Bool, true, false, ◌&&◌, List, [], ◌∷◌, ◌++◌, Option, Some, None, refl}
+use Rattle.std.proofs.Common.{◌≡◌, ℕ, Bool, true, false, ◌&&◌, List, [], ◌∷◌, ◌++◌, map, Option, Some, None, refl, subst, ◌∙◌, append-nil}
 use Rattle.std.proofs.lemmas.Bool.{and_parts}
 use Rattle.slicc_ast.specs.declared.tree.token.Word.TheVariants.{If as IfWord, Else as ElseWord}
 use Rattle.slicc_ast.specs.declared.tree.token.Sign.TheVariants.{OpenBrace}
@@ -8,23 +8,23 @@ use Rattle.slicc_ast.specs.declared.tree.statement.Block.{Block}
 use Rattle.slicc_ast.specs.declared.tree.statement.PrintWord.TheVariants.{Dprintf, AppendTransitionComment}
 use Rattle.slicc_ast.specs.declared.tree.statement.If.{If, If', Held-If-otherwise, None', Some', Row_of-ElseIf, end_of-ElseIf, more_of-ElseIf}
 use Rattle.slicc_ast.specs.declared.tree.statement.Stmt.{Stmt, Declare, Assign, Evaluate, Return, If as IfStmt, Peek', Enqueue', StallAndWait, CheckAllocate, Error, Assert, Print, Row_of-Stmt, end_of-Stmt, more_of-Stmt}
-use Rattle.slicc_ast.specs.Outline.{Outline, node, Parts, none, token, part, provided, is_allowed, are_allowed}
+use Rattle.slicc_ast.specs.Outline.{Outline, node, Parts, none, token, part, provided, is_allowed, are_allowed, kinds_in}
 use Rattle.slicc_ast.specs.Names.{balanced_list}
 use Rattle.slicc_ast.specs.Expressions.{expr}
 use Rattle.slicc_ast.specs.Declarations.{pair_list}
-use Rattle.slicc_ast.specs.Statements.{stmt, if_outline, else_if_row, else_part, stmt_row, stmt_list, block_end}
+use Rattle.slicc_ast.specs.Statements.{stmt, if_outline, else_if_row, else_part, stmt_row, stmt_list, block_end, block}
 use Rattle.grammar_rows.specs.Grammar.{Row, Rows, Grammar}
 use Rattle.grammar_rows.specs.Grammar.Row.{done, form, maybe, many, nested}
 use Rattle.grammar_rows.specs.Grammar.Rows.{end, next, up}
-use Rattle.grammar_rows.specs.Matches.{Matches}
+use Rattle.grammar_rows.specs.Matches.{Derives, Matches}
 use Rattle.grammar_rows.specs.Matches.Extent.{Whole}
 use Rattle.grammar_rows.specs.Matches.Matches.{ended, one, absent, enough, inside, outside}
 use Rattle.grammar_rows.proofs.Translating.{fold_to, to_present, to_again}
 use Rattle.slicc_grammar.specs.Form.{Form}
-use Rattle.slicc_grammar.specs.TokenKinds.{sign_kind}
+use Rattle.slicc_grammar.specs.TokenKinds.{kind_of, sign_kind}
 use Rattle.slicc_grammar.specs.Parts.{of, ◌▸◌, comma, semicolon, assign, word, parentheses, pairs as pairs_part, balanced as balanced_parts}
 use Rattle.slicc_grammar.specs.Written.{written}
-use Rattle.slicc_grammar.proofs.Followed.{follow, follow_parts}
+use Rattle.slicc_grammar.proofs.Followed.{follow, follow_parts, follow_parts-spelling}
 use Rattle.slicc_grammar.proofs.Leading.{name_is_one, close, expr_leads, as_expression}
 use Rattle.slicc_grammar.proofs.LeadingParts.{Fits, close_brace, balanced_leads, pairs_lead}
 
@@ -140,3 +140,11 @@ stmt_list_leads (first ∷ others) allowed r S rest o m =
 pub whole_block_leads : (b : Block) → are_allowed (stmt_list b.statements.items block_end) ≡ true → (r : Row Form) (S : Rows Form) (rest : List ℕ) (o : ℕ) → Fits r S rest o → Fits (form Form.block r) S (sign_kind OpenBrace ∷ follow_parts (stmt_list b.statements.items block_end) rest) o
 whole_block_leads b allowed r S rest o m =
     in_block r S _ o (stmt_list_leads b.statements.items allowed r S rest o m)
+
+-- so what a block's tree spells is a block of the written grammar
+pub block_derives : (b : Block) → are_allowed (block b none) ≡ true → Derives written (form Form.block done) end (map kind_of (kinds_in (block b none)))
+block_derives b allowed =
+    let fine = and_parts (are_allowed (stmt_list b.statements.items block_end)) true allowed in
+    subst (λ ts. Derives written (form Form.block done) end ts)
+    (follow_parts-spelling (block b none) [] ∙ append-nil (map kind_of (kinds_in (block b none))))
+    (whole_block_leads b fine.0 done end [] 0 ended)

@@ -6,3 +6,4 @@ pub mod Followed
 pub mod Leading
 pub mod LeadingParts
 pub mod LeadingStatements
+pub mod LeadingTrees

@@ -1,16 +1,26 @@
 // What holds of the grammar. These functions do nothing: their contracts are the laws.
-ghost use Rattle.std.specs.Prelude.{◌≡◌, ℕ, true, List};
+ghost use Rattle.std.specs.Prelude.{◌≡◌, ℕ, true, List, [], ◌∷◌, ◌++◌, map};
 ghost use Rattle.std.specs.List.{Contains};
 ghost use Rattle.grammar_rows.specs.Choices.{choices_of};
 ghost use Rattle.grammar_rows.specs.Faults.{IsFirstFault, Stop};
 ghost use Rattle.grammar_rows.specs.Faults.Stop.{Passed};
 ghost use Rattle.grammar_rows.specs.Grammar.Row.{done, form};
 ghost use Rattle.grammar_rows.specs.Grammar.Rows.{end};
-ghost use Rattle.grammar_rows.specs.Matches.{Extent, Matches};
+ghost use Rattle.grammar_rows.specs.Matches.{Derives, Extent, Matches};
 ghost use Rattle.grammar_rows.specs.Predictive.{IsPredictive, is_predictive};
 ghost use Rattle.grammar_rows.specs.Reader.{Fails, Passes};
 ghost use Rattle.grammar_rows.specs.Same.{HaveSameLists};
+ghost use Rattle.slicc_ast.specs.Expressions.{expr};
+ghost use Rattle.slicc_ast.specs.Outline.{are_allowed, is_allowed, kinds_in, none};
+ghost use Rattle.slicc_ast.specs.Statements.{block};
+ghost use Rattle.slicc_ast.specs.Trees.{tree};
+ghost use Rattle.slicc_ast.specs.declared.tree.expression.Expr.{Expr as ExprRecord};
+ghost use Rattle.slicc_ast.specs.declared.tree.item.Tree.{Tree as TreeRecord};
+ghost use Rattle.slicc_ast.specs.declared.tree.statement.Block.{Block as BlockRecord};
 ghost use Rattle.slicc_grammar.specs.Form.{Form as FormOfGrammar, all_forms};
+ghost use Rattle.slicc_grammar.specs.Form.Form.{block as block_form, expression, file};
+ghost use Rattle.slicc_grammar.specs.Spelled.{spelling};
+ghost use Rattle.slicc_grammar.specs.TokenKinds.{end_of_text, kind_of};
 ghost use Rattle.slicc_grammar.specs.Table.{table};
 ghost use Rattle.slicc_grammar.specs.Written.{written};
 
@@ -29,4 +39,12 @@ pub fn reader_keeps_to_the_written_grammar()
     ensures passes { (limit : ℕ) (n : FormOfGrammar) (tokens left : List ℕ) → Passes table limit (form n) tokens left → IsFirstFault written limit n tokens (Passed left) }
     ensures fails { (limit : ℕ) (n : FormOfGrammar) (tokens : List ℕ) (stop : Stop) → Fails table limit (form n) tokens stop → IsFirstFault written limit n tokens stop }
     ensures one { (n : FormOfGrammar) (tokens : List ℕ) (m k : Matches table Extent.Whole (form n done) end tokens 0) → choices_of m ≡ choices_of k }
+{}
+
+/// What a tree spells, where its conditions hold, is of the written grammar: a file with the end of the text behind it, a
+/// block, and an expression.
+pub fn trees_are_of_the_written_grammar()
+    ensures file { (t : TreeRecord) → is_allowed (tree t) ≡ true → Derives written (form file done) end (spelling (tree t) ++ end_of_text ∷ []) }
+    ensures block { (b : BlockRecord) → are_allowed (block b none) ≡ true → Derives written (form block_form done) end (map kind_of (kinds_in (block b none))) }
+    ensures expression { (e : ExprRecord) → is_allowed (expr e) ≡ true → Derives written (form expression done) end (spelling (expr e)) }
 {}
