@@ -1,5 +1,5 @@
 -- A tree's tokens before those behind it, by recursion over its outline.
-use Rattle.std.proofs.Common.{◌≡◌, ℕ, List, [], ◌∷◌, ◌++◌, map, refl, sym, ap, ◌∙◌, append_assoc}
+use Rattle.std.proofs.Common.{◌≡◌, ℕ, List, ◌∷◌, ◌++◌, map, refl, sym, ap, ◌∙◌, append_assoc}
 use Rattle.std.proofs.lemmas.List.{map-append}
 use Rattle.slicc_ast.specs.Outline.{Outline, node, Parts, none, token, part, provided, kinds_of, kinds_in}
 use Rattle.slicc_grammar.specs.TokenKinds.{kind_of}

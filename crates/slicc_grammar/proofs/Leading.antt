@@ -1,20 +1,18 @@
 -- What an expression's tree spells is a list of the written grammar, of each form from its own level up.
-use Rattle.std.proofs.Common.{◌≡◌, ℕ, zero, suc, ◌+◌, ◌-◌, ◌≤◌, ◌<◌, nat_le, nat_lt, Bool, true, false, ◌||◌, ◌&&◌, cond, List, [], ◌∷◌, ◌++◌, Option, Some, None, refl, sym, subst, ap, ◌∙◌, append-nil, ◌⊎◌, inl, inr, arith, codes}
+use Rattle.std.proofs.Common.{◌≡◌, ℕ, zero, suc, ◌+◌, ◌-◌, ◌≤◌, ◌<◌, nat_le, nat_lt, true, ◌||◌, cond, List, [], ◌∷◌, Some, None, refl, subst, ◌∙◌, append-nil, inl, inr, arith, codes}
 use Rattle.std.specs.Str.{bytes_eq}
 use Rattle.std.specs.List.{slice_get}
 use Rattle.std.proofs.lemmas.Bool.{and_parts, leb-true, ltb-true, cond_both, cases_lt}
-use Rattle.slicc_ast.specs.declared.tree.token.TokenKind.TheVariants.{Number as Numeral, Quoted}
-use Rattle.slicc_ast.specs.declared.tree.token.Word.TheVariants.{True as TrueWord, False as FalseWord, Ood, New as NewWord, IsValid as IsValidWord, IsInvalid as IsInvalidWord, StaticCast}
-use Rattle.slicc_ast.specs.declared.tree.token.Sign.TheVariants.{OpenParenthesis, CloseParenthesis, OpenBracket, CloseBracket, Colon, Comma, Dot, Star, Plus as PlusSign, Minus as MinusSign, Less as LessSign, Greater as GreaterSign, LessOrEqual as LessOrEqualSign, GreaterOrEqual as GreaterOrEqualSign, Equal as EqualSign, Unequal as UnequalSign, And as AndSign, Or as OrSign}
+use Rattle.slicc_ast.specs.declared.tree.token.Sign.TheVariants.{CloseParenthesis, Star, Plus as PlusSign, Minus as MinusSign, Less as LessSign, Greater as GreaterSign, LessOrEqual as LessOrEqualSign, GreaterOrEqual as GreaterOrEqualSign, Equal as EqualSign, Unequal as UnequalSign, And as AndSign, Or as OrSign}
 use Rattle.slicc_ast.specs.declared.tree.expression.Operator.{Operator}
 use Rattle.slicc_ast.specs.declared.tree.expression.Operator.TheVariants.{Or, And, Equal, Unequal, Less, Greater, LessOrEqual, GreaterOrEqual, Plus, Minus, Times}
 use Rattle.slicc_ast.specs.declared.tree.expression.Expr.{Expr, Binary', Not', Negate', Field', Method', Index', Number, True, False, Nothing, Variable, Member, Call', New, IsValid', IsInvalid', Cast', Group', Row_of-Expr, end_of-Expr, more_of-Expr}
-use Rattle.slicc_ast.specs.Outline.{Outline, node, Parts, none, token, part, provided, is_allowed, are_allowed}
+use Rattle.slicc_ast.specs.Outline.{is_allowed, are_allowed}
 use Rattle.slicc_ast.specs.Expressions.{expr, level_of, operator_sign, operator_level, args_row, more_args_row}
 use Rattle.grammar_rows.specs.Kinds.{has}
-use Rattle.grammar_rows.specs.Grammar.{Row, Rows, Grammar}
-use Rattle.grammar_rows.specs.Grammar.Row.{done, form, maybe, many, nested}
-use Rattle.grammar_rows.specs.Grammar.Rows.{end, next, up}
+use Rattle.grammar_rows.specs.Grammar.{Row, Rows}
+use Rattle.grammar_rows.specs.Grammar.Row.{done, form, maybe, many}
+use Rattle.grammar_rows.specs.Grammar.Rows.{end, up}
 use Rattle.grammar_rows.specs.Matches.{Derives, Matches}
 use Rattle.grammar_rows.specs.Matches.Extent.{Whole}
 use Rattle.grammar_rows.specs.Matches.Matches.{ended, one, absent, enough, inside, outside}
@@ -168,11 +166,11 @@ of_binary op low high left right le lt l r =
     let sums_to : d + operator_level op ≡ 6 = depth_level op in
     let some : 1 ≤ operator_level op = some_level op in
     let own : LeadsOn d (λ rest. left (sign_kind (operator_sign op) ∷ right rest)) =
-        λ q S rest o m. l.before d (omega arith) (omega arith) q S (sign_kind (operator_sign op) ∷ right rest) o
-          (to_again written (operand_at d) q Whole (sign_kind (operator_sign op) ∷ right rest) o
-            (one (sign_at op) (r.up_from d (omega arith) (omega arith) (many (operand_at d) q) S rest o m))) in
+    λ q S rest o m. l.before d (omega arith) (omega arith) q S (sign_kind (operator_sign op) ∷ right rest) o
+    (to_again written (operand_at d) q Whole (sign_kind (operator_sign op) ∷ right rest) o
+    (one (sign_at op) (r.up_from d (omega arith) (omega arith) (many (operand_at d) q) S rest o m))) in
     let above : Leads (form_at (suc d)) (λ rest. left (sign_kind (operator_sign op) ∷ right rest)) =
-        λ q S rest o m. fold_up d (omega arith) q S (left (sign_kind (operator_sign op) ∷ right rest)) o (own q S rest o (enough m)) in
+    λ q S rest o m. fold_up d (omega arith) q S (left (sign_kind (operator_sign op) ∷ right rest)) o (own q S rest o (enough m)) in
     record {
       up_from = λ e small wide. up_by e small wide d sums_to above;
       before = λ e small wide. before_by e small wide d sums_to own above;
@@ -182,14 +180,15 @@ of_binary op low high left right le lt l r =
     up_by : (e : ℕ) → e ≤ 6 → 7 ≤ e + operator_level op → (d : ℕ) → d + operator_level op ≡ 6 → Leads (form_at (suc d)) (λ rest. left (sign_kind (operator_sign op) ∷ right rest)) → Leads (form_at e) (λ rest. left (sign_kind (operator_sign op) ∷ right rest))
     up_by e small wide d sums_to above =
         elim (cases_lt d e) [
-          inl less ↦ climb (e - suc d) (suc d) e (λ rest. left (sign_kind (operator_sign op) ∷ right rest)) (omega arith) small above
-        | inr more ↦ absurd (omega arith)
+          | inl less ↦ climb (e - suc d) (suc d) e (λ rest. left (sign_kind (operator_sign op) ∷ right rest)) (omega arith) small above
+          | inr more ↦ absurd (omega arith)
         ]
+
     before_by : (e : ℕ) → e ≤ 5 → 6 ≤ e + operator_level op → (d : ℕ) → d + operator_level op ≡ 6 → LeadsOn d (λ rest. left (sign_kind (operator_sign op) ∷ right rest)) → Leads (form_at (suc d)) (λ rest. left (sign_kind (operator_sign op) ∷ right rest)) → LeadsOn e (λ rest. left (sign_kind (operator_sign op) ∷ right rest))
     before_by e small wide d sums_to own above =
         elim (cases_lt d e) [
-          inl less ↦ (λ q S rest o m. climb (e - suc d) (suc d) e (λ rest. left (sign_kind (operator_sign op) ∷ right rest)) (omega arith) (omega arith) above (many (operand_at e) q) S rest o m)
-        | inr more ↦ subst (λ v. LeadsOn v (λ rest. left (sign_kind (operator_sign op) ∷ right rest))) (let same : d ≡ e = omega arith in same) own
+          | inl less ↦ (λ q S rest o m. climb (e - suc d) (suc d) e (λ rest. left (sign_kind (operator_sign op) ∷ right rest)) (omega arith) (omega arith) above (many (operand_at e) q) S rest o m)
+          | inr more ↦ subst (λ v. LeadsOn v (λ rest. left (sign_kind (operator_sign op) ∷ right rest))) (let same : d ≡ e = omega arith in same) own
         ]
 
 level_is_some : (e : Expr) → 1 ≤ level_of e
@@ -241,16 +240,16 @@ mutual
       let inner = expr_leads value (and_parts (is_allowed (expr value)) _ wide.1).0 in
       of_postfix (follow (expr (Field' p value field span)))
       (λ r S rest o m. inner.with_suffixes (leb-true 8 (level_of value) wide.0) r S _ o
-        (to_again written suffix_part r Whole _ o (fold_to written suffix 0 refl Whole _ o (one refl (one (name_is_one field.text) (absent m))))))
+      (to_again written suffix_part r Whole _ o (fold_to written suffix 0 refl Whole _ o (one refl (one (name_is_one field.text) (absent m))))))
   expr_leads (Method' p value method shape row within span) allowed =
       let wide = and_parts (nat_le 8 (level_of value)) _ allowed in
       let both = and_parts (is_allowed (expr value)) _ wide.1 in
       let inner = expr_leads value both.0 in
       of_postfix (follow (expr (Method' p value method shape row within span)))
       (λ r S rest o m. inner.with_suffixes (leb-true 8 (level_of value) wide.0) r S _ o
-        (to_again written suffix_part r Whole _ o (fold_to written suffix 0 refl Whole _ o (one refl (one (name_is_one method.text)
-          (to_present written (parentheses (optional (of Form.arguments)) done) (many suffix_part r) Whole _ o
-            (inside refl (call_args row (and_parts (are_allowed (args_row row)) true both.1).0 (up (many suffix_part r) S) _ o (one refl (outside m))))))))))
+      (to_again written suffix_part r Whole _ o (fold_to written suffix 0 refl Whole _ o (one refl (one (name_is_one method.text)
+      (to_present written (parentheses (optional (of Form.arguments)) done) (many suffix_part r) Whole _ o
+      (inside refl (call_args row (and_parts (are_allowed (args_row row)) true both.1).0 (up (many suffix_part r) S) _ o (one refl (outside m))))))))))
   expr_leads (Index' p value q key span) allowed =
       let wide = and_parts (nat_le 8 (level_of value)) _ allowed in
       let both = and_parts (is_allowed (expr value)) _ wide.1 in
@@ -258,8 +257,8 @@ mutual
       let inside_it = as_expression key (expr_leads key (and_parts (is_allowed (expr key)) true both.1).0) in
       of_postfix (follow (expr (Index' p value q key span)))
       (λ r S rest o m. inner.with_suffixes (leb-true 8 (level_of value) wide.0) r S _ o
-        (to_again written suffix_part r Whole _ o (fold_to written suffix 1 refl Whole _ o
-          (inside refl (inside_it _ (up (many suffix_part r) S) _ o (one refl (outside m)))))))
+      (to_again written suffix_part r Whole _ o (fold_to written suffix 1 refl Whole _ o
+      (inside refl (inside_it _ (up (many suffix_part r) S) _ o (one refl (outside m)))))))
   expr_leads (Number n span) allowed = of_postfix _ (of_constant 0 _ (follow (expr (Number n span))) refl (λ r S rest o m. one refl m))
   expr_leads (True span) allowed = of_postfix _ (of_constant 1 _ (follow (expr (True span))) refl (λ r S rest o m. one refl m))
   expr_leads (False span) allowed = of_postfix _ (of_constant 2 _ (follow (expr (False span))) refl (λ r S rest o m. one refl m))
@@ -272,7 +271,7 @@ mutual
   expr_leads (Call' function shape row within span) allowed =
       of_postfix (follow (expr (Call' function shape row within span)))
       (λ r S rest o m. fold_to written primary 3 refl Whole _ o (one (name_is_one function.text)
-        (inside refl (call_args row (and_parts (are_allowed (args_row row)) true allowed).0 (up (many suffix_part r) S) _ o (one refl (outside m))))))
+      (inside refl (call_args row (and_parts (are_allowed (args_row row)) true allowed).0 (up (many suffix_part r) S) _ o (one refl (outside m))))))
   expr_leads (New made span) allowed =
       of_postfix _ (of_constant 4 _ (follow (expr (New made span))) refl (λ r S rest o m. one refl (one (name_is_one made.text) m)))
   expr_leads (IsValid' p value span) allowed =
@@ -284,12 +283,12 @@ mutual
   expr_leads (Cast' target None p value span) allowed =
       let inner = as_expression value (expr_leads value (and_parts (is_allowed (expr value)) true allowed).0) in
       of_postfix _ (of_constant 7 _ (follow (expr (Cast' target None p value span))) refl
-        (λ r S rest o m. one refl (inside refl (one (name_is_one target.text) (one refl (absent (inner close (up r S) _ o (one refl (outside m)))))))))
+      (λ r S rest o m. one refl (inside refl (one (name_is_one target.text) (one refl (absent (inner close (up r S) _ o (one refl (outside m)))))))))
   expr_leads (Cast' target (Some mode) p value span) allowed =
       let inner = as_expression value (expr_leads value (and_parts (is_allowed (expr value)) true allowed).0) in
       of_postfix _ (of_constant 7 _ (follow (expr (Cast' target (Some mode) p value span))) refl
-        (λ r S rest o m. one refl (inside refl (one (name_is_one target.text) (one refl
-          (to_present written ((string ▸ comma) done) (form expression close) Whole _ o (one refl (one refl (inner close (up r S) _ o (one refl (outside m)))))))))))
+      (λ r S rest o m. one refl (inside refl (one (name_is_one target.text) (one refl
+      (to_present written ((string ▸ comma) done) (form expression close) Whole _ o (one refl (one refl (inner close (up r S) _ o (one refl (outside m)))))))))))
   expr_leads (Group' p inner span) allowed =
       let held = as_expression inner (expr_leads inner (and_parts (is_allowed (expr inner)) true allowed).0) in
       of_postfix _ (of_constant 8 _ (follow (expr (Group' p inner span))) refl (λ r S rest o m. inside refl (held close (up r S) _ o (one refl (outside m)))))
@@ -299,14 +298,14 @@ mutual
   call_args (more_of-Expr first row) allowed S rest o m =
       let both = and_parts (is_allowed (expr first)) (are_allowed (more_args_row row)) allowed in
       to_present written (form Form.arguments done) close Whole _ o (fold_to written Form.arguments 0 refl Whole _ o
-        (as_expression first (expr_leads first both.0) (many argument close) S _ o (more_args row both.1 S rest o m)))
+      (as_expression first (expr_leads first both.0) (many argument close) S _ o (more_args row both.1 S rest o m)))
 
   more_args : {n : _} (row : Row_of-Expr n) → are_allowed (more_args_row row) ≡ true → (S : Rows Form) (rest : List ℕ) (o : ℕ) → Matches written Whole close S rest o → Matches written Whole (many argument close) S (follow_parts (more_args_row row) rest) o
   more_args end_of-Expr allowed S rest o m = enough m
   more_args (more_of-Expr first row) allowed S rest o m =
       let both = and_parts (is_allowed (expr first)) (are_allowed (more_args_row row)) allowed in
       to_again written argument close Whole _ o (one refl
-        (as_expression first (expr_leads first both.0) (many argument close) S _ o (more_args row both.1 S rest o m)))
+      (as_expression first (expr_leads first both.0) (many argument close) S _ o (more_args row both.1 S rest o m)))
 
 -- so an expression's tokens are one of the written grammar
 pub expression_derives : (e : Expr) → is_allowed (expr e) ≡ true → Derives written (form expression done) end (spelling (expr e))

@@ -1,7 +1,7 @@
 -- What the smaller parts of a tree spell, before what stands behind them: balanced parts, attributes, formals and names.
-use Rattle.std.proofs.Common.{◌≡◌, ℕ, zero, suc, Bool, true, false, not, ◌||◌, ◌&&◌, cond, List, [], ◌∷◌, ◌++◌, Option, Some, None, refl, sym, subst, ap, codes}
+use Rattle.std.proofs.Common.{◌≡◌, ℕ, Bool, true, false, ◌||◌, cond, List, [], ◌∷◌, Option, Some, None, refl, sym, subst, codes}
 use Rattle.std.specs.Str.{bytes_eq}
-use Rattle.std.proofs.lemmas.Bool.{and_parts, false≢true, cond_both, cond-false, cond-true, both_ways, not-true, or_cases}
+use Rattle.std.proofs.lemmas.Bool.{and_parts, false≢true, cond_both}
 use Rattle.slicc_ast.specs.declared.tree.token.TokenKind.{TokenKind}
 use Rattle.slicc_ast.specs.declared.tree.token.TokenKind.TheVariants.{Name as Named, Number, Quoted, Word, Sign, End}
 use Rattle.slicc_ast.specs.declared.tree.token.Word.{Word as Reserved}
@@ -15,18 +15,17 @@ use Rattle.slicc_ast.specs.declared.tree.declaration.Pair.TheVariants.{Named as 
 use Rattle.slicc_ast.specs.declared.tree.declaration.PairValue.{PairValue}
 use Rattle.slicc_ast.specs.declared.tree.declaration.PairValue.TheVariants.{Quoted as QuotedValue, Number as NumberValue, Name as NameValue}
 use Rattle.slicc_ast.specs.declared.tree.name.Name.{Name}
-use Rattle.slicc_ast.specs.Outline.{Outline, node, Parts, none, token, part, provided, is_allowed, are_allowed}
+use Rattle.slicc_ast.specs.Outline.{Parts, none, are_allowed}
 use Rattle.slicc_ast.specs.Names.{star, is_loose, balanced_part, balanced_row, balanced_list}
 use Rattle.slicc_ast.specs.Declarations.{pair, pair_value, pair_list, formal, more_formals, formal_list, optional_name, is_skipped}
-use Rattle.slicc_ast.specs.Machines.{more_names, name_list}
 use Rattle.grammar_rows.specs.Kinds.{has}
-use Rattle.grammar_rows.specs.Grammar.{Row, Rows, Grammar}
-use Rattle.grammar_rows.specs.Grammar.Row.{done, form, maybe, many, nested}
-use Rattle.grammar_rows.specs.Grammar.Rows.{end, next, up}
+use Rattle.grammar_rows.specs.Grammar.{Row, Rows}
+use Rattle.grammar_rows.specs.Grammar.Row.{done, form, maybe, many}
+use Rattle.grammar_rows.specs.Grammar.Rows.{up}
 use Rattle.grammar_rows.specs.Matches.{Matches}
 use Rattle.grammar_rows.specs.Matches.Extent.{Whole}
-use Rattle.grammar_rows.specs.Matches.Matches.{ended, one, absent, enough, inside, outside}
-use Rattle.grammar_rows.proofs.KindSets.{in_left, in_right}
+use Rattle.grammar_rows.specs.Matches.Matches.{one, absent, enough, inside, outside}
+use Rattle.grammar_rows.proofs.KindSets.{in_right}
 use Rattle.grammar_rows.proofs.Translating.{fold_to, to_present, to_again}
 use Rattle.slicc_grammar.specs.Form.{Form}
 use Rattle.slicc_grammar.specs.TokenKinds.{kind_of, name_kind, machine_type, functional_name, other_name, number, quoted, word_kind, sign_kind}
@@ -126,15 +125,15 @@ mutual
   part_leads (Parentheses' shape row span) parts allowed r S rest o m =
       let both = and_parts (are_allowed (balanced_row row)) (are_allowed parts) allowed in
       to_again written any_part r Whole _ o (fold_to written Form.balanced_part 1 refl Whole _ o
-        (inside refl (row_leads row both.0 close (up (many any_part r) S) _ o (one refl (outside (m both.1))))))
+      (inside refl (row_leads row both.0 close (up (many any_part r) S) _ o (one refl (outside (m both.1))))))
   part_leads (Brackets' shape row span) parts allowed r S rest o m =
       let both = and_parts (are_allowed (balanced_row row)) (are_allowed parts) allowed in
       to_again written any_part r Whole _ o (fold_to written Form.balanced_part 2 refl Whole _ o
-        (inside refl (row_leads row both.0 close_bracket (up (many any_part r) S) _ o (one refl (outside (m both.1))))))
+      (inside refl (row_leads row both.0 close_bracket (up (many any_part r) S) _ o (one refl (outside (m both.1))))))
   part_leads (Braces' shape row span) parts allowed r S rest o m =
       let both = and_parts (are_allowed (balanced_row row)) (are_allowed parts) allowed in
       to_again written any_part r Whole _ o (fold_to written Form.balanced_part 3 refl Whole _ o
-        (inside refl (row_leads row both.0 close_brace (up (many any_part r) S) _ o (one refl (outside (m both.1))))))
+      (inside refl (row_leads row both.0 close_brace (up (many any_part r) S) _ o (one refl (outside (m both.1))))))
 
   row_leads : {n : _} (row : Row_of-Part n) → are_allowed (balanced_row row) ≡ true → (r : Row Form) (S : Rows Form) (rest : List ℕ) (o : ℕ) → Fits r S rest o → Fits (many any_part r) S (follow_parts (balanced_row row) rest) o
   row_leads end_of-Part allowed r S rest o m = enough m
@@ -175,7 +174,7 @@ named_leads (Some n) r S rest o m = to_present written (name_part done) r Whole 
 formal_leads : (f : Formal) (r : Row Form) (S : Rows Form) (rest : List ℕ) (o : ℕ) → Fits r S rest o → Fits (form Form.formal r) S (follow (formal f) rest) o
 formal_leads f r S rest o m =
     fold_to written Form.formal 0 refl Whole _ o (one (name_is_one f.kind.text)
-      (star_leads f.has_star (optional_name f.name none) (maybe (name_part done) r) S rest o (named_leads f.name r S rest o m)))
+    (star_leads f.has_star (optional_name f.name none) (maybe (name_part done) r) S rest o (named_leads f.name r S rest o m)))
 
 abbrev one_formal : Row Form
 one_formal = (comma ▸ of Form.formal) done
@@ -189,7 +188,7 @@ pub formals_lead : (fs : List Formal) (r : Row Form) (S : Rows Form) (rest : Lis
 formals_lead [] r S rest o m = absent m
 formals_lead (first ∷ others) r S rest o m =
     to_present written (form Form.formals done) r Whole _ o (fold_to written Form.formals 0 refl Whole _ o
-      (formal_leads first (many one_formal r) S _ o (more_formals_lead others r S rest o m)))
+    (formal_leads first (many one_formal r) S _ o (more_formals_lead others r S rest o m)))
 
 -- a name that is no skipped function's, and one that is
 pub plain_name_is_one : (n : Name) → is_skipped n ≡ false → has (other_name ∷ machine_type ∷ []) (name_kind n.text) ≡ true

@@ -1,7 +1,7 @@
 -- What a declaration's, a machine's and a file's tree spells, before what stands behind it.
-use Rattle.std.proofs.Common.{◌≡◌, ℕ, ◌==◌, Bool, true, false, not, ◌||◌, ◌&&◌, cond, List, [], ◌∷◌, ◌++◌, length, Option, Some, None, refl, sym, subst, inl, inr, codes}
+use Rattle.std.proofs.Common.{◌≡◌, ℕ, ◌==◌, Bool, true, false, not, ◌||◌, List, [], ◌∷◌, ◌++◌, length, Option, Some, None, refl, sym, subst, inl, inr, codes}
 use Rattle.std.specs.Str.{bytes_eq}
-use Rattle.std.proofs.lemmas.Bool.{and_parts, not-true, false≢true, cond_both, cases_Bool, both_ways, or_cases}
+use Rattle.std.proofs.lemmas.Bool.{and_parts, not-true, false≢true, or_cases}
 use Rattle.std.proofs.lemmas.Slice.Eq.{bytes_eq-Decides}
 use Rattle.slicc_ast.specs.declared.tree.token.Sign.TheVariants.{OpenBrace, OpenParenthesis, CloseParenthesis, Comma, Colon}
 use Rattle.slicc_ast.specs.declared.tree.token.Word.TheVariants.{Protocol as ProtocolWord}
@@ -34,25 +34,25 @@ use Rattle.slicc_ast.specs.declared.tree.machine.OutPort.{OutPort}
 use Rattle.slicc_ast.specs.declared.tree.machine.Parameter.{Parameter}
 use Rattle.slicc_ast.specs.declared.tree.machine.Transition.{Transition}
 use Rattle.slicc_ast.specs.declared.tree.statement.Block.{Block}
-use Rattle.slicc_ast.specs.Outline.{Outline, node, Parts, none, token, part, provided, is_allowed, are_allowed}
-use Rattle.slicc_ast.specs.Names.{name, sign, balanced_list}
-use Rattle.slicc_ast.specs.Declarations.{pair_list, formal_list, is_skipped, skipped, symbol_list, enumeration, state_list, states, member, member_list, structure, pairs}
+use Rattle.slicc_ast.specs.Outline.{Parts, none, provided, is_allowed, are_allowed}
+use Rattle.slicc_ast.specs.Names.{sign, balanced_list}
+use Rattle.slicc_ast.specs.Declarations.{pair_list, formal_list, is_skipped, skipped, symbol_list, enumeration, state_list, states, member, member_list, structure}
 use Rattle.slicc_ast.specs.Statements.{stmt_list, block_end}
 use Rattle.slicc_ast.specs.Machines.{out_port, in_port, action, more_names, name_list, names, next_parts, action_list, transition, function_body, function, object, decl, literal, literal_parts, parameter, parameter_list, decl_list, type_parts, machine}
-use Rattle.slicc_ast.specs.Trees.{item, item_list, protocol_parts, tree_parts, tree}
-use Rattle.slicc_ast.specs.declared.tree.token.Sign.TheVariants.{CloseBrace, Semicolon}
+use Rattle.slicc_ast.specs.Trees.{item, item_list, protocol_parts, tree}
+use Rattle.slicc_ast.specs.declared.tree.token.Sign.TheVariants.{CloseBrace}
 use Rattle.grammar_rows.specs.Kinds.{has}
-use Rattle.grammar_rows.specs.Grammar.{Row, Rows, Grammar}
+use Rattle.grammar_rows.specs.Grammar.{Row, Rows}
 use Rattle.grammar_rows.specs.Grammar.Row.{done, form, maybe, many, nested}
-use Rattle.grammar_rows.specs.Grammar.Rows.{end, next, up}
-use Rattle.grammar_rows.specs.Matches.{Derives, Matches}
+use Rattle.grammar_rows.specs.Grammar.Rows.{end, up}
+use Rattle.grammar_rows.specs.Matches.{Derives}
 use Rattle.grammar_rows.specs.Matches.Extent.{Whole}
 use Rattle.grammar_rows.specs.Matches.Matches.{ended, one, absent, enough, inside, outside}
 use Rattle.grammar_rows.proofs.Translating.{fold_to, to_present, to_again}
 use Rattle.slicc_grammar.specs.Form.{Form}
-use Rattle.slicc_grammar.specs.TokenKinds.{name_kind, machine_type, functional_name, other_name, end_of_text, sign_kind}
+use Rattle.slicc_grammar.specs.TokenKinds.{name_kind, functional_name, end_of_text, sign_kind}
 use Rattle.slicc_grammar.specs.Spelled.{spelling}
-use Rattle.slicc_grammar.specs.Parts.{of, ◌▸◌, comma, colon, semicolon, assign, string, machine_type_name, end_token, word as word_part, name as name_part, pairs as pairs_part, balanced as balanced_parts, braces}
+use Rattle.slicc_grammar.specs.Parts.{of, ◌▸◌, comma, colon, semicolon, assign, string, machine_type_name, end_token, word as word_part, name as name_part, pairs as pairs_part, balanced as balanced_parts}
 use Rattle.slicc_grammar.specs.Written.{written}
 use Rattle.slicc_grammar.proofs.Followed.{follow, follow_parts, follow-spelling}
 use Rattle.slicc_grammar.proofs.Leading.{name_is_one, close}
@@ -65,8 +65,8 @@ same_bytes xs ys same = (bytes_eq-Decides xs ys).0 same
 skipped_is_one : (text : List ℕ) → bytes_eq text (codes "functionalRead") || bytes_eq text (codes "functionalWrite") ≡ true → has (functional_name ∷ []) (name_kind text) ≡ true
 skipped_is_one text is =
     elim (or_cases (bytes_eq text (codes "functionalRead")) (bytes_eq text (codes "functionalWrite")) is) [
-      inl reads ↦ subst (λ t. has (functional_name ∷ []) (name_kind t) ≡ true) (sym (same_bytes text (codes "functionalRead") reads)) refl
-    | inr writes ↦ subst (λ t. has (functional_name ∷ []) (name_kind t) ≡ true) (sym (same_bytes text (codes "functionalWrite") writes)) refl
+      | inl reads ↦ subst (λ t. has (functional_name ∷ []) (name_kind t) ≡ true) (sym (same_bytes text (codes "functionalRead") reads)) refl
+      | inr writes ↦ subst (λ t. has (functional_name ∷ []) (name_kind t) ≡ true) (sym (same_bytes text (codes "functionalWrite") writes)) refl
     ]
 
 abbrev one_symbol : Row Form
@@ -76,13 +76,13 @@ symbols_lead : (ss : List Symbol) (parts : Parts) (r : Row Form) (S : Rows Form)
 symbols_lead [] parts r S rest o m = enough m
 symbols_lead (first ∷ others) parts r S rest o m =
     to_again written one_symbol r Whole _ o (one (name_is_one first.name.text)
-      (pairs_lead first.pairs.items.items (semicolon (many one_symbol r)) S _ o (one refl (symbols_lead others parts r S rest o m))))
+    (pairs_lead first.pairs.items.items (semicolon (many one_symbol r)) S _ o (one refl (symbols_lead others parts r S rest o m))))
 
 enumeration_leads : (e : Enumeration) (r : Row Form) (S : Rows Form) (rest : List ℕ) (o : ℕ) → Fits r S rest o → Fits (form Form.enumeration r) S (follow (enumeration e) rest) o
 enumeration_leads e r S rest o m =
     fold_to written Form.enumeration 0 refl Whole _ o (one refl (inside refl (one (name_is_one e.name.text)
-      (pairs_lead e.pairs.items.items close (up (nested (sign_kind OpenBrace ∷ []) (many one_symbol close_brace) r) S) _ o (one refl (outside
-        (inside refl (symbols_lead e.members.items (sign CloseBrace none) close_brace (up r S) rest o (one refl (outside m))))))))))
+    (pairs_lead e.pairs.items.items close (up (nested (sign_kind OpenBrace ∷ []) (many one_symbol close_brace) r) S) _ o (one refl (outside
+    (inside refl (symbols_lead e.members.items (sign CloseBrace none) close_brace (up r S) rest o (one refl (outside m))))))))))
 
 abbrev one_state : Row Form
 one_state = (name_part ▸ comma ▸ name_part ▸ colon ▸ name_part ▸ pairs_part ▸ semicolon) done
@@ -91,13 +91,13 @@ state_list_leads : (ss : List State) (parts : Parts) (r : Row Form) (S : Rows Fo
 state_list_leads [] parts r S rest o m = enough m
 state_list_leads (first ∷ others) parts r S rest o m =
     to_again written one_state r Whole _ o (one (name_is_one first.name.text) (one refl (one (name_is_one first.owner.text) (one refl (one (name_is_one first.permission.text)
-      (pairs_lead first.pairs.items.items (semicolon (many one_state r)) S _ o (one refl (state_list_leads others parts r S rest o m))))))))
+    (pairs_lead first.pairs.items.items (semicolon (many one_state r)) S _ o (one refl (state_list_leads others parts r S rest o m))))))))
 
 states_lead : (s : States) (r : Row Form) (S : Rows Form) (rest : List ℕ) (o : ℕ) → Fits r S rest o → Fits (form Form.states r) S (follow (states s) rest) o
 states_lead s r S rest o m =
     fold_to written Form.states 0 refl Whole _ o (one refl (inside refl (one (name_is_one s.name.text)
-      (pairs_lead s.pairs.items.items close (up (nested (sign_kind OpenBrace ∷ []) (many one_state close_brace) r) S) _ o (one refl (outside
-        (inside refl (state_list_leads s.members.items (sign CloseBrace none) close_brace (up r S) rest o (one refl (outside m))))))))))
+    (pairs_lead s.pairs.items.items close (up (nested (sign_kind OpenBrace ∷ []) (many one_state close_brace) r) S) _ o (one refl (outside
+    (inside refl (state_list_leads s.members.items (sign CloseBrace none) close_brace (up r S) rest o (one refl (outside m))))))))))
 
 -- the parts of a skipped function behind its name
 skipped_end : (s : Skipped) → is_allowed (skipped s) ≡ true → (r : Row Form) (S : Rows Form) (rest : List ℕ) (o : ℕ) → Fits r S rest o → Fits ((name_part ▸ Row.token (functional_name ∷ []) ▸ nested (sign_kind OpenParenthesis ∷ []) (balanced_parts close) ▸ pairs_part ▸ nested (sign_kind OpenBrace ∷ []) (balanced_parts close_brace)) r) S (follow (skipped s) rest) o
@@ -107,19 +107,19 @@ skipped_end s allowed r S rest o m =
     let second = and_parts (are_allowed (pair_list s.pairs.items.items)) _ first.1 in
     let last = and_parts (are_allowed (balanced_list s.body.parts.items)) true second.1 in
     one (name_is_one s.kind.text) (one (skipped_is_one s.name.text is.0) (inside refl
-      (balanced_leads s.arguments.parts.items first.0 close (up ((pairs_part ▸ nested (sign_kind OpenBrace ∷ []) (balanced_parts close_brace)) r) S) _ o (one refl (outside
-        (pairs_lead s.pairs.items.items (nested (sign_kind OpenBrace ∷ []) (balanced_parts close_brace) r) S _ o
-          (inside refl (balanced_leads s.body.parts.items last.0 close_brace (up r S) _ o (one refl (outside m))))))))))
+    (balanced_leads s.arguments.parts.items first.0 close (up ((pairs_part ▸ nested (sign_kind OpenBrace ∷ []) (balanced_parts close_brace)) r) S) _ o (one refl (outside
+    (pairs_lead s.pairs.items.items (nested (sign_kind OpenBrace ∷ []) (balanced_parts close_brace) r) S _ o
+    (inside refl (balanced_leads s.body.parts.items last.0 close_brace (up r S) _ o (one refl (outside m))))))))))
 
 member_leads : (e : Member) → is_allowed (member e) ≡ true → (r : Row Form) (S : Rows Form) (rest : List ℕ) (o : ℕ) → Fits r S rest o → Fits (form Form.member r) S (follow (member e) rest) o
 member_leads (Field kind field attributes span) allowed r S rest o m =
     fold_to written Form.member 0 refl Whole _ o (one (name_is_one kind.text) (one (name_is_one field.text)
-      (pairs_lead attributes.items.items (semicolon r) S _ o (one refl m))))
+    (pairs_lead attributes.items.items (semicolon r) S _ o (one refl m))))
 member_leads (Method kind method parameters attributes span) allowed r S rest o m =
     let is = and_parts (not (is_skipped method)) _ allowed in
     fold_to written Form.member 1 refl Whole _ o (one (name_is_one kind.text) (one (plain_name_is_one method (not-true (is_skipped method) is.0)) (inside refl
-      (formals_lead parameters.items.items close (up ((pairs_part ▸ semicolon) r) S) _ o (one refl (outside
-        (pairs_lead attributes.items.items (semicolon r) S _ o (one refl m))))))))
+    (formals_lead parameters.items.items close (up ((pairs_part ▸ semicolon) r) S) _ o (one refl (outside
+    (pairs_lead attributes.items.items (semicolon r) S _ o (one refl m))))))))
 member_leads (SkippedMember s) allowed r S rest o m = fold_to written Form.member 2 refl Whole _ o (skipped_end s allowed r S rest o m)
 
 abbrev one_member : Row Form
@@ -135,13 +135,13 @@ structure_leads : (s : Structure) → is_allowed (structure s) ≡ true → (r :
 structure_leads s allowed r S rest o m =
     let both = and_parts (are_allowed (pair_list s.pairs.items.items)) (are_allowed (member_list s.members.items (sign CloseBrace none))) allowed in
     fold_to written Form.structure 0 refl Whole _ o (one refl (inside refl (one (name_is_one s.name.text)
-      (pairs_lead s.pairs.items.items close (up (nested (sign_kind OpenBrace ∷ []) (many one_member close_brace) r) S) _ o (one refl (outside
-        (inside refl (members_lead s.members.items (sign CloseBrace none) both.1 close_brace (up r S) rest o (one refl (outside m))))))))))
+    (pairs_lead s.pairs.items.items close (up (nested (sign_kind OpenBrace ∷ []) (many one_member close_brace) r) S) _ o (one refl (outside
+    (inside refl (members_lead s.members.items (sign CloseBrace none) both.1 close_brace (up r S) rest o (one refl (outside m))))))))))
 
 port_head : (first type buffer : List ℕ) (items : List Pair) (behind : Row Form) (S : Rows Form) (rest : List ℕ) (o : ℕ) → Fits behind S rest o → Fits (nested (sign_kind OpenParenthesis ∷ []) ((name_part ▸ comma ▸ name_part ▸ comma ▸ name_part ▸ pairs_part) close) behind) S (sign_kind OpenParenthesis ∷ name_kind first ∷ sign_kind Comma ∷ name_kind type ∷ sign_kind Comma ∷ name_kind buffer ∷ follow_parts (pair_list items) (sign_kind CloseParenthesis ∷ rest)) o
 port_head first type buffer items behind S rest o m =
     inside refl (one (name_is_one first) (one refl (one (name_is_one type) (one refl (one (name_is_one buffer)
-      (pairs_lead items close (up behind S) _ o (one refl (outside m))))))))
+    (pairs_lead items close (up behind S) _ o (one refl (outside m))))))))
 
 out_port_leads : (p : OutPort) (r : Row Form) (S : Rows Form) (rest : List ℕ) (o : ℕ) → Fits r S rest o → Fits (form Form.out_port r) S (follow (out_port p) rest) o
 out_port_leads p r S rest o m =
@@ -152,14 +152,14 @@ in_port_leads p allowed r S rest o m =
     let both = and_parts (are_allowed (pair_list p.pairs.items.items)) _ allowed in
     let fine = and_parts (are_allowed (stmt_list p.body.statements.items block_end)) true both.1 in
     fold_to written Form.in_port 0 refl Whole _ o (one refl (port_head p.name.text p.message.text p.buffer.text p.pairs.items.items (form Form.block r) S _ o
-      (whole_block_leads p.body fine.0 r S rest o m)))
+    (whole_block_leads p.body fine.0 r S rest o m)))
 
 action_leads : (a : Action) → is_allowed (action a) ≡ true → (r : Row Form) (S : Rows Form) (rest : List ℕ) (o : ℕ) → Fits r S rest o → Fits (form Form.action r) S (follow (action a) rest) o
 action_leads a allowed r S rest o m =
     let both = and_parts (are_allowed (pair_list a.pairs.items.items)) _ allowed in
     let fine = and_parts (are_allowed (stmt_list a.body.statements.items block_end)) true both.1 in
     fold_to written Form.action 0 refl Whole _ o (one refl (inside refl (one (name_is_one a.name.text)
-      (pairs_lead a.pairs.items.items close (up (form Form.block r) S) _ o (one refl (outside (whole_block_leads a.body fine.0 r S rest o m)))))))
+    (pairs_lead a.pairs.items.items close (up (form Form.block r) S) _ o (one refl (outside (whole_block_leads a.body fine.0 r S rest o m)))))))
 
 abbrev one_name : Row Form
 one_name = (comma ▸ name_part) done
@@ -173,7 +173,7 @@ several_lead : (ns : List Name) → not (length ns == 0) ≡ true → (r : Row F
 several_lead [] some r S rest o m = absurd (false≢true some)
 several_lead (first ∷ others) some r S rest o m =
     fold_to written Form.names 1 refl Whole _ o (inside refl (one (name_is_one first.text)
-      (more_names_lead others (sign CloseBrace none) close_brace (up r S) rest o (one refl (outside m)))))
+    (more_names_lead others (sign CloseBrace none) close_brace (up r S) rest o (one refl (outside m)))))
 
 names_lead : (ns : Names) (parts : Parts) → are_allowed (names ns parts) ≡ true → (r : Row Form) (S : Rows Form) (rest : List ℕ) (o : ℕ) → (are_allowed parts ≡ true → Fits r S (follow_parts parts rest) o) → Fits (form Form.names r) S (follow_parts (names ns parts) rest) o
 names_lead (One n) parts allowed r S rest o m = fold_to written Form.names 0 refl Whole _ o (one (name_is_one n.text) (m allowed))
@@ -198,12 +198,12 @@ transition_leads : (t : Transition) → is_allowed (transition t) ≡ true → (
 transition_leads t allowed r S rest o m =
     let braced : Row Form = nested (sign_kind OpenBrace ∷ []) (many one_action close_brace) r in
     let closing : Fits close (up braced S) (sign_kind CloseParenthesis ∷ sign_kind OpenBrace ∷ follow_parts (action_list t.actions.items (sign CloseBrace none)) rest) o =
-        one refl (outside (inside refl (actions_lead t.actions.items (sign CloseBrace none) close_brace (up r S) rest o (one refl (outside m))))) in
+    one refl (outside (inside refl (actions_lead t.actions.items (sign CloseBrace none) close_brace (up r S) rest o (one refl (outside m))))) in
     fold_to written Form.transition 0 refl Whole _ o (one refl (inside refl
-      (names_lead t.states _ allowed _ (up braced S) rest o (λ later. one refl
-        (names_lead t.events _ later _ (up braced S) rest o (λ last.
-          next_leads t.next _ (pairs_part close) (up braced S) rest o
-            (pairs_lead t.pairs.items.items close (up braced S) _ o closing)))))))
+    (names_lead t.states _ allowed _ (up braced S) rest o (λ later. one refl
+    (names_lead t.events _ later _ (up braced S) rest o (λ last.
+    next_leads t.next _ (pairs_part close) (up braced S) rest o
+    (pairs_lead t.pairs.items.items close (up braced S) _ o closing)))))))
 
 body_leads : (b : Option Block) → are_allowed (function_body b) ≡ true → (r : Row Form) (S : Rows Form) (rest : List ℕ) (o : ℕ) → Fits r S rest o → Fits (form Form.body r) S (follow_parts (function_body b) rest) o
 body_leads None allowed r S rest o m = fold_to written Form.body 1 refl Whole _ o (one refl m)
@@ -217,15 +217,15 @@ function_leads (Plain kind called parameters attributes b span) allowed r S rest
     let first = and_parts (are_allowed (formal_list parameters.items.items)) _ is.1 in
     let second = and_parts (are_allowed (pair_list attributes.items.items)) _ first.1 in
     fold_to written Form.declaration 7 refl Whole _ o (one (name_is_one kind.text) (one (plain_name_is_one called (not-true (is_skipped called) is.0)) (inside refl
-      (formals_lead parameters.items.items close (up (pairs_part (form Form.body r)) S) _ o (one refl (outside
-        (pairs_lead attributes.items.items (form Form.body r) S _ o (body_leads b second.1 r S rest o m))))))))
+    (formals_lead parameters.items.items close (up (pairs_part (form Form.body r)) S) _ o (one refl (outside
+    (pairs_lead attributes.items.items (form Form.body r) S _ o (body_leads b second.1 r S rest o m))))))))
 function_leads (SkippedFunction s) allowed r S rest o m = fold_to written Form.declaration 8 refl Whole _ o (skipped_end s allowed r S rest o m)
 
 object_leads : (b : Object) (r : Row Form) (S : Rows Form) (rest : List ℕ) (o : ℕ) → Fits r S rest o → Fits (form Form.declaration r) S (follow (object b) rest) o
 object_leads b r S rest o m =
     fold_to written Form.declaration 9 refl Whole _ o (one (name_is_one b.kind.text)
-      (star_leads b.has_star _ ((name_part ▸ pairs_part ▸ semicolon) r) S rest o (one (name_is_one b.name.text)
-        (pairs_lead b.pairs.items.items (semicolon r) S _ o (one refl m)))))
+    (star_leads b.has_star _ ((name_part ▸ pairs_part ▸ semicolon) r) S rest o (one (name_is_one b.name.text)
+    (pairs_lead b.pairs.items.items (semicolon r) S _ o (one refl m)))))
 
 decl_leads : (d : Decl) → is_allowed (decl d) ≡ true → (r : Row Form) (S : Rows Form) (rest : List ℕ) (o : ℕ) → Fits r S rest o → Fits (form Form.declaration r) S (follow (decl d) rest) o
 decl_leads (StatesDecl s) allowed r S rest o m = fold_to written Form.declaration 0 refl Whole _ o (states_lead s r S rest o m)
@@ -264,8 +264,8 @@ given_leads (Some l) parts r S rest o m = to_present written given r Whole _ o (
 parameter_leads : (p : Parameter) (r : Row Form) (S : Rows Form) (rest : List ℕ) (o : ℕ) → Fits r S rest o → Fits (form Form.parameter r) S (follow (parameter p) rest) o
 parameter_leads p r S rest o m =
     fold_to written Form.parameter 0 refl Whole _ o (one (name_is_one p.kind.text)
-      (star_leads p.has_star _ ((name_part ▸ maybe given ▸ pairs_part ▸ semicolon) r) S rest o (one (name_is_one p.name.text)
-        (given_leads p.literal _ ((pairs_part ▸ semicolon) r) S rest o (pairs_lead p.pairs.items.items (semicolon r) S _ o (one refl m))))))
+    (star_leads p.has_star _ ((name_part ▸ maybe given ▸ pairs_part ▸ semicolon) r) S rest o (one (name_is_one p.name.text)
+    (given_leads p.literal _ ((pairs_part ▸ semicolon) r) S rest o (pairs_lead p.pairs.items.items (semicolon r) S _ o (one refl m))))))
 
 abbrev one_parameter : Row Form
 one_parameter = form Form.parameter done
@@ -299,10 +299,10 @@ machine_leads a allowed r S rest o m =
     let braced : Row Form = nested (sign_kind OpenBrace ∷ []) (many one_decl close_brace) r in
     let behind : Row Form = Row.token (sign_kind Colon ∷ []) (many one_parameter braced) in
     fold_to written Form.machine 0 refl Whole _ o (one refl (inside refl
-      (type_leads a.has_type _ ((name_part ▸ comma ▸ string ▸ pairs_part) close) (up behind S) rest o (one (name_is_one a.name.text) (one refl (one refl
-        (pairs_lead a.pairs.items.items close (up behind S) _ o (one refl (outside (one refl
-          (parameters_lead a.parameters.items _ braced S rest o
-            (inside refl (decls_lead a.declarations.items (sign CloseBrace none) declared close_brace (up r S) rest o (one refl (outside m)))))))))))))))
+    (type_leads a.has_type _ ((name_part ▸ comma ▸ string ▸ pairs_part) close) (up behind S) rest o (one (name_is_one a.name.text) (one refl (one refl
+    (pairs_lead a.pairs.items.items close (up behind S) _ o (one refl (outside (one refl
+    (parameters_lead a.parameters.items _ braced S rest o
+    (inside refl (decls_lead a.declarations.items (sign CloseBrace none) declared close_brace (up r S) rest o (one refl (outside m)))))))))))))))
 
 item_leads : (i : Item) → is_allowed (item i) ≡ true → (r : Row Form) (S : Rows Form) (rest : List ℕ) (o : ℕ) → Fits r S rest o → Fits (form Form.item r) S (follow (item i) rest) o
 item_leads (Include file span) allowed r S rest o m = fold_to written Form.item 0 refl Whole _ o (one refl (one refl (one refl m)))
@@ -338,6 +338,6 @@ tree_derives t allowed =
     let some = and_parts (not (length t.items.items == 0)) (are_allowed (protocol_parts t.protocol (item_list t.items.items))) allowed in
     let ends : Fits (end_token done) end (end_of_text ∷ []) 0 = one refl ended in
     let whole : Derives written (form Form.file done) end (follow (tree t) (end_of_text ∷ [])) =
-        fold_to written Form.file 0 refl Whole _ 0 (protocol_leads t.protocol (item_list t.items.items) some.1 _ end (end_of_text ∷ []) 0
-          (λ items. some_items_lead t.items.items some.0 items (end_token done) end (end_of_text ∷ []) 0 ends)) in
+    fold_to written Form.file 0 refl Whole _ 0 (protocol_leads t.protocol (item_list t.items.items) some.1 _ end (end_of_text ∷ []) 0
+    (λ items. some_items_lead t.items.items some.0 items (end_token done) end (end_of_text ∷ []) 0 ends)) in
     subst (λ ts. Derives written (form Form.file done) end ts) (follow-spelling (tree t) (end_of_text ∷ [])) whole
