@@ -1,6 +1,9 @@
 -- A reader by the table, and the written grammar.
-use Rattle.std.proofs.Common.{ℕ, List, refl}
-use Rattle.grammar_rows.specs.Faults.{IsFirstFault, Stop}
+use Rattle.std.proofs.Common.{◌≡◌, ℕ, true, List, [], ◌∷◌, ◌++◌, refl}
+use Rattle.slicc_ast.specs.declared.tree.item.Tree.{Tree}
+use Rattle.slicc_ast.specs.Outline.{is_allowed}
+use Rattle.slicc_ast.specs.Trees.{tree}
+use Rattle.grammar_rows.specs.Faults.{IsFirstFault, IsWithin, Stop}
 use Rattle.grammar_rows.specs.Faults.Stop.{Passed}
 use Rattle.grammar_rows.specs.Grammar.Row.{done, form}
 use Rattle.grammar_rows.specs.Grammar.Rows.{end}
@@ -9,7 +12,12 @@ use Rattle.grammar_rows.specs.Same.{HaveSameLists}
 use Rattle.grammar_rows.proofs.Joining.{same_lists}
 use Rattle.grammar_rows.proofs.SameStops.{same_stop}
 use Rattle.grammar_rows.proofs.Steps.{passed_is_front, failed_is_fault}
+use Rattle.grammar_rows.proofs.Fronts.{one_stop, whole_passes}
 use Rattle.slicc_grammar.specs.Form.{Form}
+use Rattle.slicc_grammar.specs.Form.Form.{file}
+use Rattle.slicc_grammar.specs.Spelled.{spelling}
+use Rattle.slicc_grammar.specs.TokenKinds.{end_of_text}
+use Rattle.slicc_grammar.proofs.LeadingTrees.{tree_derives}
 use Rattle.slicc_grammar.specs.Table.{table}
 use Rattle.slicc_grammar.specs.Written.{written}
 use Rattle.slicc_grammar.proofs.Decided.{one_token_decides}
@@ -31,3 +39,9 @@ pub failed : (limit : ℕ) (n : Form) (tokens : List ℕ) (stop : Stop) → Fail
 failed limit n tokens stop fails =
     same_stop table written table_has_written refl limit (form n done) end tokens stop
     (failed_is_fault table one_token_decides limit n tokens stop fails)
+
+pub tree_passes : (limit : ℕ) (t : Tree) (stop : Stop) → is_allowed (tree t) ≡ true → IsWithin written limit (form file done) end (spelling (tree t) ++ end_of_text ∷ []) → IsFirstFault written limit file (spelling (tree t) ++ end_of_text ∷ []) stop → stop ≡ Passed []
+tree_passes limit t stop allowed within stops =
+    let tokens = spelling (tree t) ++ end_of_text ∷ [] in
+    one_stop written limit (form file done) end tokens stop (Passed []) stops
+    (whole_passes written limit (form file done) end tokens (tree_derives t allowed) within)

@@ -2,7 +2,7 @@
 ghost use Rattle.std.specs.Prelude.{◌≡◌, ℕ, true, List, [], ◌∷◌, ◌++◌, map};
 ghost use Rattle.std.specs.List.{Contains};
 ghost use Rattle.grammar_rows.specs.Choices.{choices_of};
-ghost use Rattle.grammar_rows.specs.Faults.{IsFirstFault, Stop};
+ghost use Rattle.grammar_rows.specs.Faults.{IsFirstFault, IsWithin, Stop};
 ghost use Rattle.grammar_rows.specs.Faults.Stop.{Passed};
 ghost use Rattle.grammar_rows.specs.Grammar.Row.{done, form};
 ghost use Rattle.grammar_rows.specs.Grammar.Rows.{end};
@@ -42,9 +42,10 @@ pub fn reader_keeps_to_the_written_grammar()
 {}
 
 /// What a tree spells, where its conditions hold, is of the written grammar: a file with the end of the text behind it, a
-/// block, and an expression.
+/// block, and an expression. So where no token of a file opens a nesting above the limit, it has no fault: it passes whole.
 pub fn trees_are_of_the_written_grammar()
     ensures file { (t : TreeRecord) → is_allowed (tree t) ≡ true → Derives written (form file done) end (spelling (tree t) ++ end_of_text ∷ []) }
+    ensures passes { (limit : ℕ) (t : TreeRecord) (stop : Stop) → is_allowed (tree t) ≡ true → IsWithin written limit (form file done) end (spelling (tree t) ++ end_of_text ∷ []) → IsFirstFault written limit file (spelling (tree t) ++ end_of_text ∷ []) stop → stop ≡ Passed [] }
     ensures block { (b : BlockRecord) → are_allowed (block b none) ≡ true → Derives written (form block_form done) end (map kind_of (kinds_in (block b none))) }
     ensures expression { (e : ExprRecord) → is_allowed (expr e) ≡ true → Derives written (form expression done) end (spelling (expr e)) }
 {}
