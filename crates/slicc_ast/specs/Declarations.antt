@@ -1,5 +1,5 @@
 -- Declarations that have no statements in them as rows of parts: attributes, formals, enumerations and structures.
-use Rattle.std.specs.Prelude.{◌≡◌, ◌||◌, ℕ, Bool, true, false, not, Option, Some, None, List, [], ◌∷◌, codes}
+use Rattle.std.specs.Prelude.{◌||◌, Bool, not, Option, Some, None, List, [], ◌∷◌, codes}
 use Rattle.std.specs.Str.{bytes_eq}
 use Rattle.slicc_ast.specs.declared.tree.token.TokenKind.TheVariants.{Number, Quoted}
 use Rattle.slicc_ast.specs.declared.tree.token.Word.TheVariants.{Enumeration as EnumerationWord, StateDeclaration, Structure as StructureWord}

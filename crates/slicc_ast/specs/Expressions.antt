@@ -1,7 +1,6 @@
 -- Expressions as rows of parts. An operand on the left of an operator is of that operator's level or of a tighter one,
 -- and one on the right is of a tighter one, so that operators of one level group to the left.
-use Rattle.std.specs.Prelude.{ℕ, Bool, true, false, nat_le, nat_lt, Option, Some, None, List, [], ◌∷◌}
-use Rattle.slicc_ast.specs.declared.tree.span.Span.{Span}
+use Rattle.std.specs.Prelude.{ℕ, nat_le, nat_lt, Option, Some, None, List, [], ◌∷◌}
 use Rattle.slicc_ast.specs.declared.tree.token.TokenKind.TheVariants.{Name as Named, Number as Numeral, Quoted}
 use Rattle.slicc_ast.specs.declared.tree.token.Word.TheVariants.{True as TrueWord, False as FalseWord, Ood, New as NewWord, IsValid as IsValidWord, IsInvalid as IsInvalidWord, StaticCast}
 use Rattle.slicc_ast.specs.declared.tree.token.Sign.{Sign as SignKind}

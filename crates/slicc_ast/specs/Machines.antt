@@ -1,5 +1,5 @@
 -- A machine and its declarations as rows of parts.
-use Rattle.std.specs.Prelude.{◌==◌, ℕ, Bool, true, false, not, Option, Some, None, List, [], ◌∷◌, length, codes}
+use Rattle.std.specs.Prelude.{◌==◌, Bool, true, false, not, Option, Some, None, List, [], ◌∷◌, length, codes}
 use Rattle.slicc_ast.specs.declared.tree.token.TokenKind.TheVariants.{Name as Named, Number, Quoted}
 use Rattle.slicc_ast.specs.declared.tree.token.Word.TheVariants.{Machine as MachineWord, InPort as InPortWord, OutPort as OutPortWord, Action as ActionWord, Transition as TransitionWord, True as TrueWord, False as FalseWord}
 use Rattle.slicc_ast.specs.declared.tree.token.Sign.TheVariants.{OpenBrace, CloseBrace, OpenParenthesis, CloseParenthesis, Semicolon, Colon, Comma, Minus as MinusSign, Assign}

@@ -1,16 +1,15 @@
 -- Names, balanced parts and the tokens between them, as rows of parts.
-use Rattle.std.specs.Prelude.{◌≡◌, ◌==◌, ◌||◌, ℕ, Bool, true, false, not, List, [], ◌∷◌}
-use Rattle.slicc_ast.specs.declared.tree.span.Span.{Span}
+use Rattle.std.specs.Prelude.{Bool, true, false, List, [], ◌∷◌}
 use Rattle.slicc_ast.specs.declared.tree.name.Name.{Name}
 use Rattle.slicc_ast.specs.declared.tree.name.TypeName.{TypeName}
 use Rattle.slicc_ast.specs.declared.tree.token.TokenKind.{TokenKind}
 use Rattle.slicc_ast.specs.declared.tree.token.TokenKind.TheVariants.{Name as Named, Number, Quoted, Word, Sign, End}
 use Rattle.slicc_ast.specs.declared.tree.token.Word.{Word as Reserved}
 use Rattle.slicc_ast.specs.declared.tree.token.Sign.{Sign as SignKind}
-use Rattle.slicc_ast.specs.declared.tree.token.Sign.TheVariants.{OpenBrace, CloseBrace, OpenParenthesis, CloseParenthesis, OpenBracket, CloseBracket, Semicolon, Colon, Comma, Dot, Equals, Assign, Equal, Unequal, Less, Greater, LessOrEqual, GreaterOrEqual, Plus, Minus, Star, Not, And, Or}
+use Rattle.slicc_ast.specs.declared.tree.token.Sign.TheVariants.{OpenBrace, CloseBrace, OpenParenthesis, CloseParenthesis, OpenBracket, CloseBracket, Star}
 use Rattle.slicc_ast.specs.declared.tree.balanced.Part.{Part, Token, Parentheses', Brackets', Braces', Row_of-Part, end_of-Part, more_of-Part}
 use Rattle.slicc_ast.specs.declared.tree.balanced.Balanced.{Balanced}
-use Rattle.slicc_ast.specs.Outline.{Outline, node, Parts, none, token, part, provided}
+use Rattle.slicc_ast.specs.Outline.{node, Parts, none, token, part, provided}
 
 -- a reserved word, and then the parts
 abbrev pub word : Reserved → Parts → Parts

@@ -1,5 +1,5 @@
 -- Statements and blocks as rows of parts.
-use Rattle.std.specs.Prelude.{◌≡◌, ℕ, Bool, Option, Some, None, List, [], ◌∷◌}
+use Rattle.std.specs.Prelude.{Option, Some, None, List, [], ◌∷◌}
 use Rattle.slicc_ast.specs.declared.tree.span.Span.{Span}
 use Rattle.slicc_ast.specs.declared.tree.token.TokenKind.TheVariants.{Quoted}
 use Rattle.slicc_ast.specs.declared.tree.token.Word.{Word}
@@ -11,7 +11,7 @@ use Rattle.slicc_ast.specs.declared.tree.statement.PrintWord.TheVariants.{Dprint
 use Rattle.slicc_ast.specs.declared.tree.statement.Block.{Block}
 use Rattle.slicc_ast.specs.declared.tree.statement.If.{If, If', Held-If-otherwise, None', Some', Row_of-ElseIf, end_of-ElseIf, more_of-ElseIf}
 use Rattle.slicc_ast.specs.declared.tree.statement.Stmt.{Stmt, Declare, Assign, Evaluate, Return, If as IfStmt, Peek', Enqueue', StallAndWait, CheckAllocate, Error, Assert, Print, Row_of-Stmt, end_of-Stmt, more_of-Stmt}
-use Rattle.slicc_ast.specs.Outline.{Outline, node, Parts, none, token, part, provided}
+use Rattle.slicc_ast.specs.Outline.{Outline, node, Parts, none, token, part}
 use Rattle.slicc_ast.specs.Names.{word, sign, name, type_name, balanced}
 use Rattle.slicc_ast.specs.Expressions.{expr}
 use Rattle.slicc_ast.specs.Declarations.{pairs}

@@ -23,7 +23,7 @@ use Rattle.slicc_lex.proofs.Longest.{AreWithin, HaveNone, stands, stuck, wrong}
 abbrev pub IsMark : SignKind → Type 0
 IsMark sign = ((c : ℕ) × (sign_bytes sign ≡ c ∷ []) × (single_sign c ≡ Some sign)) ⊎ ((c : ℕ) × (d : ℕ) × (sign_bytes sign ≡ c ∷ d ∷ []) × (pair_sign c d ≡ Some sign))
 
-is_mark : (sign : SignKind) → IsMark sign
+pub is_mark : (sign : SignKind) → IsMark sign
 is_mark OpenBrace = inl (123, refl, refl)
 is_mark CloseBrace = inl (125, refl, refl)
 is_mark OpenParenthesis = inl (40, refl, refl)
@@ -156,3 +156,22 @@ bad_sign at first behind is none alone =
       },
       refl,
     )
+
+same_mark : (a b : SignKind) → sign_bytes a ≡ sign_bytes b → IsMark a → IsMark b → a ≡ b
+same_mark a b same (inl (c, bytes, found)) (inl (d, bytes', found')) =
+    let first : c ∷ [] ≡ d ∷ [] = sym bytes ∙ same ∙ bytes' in
+    let c_is : c ≡ d = cc first in
+    let both : Some a ≡ Some b = sym found ∙ ap single_sign c_is ∙ found' in
+    cc both
+same_mark a b same (inl (c, bytes, found)) (inr (d, e, bytes', found')) = absurd (let no : c ∷ [] ≡ d ∷ e ∷ [] = sym bytes ∙ same ∙ bytes' in omega (arith, ap length no))
+same_mark a b same (inr (c, d, bytes, found)) (inl (e, bytes', found')) = absurd (let no : c ∷ d ∷ [] ≡ e ∷ [] = sym bytes ∙ same ∙ bytes' in omega (arith, ap length no))
+same_mark a b same (inr (c, d, bytes, found)) (inr (e, f, bytes', found')) =
+    let first : c ∷ d ∷ [] ≡ e ∷ f ∷ [] = sym bytes ∙ same ∙ bytes' in
+    let c_is : c ≡ e = cc first in
+    let d_is : d ≡ f = cc first in
+    let both : Some a ≡ Some b = sym found ∙ ap (λ x. pair_sign x d) c_is ∙ ap (pair_sign e) d_is ∙ found' in
+    cc both
+
+-- two signs are not written alike
+pub one_sign : (a b : SignKind) → sign_bytes a ≡ sign_bytes b → a ≡ b
+one_sign a b same = same_mark a b same (is_mark a) (is_mark b)

@@ -11,3 +11,5 @@ pub mod FoundStrings
 pub mod FoundSigns
 pub mod FoundGaps
 pub mod Lexed
+pub mod OnePiece
+pub mod OneReading

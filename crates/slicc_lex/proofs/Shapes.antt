@@ -1,5 +1,5 @@
 -- The shapes that a piece of a text has, each with the class of its first byte.
-use Rattle.std.proofs.Common.{◌≡◌, ◌||◌, ℕ, Bool, true, false, List, [], ◌∷◌, ◌++◌, refl, sym, ◌∙◌, subst, arith, eqb, leb, eqb-true, leb-true, inl, inr, ⊎_elim}
+use Rattle.std.proofs.Common.{◌≡◌, ◌≤◌, ◌||◌, ℕ, Bool, true, false, List, [], ◌∷◌, ◌++◌, length, refl, sym, ◌∙◌, subst, arith, eqb, leb, eqb-true, leb-true, inl, inr, ⊎_elim}
 use Rattle.std.specs.List.{list_all}
 use Rattle.std.proofs.lemmas.Bool.{cond-true, cond-false, cases_Bool, and_parts, or_cases, false≢true}
 use Rattle.slicc_ast.specs.declared.tree.token.TokenKind.TheVariants.{Name, Number, Quoted, Word, Sign, End}
@@ -29,36 +29,36 @@ pub data Shape : List ℕ → Type 0 where
   quoted : (quote : ℕ) (text : List ℕ) → is_quote quote ≡ true → list_all (is_inside quote) text ≡ true → Shape (quote ∷ text ++ quote ∷ [])
   mark : (sign : SignKind) → Shape (sign_bytes sign)
 
-pub word_shape : (reserved : Reserved) → Shape (word_bytes reserved)
-word_shape Protocol = word refl refl
-word_shape Include = word refl refl
-word_shape Machine = word refl refl
-word_shape Enumeration = word refl refl
-word_shape StateDeclaration = word refl refl
-word_shape Structure = word refl refl
-word_shape InPort = word refl refl
-word_shape OutPort = word refl refl
-word_shape Action = word refl refl
-word_shape Transition = word refl refl
-word_shape Peek = word refl refl
-word_shape Enqueue = word refl refl
-word_shape StallAndWait = word refl refl
-word_shape CheckAllocate = word refl refl
-word_shape If = word refl refl
-word_shape Else = word refl refl
-word_shape Return = word refl refl
-word_shape True = word refl refl
-word_shape False = word refl refl
-word_shape Ood = word refl refl
-word_shape New = word refl refl
-word_shape IsValid = word refl refl
-word_shape IsInvalid = word refl refl
-word_shape StaticCast = word refl refl
-word_shape Error = word refl refl
-word_shape Assert = word refl refl
-word_shape Dprintf = word refl refl
-word_shape AppendTransitionComment = word refl refl
-word_shape While = word refl refl
+pub word_is_word : (reserved : Reserved) → IsWord (word_bytes reserved)
+word_is_word Protocol = (refl, refl)
+word_is_word Include = (refl, refl)
+word_is_word Machine = (refl, refl)
+word_is_word Enumeration = (refl, refl)
+word_is_word StateDeclaration = (refl, refl)
+word_is_word Structure = (refl, refl)
+word_is_word InPort = (refl, refl)
+word_is_word OutPort = (refl, refl)
+word_is_word Action = (refl, refl)
+word_is_word Transition = (refl, refl)
+word_is_word Peek = (refl, refl)
+word_is_word Enqueue = (refl, refl)
+word_is_word StallAndWait = (refl, refl)
+word_is_word CheckAllocate = (refl, refl)
+word_is_word If = (refl, refl)
+word_is_word Else = (refl, refl)
+word_is_word Return = (refl, refl)
+word_is_word True = (refl, refl)
+word_is_word False = (refl, refl)
+word_is_word Ood = (refl, refl)
+word_is_word New = (refl, refl)
+word_is_word IsValid = (refl, refl)
+word_is_word IsInvalid = (refl, refl)
+word_is_word StaticCast = (refl, refl)
+word_is_word Error = (refl, refl)
+word_is_word Assert = (refl, refl)
+word_is_word Dprintf = (refl, refl)
+word_is_word AppendTransitionComment = (refl, refl)
+word_is_word While = (refl, refl)
 
 quoted_shape : (quote : ℕ) (text written : List ℕ) → is_quote quote ≡ true → IsQuotedBy quote text written → Shape written
 quoted_shape quote text written quotes is = subst Shape (sym is.0) (quoted quote text quotes is.1)
@@ -82,7 +82,7 @@ shape_of (Lexeme (Name name)) written is = subst Shape (sym is.0) (name_shape na
 shape_of (Lexeme (Number n)) written is = decimal_shape written is.0 is.2
 shape_of (Lexeme (Quoted text)) written (inl is) = quoted_shape 34 text written refl is
 shape_of (Lexeme (Quoted text)) written (inr is) = quoted_shape 39 text written refl is
-shape_of (Lexeme (Word reserved)) written is = subst Shape (sym is) (word_shape reserved)
+shape_of (Lexeme (Word reserved)) written is = subst Shape (sym is) (name_shape (word_bytes reserved) (word_is_word reserved))
 shape_of (Lexeme (Sign sign)) written is = subst Shape (sym is) (mark sign)
 shape_of (Lexeme End) written is = absurd is
 
@@ -102,7 +102,7 @@ quote_cases : (P : ℕ → Type 0) → P 34 → P 39 → (c : ℕ) → is_quote 
 quote_cases P double single c is =
     ⊎_elim (λ a. subst P (sym (eqb-true c 34 a)) double) (λ a. subst P (sym (eqb-true c 39 a)) single) (or_cases (eqb c 34) (eqb c 39) is)
 
-blank_class : (c : ℕ) → is_blank c ≡ true → class_of c ≡ Blank
+pub blank_class : (c : ℕ) → is_blank c ≡ true → class_of c ≡ Blank
 blank_class c is = cond-true (is_blank c) _ _ is
 
 -- what passes a test that fails at each blank is no blank
@@ -113,7 +113,7 @@ no_blank p space tab return feed c passes =
     (λ no. no)
     (cases_Bool (is_blank c))
 
-letter_class : (c : ℕ) → is_letter c ≡ true → class_of c ≡ Letter
+pub letter_class : (c : ℕ) → is_letter c ≡ true → class_of c ≡ Letter
 letter_class c is = cond-false (is_blank c) _ _ (no_blank is_letter refl refl refl refl c is) ∙ cond-true (is_letter c) _ _ is
 
 digit_no_letter : (c : ℕ) → is_digit c ≡ true → is_letter c ≡ true → ⊥
@@ -129,7 +129,7 @@ digit_no_letter c digit letter =
     (λ line. let is = eqb-true c 95 line in absurd (omega arith))
     (or_cases _ _ letter)
 
-digit_class : (c : ℕ) → is_digit c ≡ true → class_of c ≡ Digit
+pub digit_class : (c : ℕ) → is_digit c ≡ true → class_of c ≡ Digit
 digit_class c is =
     cond-false (is_blank c) _ _ (no_blank is_digit refl refl refl refl c is)
     ∙ ⊎_elim (λ letter. absurd (digit_no_letter c is letter)) (λ no. cond-false (is_letter c) _ _ no) (cases_Bool (is_letter c))
@@ -153,7 +153,7 @@ abbrev pub first_class : List ℕ → Class
 first_class [] = Blank
 first_class (c ∷ cs) = class_of c
 
-sign_class : (sign : SignKind) (behind : List ℕ) → first_class (sign_bytes sign ++ behind) ≡ Other
+pub sign_class : (sign : SignKind) (behind : List ℕ) → first_class (sign_bytes sign ++ behind) ≡ Other
 sign_class OpenBrace behind = refl
 sign_class CloseBrace behind = refl
 sign_class OpenParenthesis behind = refl
@@ -189,3 +189,40 @@ class_is (decimal {c} {cs} all) behind = digit_class c (and_parts (is_digit c) (
 class_is (hexadecimal all) behind = refl
 class_is (quoted quote text quotes all) behind = quote_class quote quotes
 class_is (mark sign) behind = sign_class sign behind
+
+sign_some : (sign : SignKind) → 1 ≤ length (sign_bytes sign)
+sign_some OpenBrace = omega arith
+sign_some CloseBrace = omega arith
+sign_some OpenParenthesis = omega arith
+sign_some CloseParenthesis = omega arith
+sign_some OpenBracket = omega arith
+sign_some CloseBracket = omega arith
+sign_some Semicolon = omega arith
+sign_some Colon = omega arith
+sign_some Comma = omega arith
+sign_some Dot = omega arith
+sign_some Equals = omega arith
+sign_some Assign = omega arith
+sign_some Equal = omega arith
+sign_some Unequal = omega arith
+sign_some Less = omega arith
+sign_some Greater = omega arith
+sign_some LessOrEqual = omega arith
+sign_some GreaterOrEqual = omega arith
+sign_some Plus = omega arith
+sign_some Minus = omega arith
+sign_some Star = omega arith
+sign_some Not = omega arith
+sign_some And = omega arith
+sign_some Or = omega arith
+
+-- a piece has a byte
+pub shape_some : {written : List ℕ} → Shape written → 1 ≤ length written
+shape_some (blank is) = omega arith
+shape_some (line all) = omega arith
+shape_some (block text closes) = omega arith
+shape_some (word first all) = omega arith
+shape_some (decimal all) = omega arith
+shape_some (hexadecimal all) = omega arith
+shape_some (quoted quote text quotes all) = omega arith
+shape_some (mark sign) = sign_some sign

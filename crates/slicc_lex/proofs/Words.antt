@@ -98,3 +98,40 @@ is_at_place While = refl
 pub reserved_is : (text : List ℕ) (found : Option Word) → found ≡ find (λ word. bytes_eq text (word_bytes word)) WORDS → MatchOption found ((word : Word) → text ≢ word_bytes word) (λ word. text ≡ word_bytes word)
 reserved_is text None is = λ word same. let none : bytes_eq text (word_bytes word) ≡ false = find_none (λ word. bytes_eq text (word_bytes word)) WORDS (place word) word (sym is) (is_at_place word) in false≢true (sym none ∙ (bytes_eq-Decides text (word_bytes word)).1 same)
 reserved_is text (Some word) is = (bytes_eq-Decides text (word_bytes word)).0 (find_some (λ word. bytes_eq text (word_bytes word)) WORDS word (sym is))
+
+found_itself : (word : Word) → find (λ other. bytes_eq (word_bytes word) (word_bytes other)) WORDS ≡ Some word
+found_itself Protocol = refl
+found_itself Include = refl
+found_itself Machine = refl
+found_itself Enumeration = refl
+found_itself StateDeclaration = refl
+found_itself Structure = refl
+found_itself InPort = refl
+found_itself OutPort = refl
+found_itself Action = refl
+found_itself Transition = refl
+found_itself Peek = refl
+found_itself Enqueue = refl
+found_itself StallAndWait = refl
+found_itself CheckAllocate = refl
+found_itself If = refl
+found_itself Else = refl
+found_itself Return = refl
+found_itself True = refl
+found_itself False = refl
+found_itself Ood = refl
+found_itself New = refl
+found_itself IsValid = refl
+found_itself IsInvalid = refl
+found_itself StaticCast = refl
+found_itself Error = refl
+found_itself Assert = refl
+found_itself Dprintf = refl
+found_itself AppendTransitionComment = refl
+found_itself While = refl
+
+-- two reserved words are not written alike
+pub one_word : (a b : Word) → word_bytes a ≡ word_bytes b → a ≡ b
+one_word a b same =
+    let both : Some a ≡ Some b = sym (found_itself a) ∙ ap (λ bytes. find (λ other. bytes_eq bytes (word_bytes other)) WORDS) same ∙ found_itself b in
+    cc both

@@ -6,6 +6,7 @@ mod class;
 mod comment;
 mod fault;
 mod front;
+mod laws;
 mod lexer;
 mod number;
 mod piece;
@@ -14,6 +15,7 @@ mod token;
 mod word;
 
 pub use fault::LexFault;
+pub use laws::readings_are_one;
 pub use lexer::lex;
 pub use ruby_base::{NoMemory, Seq, Text};
 pub use slicc_ast::tree::{Sign, Span, TokenKind, Word};
