@@ -4,5 +4,6 @@ pub mod Numbers
 pub mod Pieces
 pub mod Tokens
 pub mod Spells
+pub mod Places
 pub mod Classes
 pub mod Lexing

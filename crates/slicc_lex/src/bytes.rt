@@ -1,5 +1,5 @@
-ghost use Rattle.std.specs.Prelude.{◌≡◌};
-ghost use Rattle.std.specs.List.{prefix_len};
+ghost use Rattle.std.specs.Prelude.{◌≡◌, ◌≤◌, length};
+ghost use Rattle.std.specs.List.{prefix_len, suffix_len};
 ghost use Rattle.slicc_ast.specs.Bytes.{is_blank, is_letter, is_word_byte, is_printable};
 ghost use Rattle.slicc_lex.specs.Numbers.{is_digit, is_hexadecimal};
 ghost use Rattle.slicc_lex.specs.Pieces.{is_in_line, is_inside};
@@ -109,4 +109,16 @@ pub fn printable_len(bytes: &[u8]) -> usize
     ensures { result ≡ prefix_len is_printable bytes.now }
 {
     bytes.iter().take_while(|byte| is_printable(**byte)).count()
+}
+
+/// How many bytes there are after the last line feed.
+pub fn last_line_len(bytes: &[u8]) -> usize
+    ensures value { result ≡ suffix_len is_in_line bytes.now }
+    ensures within { result ≤ length bytes.now }
+{
+    bytes
+        .iter()
+        .rev()
+        .take_while(|byte| is_in_line(**byte))
+        .count()
 }

@@ -1,5 +1,5 @@
 use slicc_lex::LexFault::{BadByte, NameTooLong, NumberTooLarge, OpenComment, OpenString};
-use slicc_lex::{LexFault, Sign, TokenKind, Word, lex};
+use slicc_lex::{LexFault, Sign, TokenKind, Word, lex, place_of};
 use std::alloc::Global;
 use std::test::Fail;
 
@@ -173,6 +173,17 @@ const REFUSED: &[(&[u8], LexFault)] = &[
     (b"\"a #", OpenString(0)),
 ];
 
+/// Texts with an offset in each, and the line and the column there.
+const PLACES: &[(&[u8], u32, u32, u32)] = &[
+    (b"", 0, 1, 1),
+    (b"/* x", 0, 1, 1),
+    (b"ab", 2, 1, 3),
+    (b"a\nbc", 1, 1, 2),
+    (b"a\nbc", 3, 2, 2),
+    (b"a\n", 2, 2, 1),
+    (b"a\r\n\n\tb", 5, 3, 2),
+];
+
 fn is_kind(kind: &TokenKind, expected: &Kind) -> bool {
     match (kind, expected) {
         (TokenKind::Name(name), Kind::Name(text)) => name.as_slice() == *text,
@@ -216,6 +227,22 @@ fn is_refused(alloc: Global, row: &(&[u8], LexFault)) -> bool {
         Ok(_) => false,
         Err(fault) => fault == *expected,
     }
+}
+
+/// Whether the byte at the row's offset stands where the row says.
+fn is_placed(row: &(&[u8], u32, u32, u32)) -> bool {
+    let (text, offset, line, column) = row;
+    if text.len() > 1_048_576 || *offset as usize > text.len() {
+        return false;
+    }
+    let place = place_of(text, *offset);
+    place.line == *line && place.column == *column
+}
+
+#[test]
+fn lines_and_columns_count_from_one(rt: HostRuntime) -> Result<(), Fail> {
+    assert_eq!(rt; PLACES.iter().position(|row| !is_placed(row)), None);
+    Ok(())
 }
 
 #[test]
