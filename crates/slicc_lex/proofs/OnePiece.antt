@@ -1,6 +1,6 @@
 -- Bytes are written as one piece alone, and one piece alone stands at the front of bytes.
-use Rattle.std.proofs.Common.{◌≡◌, ◌≢◌, ◌⊎◌, ◌+◌, ◌-◌, ◌≤◌, ℕ, ℤ, true, false, List, [], ◌∷◌, ◌++◌, length, length-append, take, drop, refl, sym, ap, ◌∙◌, subst, arith, inl, inr, append-nil, take_at, drop_at, pos, ⊎_elim}
-use Rattle.std.specs.List.{prefix_len, list_all}
+use Rattle.std.proofs.Common.{◌≡◌, ◌≢◌, ◌⊎◌, ◌-◌, ◌≤◌, ℕ, ℤ, true, List, [], ◌∷◌, ◌++◌, length, length-append, take, drop, refl, sym, ap, ◌∙◌, subst, arith, inl, inr, append-nil, take_at, drop_at, pos, ⊎_elim}
+use Rattle.std.specs.List.{list_all}
 use Rattle.std.proofs.lemmas.Bool.{and_parts, false≢true}
 use Rattle.std.specs.Prelude.{codes}
 use Rattle.slicc_ast.specs.declared.tree.token.TokenKind.{TokenKind}
@@ -14,8 +14,7 @@ use Rattle.slicc_lex.specs.declared.piece.Piece.TheVariants.{Gap, Lexeme}
 use Rattle.slicc_lex.specs.Words.{word_bytes}
 use Rattle.slicc_lex.specs.Signs.{sign_bytes}
 use Rattle.slicc_lex.specs.Numbers.{is_digit, IsNumeral, IsDecimal, AreHexadecimal, number_of}
-use Rattle.slicc_lex.specs.Pieces.{is_inside, IsWord, IsQuotedBy, IsWritten, IsPiece, IsNext}
-use Rattle.slicc_lex.specs.Classes.{class_of}
+use Rattle.slicc_lex.specs.Pieces.{IsWord, IsQuotedBy, IsWritten, IsPiece, IsNext}
 use Rattle.slicc_lex.proofs.Words.{one_word}
 use Rattle.slicc_lex.proofs.Shapes.{first_class, blank_class, letter_class, digit_class, sign_class, word_is_word}
 use Rattle.slicc_lex.proofs.FoundSigns.{one_sign}

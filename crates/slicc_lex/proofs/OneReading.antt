@@ -1,5 +1,5 @@
 -- A text has one list of tokens or one first fault.
-use Rattle.std.proofs.Common.{◌≡◌, ◌≢◌, ◌⊎◌, ◌+◌, ◌≤◌, ◌<◌, ◌^◌, ◌++◌, ◌||◌, ℕ, ℤ, Bool, true, false, List, [], ◌∷◌, Result, Ok, Err, length, refl, sym, ap, ◌∙◌, subst, arith, inl, inr, pos, eqb, eqb-true, ⊎_elim}
+use Rattle.std.proofs.Common.{◌≡◌, ◌+◌, ◌≤◌, ◌<◌, ◌^◌, ◌++◌, ℕ, true, false, List, [], ◌∷◌, Result, Err, length, refl, sym, ap, ◌∙◌, subst, arith, inl, inr, pos, eqb, eqb-true, ⊎_elim}
 use Rattle.std.specs.List.{prefix_len, list_all}
 use Rattle.std.proofs.lemmas.Bool.{and_parts, false≢true, or_cases}
 use Rattle.std.proofs.lemmas.Int.{ints}
@@ -12,10 +12,10 @@ use Rattle.slicc_lex.specs.declared.fault.LexFault.TheVariants.{BadByte, OpenStr
 use Rattle.slicc_lex.specs.declared.piece.Piece.{Piece}
 use Rattle.slicc_lex.specs.declared.piece.Piece.TheVariants.{Gap, Lexeme}
 use Rattle.slicc_lex.specs.Pieces.{IsNext, IsStuck, IsPiece}
-use Rattle.slicc_lex.specs.Tokens.{Reads, ends, skips, takes, stops, IsFault, IsBadInside, IsBadAtFront, IsWithinLimits, token_at, with_token, begins_with_quote, begins_with_comment}
-use Rattle.slicc_lex.proofs.Spans.{begins, len_span}
-use Rattle.slicc_lex.proofs.Shapes.{Shape, shape_of, shape_some}
-use Rattle.slicc_lex.proofs.OnePiece.{one_front, SameFront}
+use Rattle.slicc_lex.specs.Tokens.{Reads, ends, skips, takes, stops, IsFault, IsBadInside, IsWithinLimits, token_at, with_token, begins_with_quote, begins_with_comment}
+use Rattle.slicc_lex.proofs.Spans.{len_span}
+use Rattle.slicc_lex.proofs.Shapes.{shape_of, shape_some}
+use Rattle.slicc_lex.proofs.OnePiece.{one_front}
 
 -- no piece is written without a byte
 no_nothing : (piece : Piece) → IsPiece piece [] → ⊥

@@ -1,7 +1,7 @@
 -- Which tokens spell a tree: this is the grammar, read from the trees. The rows of parts of each tree have a case for each
 -- alternative of the grammar; here they are compared with tokens and with the places of these. A tree has one spelling,
 -- its places aside.
-use Rattle.std.specs.Prelude.{◌≡◌, ◌++◌, ℕ, IsTrue, List, [], ◌∷◌, map}
+use Rattle.std.specs.Prelude.{◌≡◌, ◌++◌, IsTrue, List, [], ◌∷◌, map}
 use Rattle.slicc_ast.specs.declared.tree.span.Span.{Span}
 use Rattle.slicc_ast.specs.declared.tree.token.TokenKind.{TokenKind}
 use Rattle.slicc_ast.specs.declared.tree.token.TokenKind.TheVariants.{End}

@@ -85,7 +85,3 @@ pub data Reads (file : ℕ) : ℕ → List ℕ → Result (List Token) LexFault 
   stops : {at : ℕ} {bytes : List ℕ} {fault : LexFault}
       → IsFault at bytes fault
       → Reads file at bytes (Err fault)
-
--- the tokens of a whole text, or its first fault
-abbrev pub IsLexed : ℕ → List ℕ → Result (List Token) LexFault → Type 0
-IsLexed file bytes answer = Reads file 0 bytes answer
