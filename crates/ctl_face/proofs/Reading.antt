@@ -1,9 +1,8 @@
 -- What is read of a lawful local has its kinds.
-use Rattle.std.proofs.Common.{◌≡◌, ℕ, zero, suc, Bool, true, false, cond, List, [], ◌∷◌, All, IsTrue, IfSome, IsSomeAnd, subst, Option, None, Some, Ok, Err, length, ◌%◌, slice_get, unwrap_or, is_none, eqb, ◌&&◌}
-use Rattle.std.proofs.lemmas.List.Elements.{All-head, All-tail, All-filter, All-weaker, filter_passes}
-use Rattle.std.proofs.lemmas.Bool.{and_parts, cond_both, eqb-true}
+use Rattle.std.proofs.Common.{◌≡◌, ℕ, zero, suc, Bool, true, false, cond, List, [], ◌∷◌, All, IsTrue, IfSome, IsSomeAnd, subst, Option, None, Some, Ok, Err, length, ◌%◌, slice_get, unwrap_or, eqb, ◌&&◌}
+use Rattle.std.proofs.lemmas.List.Elements.{All-head, All-contains}
+use Rattle.std.proofs.lemmas.Bool.{and_parts, eqb-true}
 use Rattle.std.specs.Bool.{nat_le}
-use Rattle.std.specs.List.{filter}
 use Rattle.std.specs.Option.{option_and_then, option_map, ok_or}
 use Rattle.ruby_value.specs.declared.fault.Fault.TheVariants.{Front, Probe, Reference}
 use Rattle.ruby_value.specs.declared.kind.Kind.{Kind}
@@ -12,20 +11,21 @@ use Rattle.ruby_value.specs.declared.value.Ref.{Ref}
 use Rattle.ruby_value.specs.declared.value.Value.{Value}
 use Rattle.ruby_value.specs.declared.setup.BufferSetup.{BufferSetup}
 use Rattle.ruby_value.specs.declared.setup.TableSetup.{TableSetup}
-use Rattle.ctl_face.specs.Ctl.{InboxMessage}
 use Rattle.ctl_face.specs.FieldsIn.{fields_in}
 use Rattle.ruby_value.specs.Cache.{Line}
 use Rattle.ruby_value.specs.SetOf.{set_of}
 use Rattle.ctl_face.specs.Avail.{avail, least_used_in, probe}
 use Rattle.ctl_face.specs.Fits.{FitsLine, FitsMessage, FitsTableAt, IsLawful, IsLine}
-use Rattle.ctl_face.specs.Front.{is_ready, least_message, earlier_message, message_before}
+use Rattle.ctl_face.specs.Front.{IsFront}
 use Rattle.ctl_face.specs.Get.{get, fields_behind}
 use Rattle.ruby_value.specs.HasKinds.{has_kinds}
 use Rattle.ruby_value.specs.HasKind.{has_kind}
 use Rattle.ctl_face.specs.LocalView.{LocalView}
+use Rattle.ctl_face.specs.Mailing.{incoming}
 use Rattle.ctl_face.specs.Ready.{required_front, front_now}
 use Rattle.ctl_face.specs.Served.{TakesField, TakesMessage}
 use Rattle.ctl_face.specs.Table.{Table, CacheTable, DirectoryTable, TbeTable, ParameterTable}
+use Rattle.ctl_face.proofs.Fronts.{front_first}
 use Rattle.ctl_face.proofs.Lines.{All-at}
 use Rattle.ctl_face.proofs.TableCalls.{kinds_in}
 
@@ -58,45 +58,31 @@ get_kind v r field value lawful is =
     read_kind (slice_get v.machine.tables r.table) (fields_behind v r) field value
     (fields_fit r.line (slice_get v.machine.tables r.table) (slice_get v.ctl.tables r.table) (lawful.fits.tables.each r.table)) is
 
--- the least message is one of them
-module _ (P : Message → Type 0) where
-  least_holds : (ms : List InboxMessage) → All (λ (m : InboxMessage). P m.message) ms → IfSome (least_message ms) P
-  least_holds [] all = tt
-  least_holds (m ∷ ms) all =
-      let here = All-head (λ (m : InboxMessage). P m.message) m ms all in
-      let rest = least_holds ms (All-tail (λ (m : InboxMessage). P m.message) m ms all) in
-      elim (least_message ms) as (λ o. IfSome o P → P (earlier_message m.message o)) [
-        | None ↦ λ _. here
-        | Some o ↦ λ there. cond_both (message_before o m.message) o m.message P (λ _. there) (λ _. here)
-      ] rest
-
 message_kinds_fit : (s : Option BufferSetup) (fields : List Value) → IsSomeAnd s (λ (b : BufferSetup). IsTrue (has_kinds b.kinds fields)) → IsTrue (has_kinds (unwrap_or (option_map (λ (b : BufferSetup). b.kinds) s) []) fields)
 message_kinds_fit None fields here = absurd here
 message_kinds_fit (Some b) fields here = here
 
-peeked : (P : Message → Type 0) (o : Option Message) (m : Message) → IfSome o P → ok_or o Front ≡ Ok m → P m
-peeked P None m here is = cc
-peeked P (Some n) m here is = let same : n ≡ m = cc in subst P same here
+peeked : (o : Option Message) (m : Message) → ok_or o Front ≡ Ok m → o ≡ Some m
+peeked None m is = cc
+peeked (Some n) m is = cc is
+
+-- the message that is read of a buffer is its front
+peeked-is : (v : LocalView) (buffer : ℕ) (m : Message) → required_front v buffer ≡ Ok m → IsFront v.ctl.mail.inbox buffer v.now (Some m)
+peeked-is v buffer m is =
+    subst (IsFront v.ctl.mail.inbox buffer v.now) (peeked (front_now v buffer) m is) (front_first v.ctl.mail buffer v.now)
 
 pub peek_kinds : (v : LocalView) (buffer : ℕ) (m : Message) → IsLawful v → required_front v buffer ≡ Ok m → TakesMessage v m.buffer m.fields
 peek_kinds v buffer m lawful is =
-    let P : Message → Type 0 = λ n. TakesMessage v n.buffer n.fields in
-    let fit = λ (o : InboxMessage) (f : FitsMessage v.machine.buffers v.actor.me v.ctl.mail.sent o). message_kinds_fit (slice_get v.machine.buffers o.message.buffer) o.message.fields f.fields in
-    let all = All-weaker (FitsMessage v.machine.buffers v.actor.me v.ctl.mail.sent) (λ (o : InboxMessage). P o.message) fit v.ctl.mail.inbox lawful.fits.mail.messages in
-    peeked P (front_now v buffer) m (least_holds P (filter (is_ready buffer v.now) v.ctl.mail.inbox) (All-filter (is_ready buffer v.now) (λ (o : InboxMessage). P o.message) v.ctl.mail.inbox all)) is
-
-of_buffer : (buffer now : ℕ) (o : InboxMessage) → is_ready buffer now o ≡ true → o.message.buffer ≡ buffer
-of_buffer buffer now o is =
-    eqb-true o.message.buffer buffer
-    (and_parts (eqb o.message.buffer buffer) (nat_le o.message.arrival now)
-    (and_parts (eqb o.message.buffer buffer && nat_le o.message.arrival now) (is_none o.waiting) is).0).0
+    let front = peeked-is v buffer m is in
+    let fits = All-contains (FitsMessage v.machine.buffers v.actor.me v.ctl.mail.sent) v.ctl.mail.inbox (incoming m) lawful.fits.mail.messages front.held in
+    message_kinds_fit (slice_get v.machine.buffers m.buffer) m.fields fits.fields
 
 pub peek_buffer : (v : LocalView) (buffer : ℕ) (m : Message) → required_front v buffer ≡ Ok m → m.buffer ≡ buffer
 peek_buffer v buffer m is =
-    let P : Message → Type 0 = λ n. n.buffer ≡ buffer in
-    let ready = filter (is_ready buffer v.now) v.ctl.mail.inbox in
-    let all = All-weaker (λ (o : InboxMessage). is_ready buffer v.now o ≡ true) (λ (o : InboxMessage). P o.message) (of_buffer buffer v.now) ready (filter_passes (is_ready buffer v.now) v.ctl.mail.inbox) in
-    peeked P (front_now v buffer) m (least_holds P ready all) is
+    let front = peeked-is v buffer m is in
+    eqb-true m.buffer buffer
+    (and_parts (eqb m.buffer buffer) (nat_le m.arrival v.now)
+    (and_parts (eqb m.buffer buffer && nat_le m.arrival v.now) true front.ready).0).0
 
 -- the line that a cache names for replacement is one
 first_line : (kinds : List Kind) (lines : List Line) (l : ℕ) → All (FitsLine kinds) lines → option_map (λ (x : Line). x.0) (slice_get lines 0) ≡ Some l → IsLine l

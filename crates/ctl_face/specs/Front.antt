@@ -1,29 +1,25 @@
--- The front of a buffer: of the messages that were not taken aside and have arrived, the least by arrival, then number.
--- That the order by arrival is kept up to ties is gem5's; that ties go by number is this project's own.
-use Rattle.std.specs.Prelude.{ℕ, Bool, Option, None, Some, List, [], ◌∷◌, ◌==◌, ◌&&◌, ◌||◌, nat_lt, nat_le, is_none, if◌then◌else◌}
-use Rattle.std.specs.List.{filter}
+-- The front of a buffer: of the messages of an inbox that are ready in it, the least by arrival, then number. Which message
+-- of a list that is, `ruby_value` says, as a function (`front`) and as a relation (`IsFront`); what is ready is said here.
+use Rattle.std.specs.Prelude.{ℕ, Bool, Option, List, ◌==◌, ◌&&◌, nat_le, is_none}
+use Rattle.std.specs.Option.{option_map}
 use Rattle.ruby_value.specs.declared.message.Message.{Message}
+use Rattle.ruby_value.specs.Front as general
 use Rattle.ctl_face.specs.Ctl.{InboxMessage, Mail}
-use Rattle.ruby_value.specs.NumberBefore.{number_before}
+use Rattle.ctl_face.specs.Mailing.{incoming}
 
--- the message is in the buffer, has arrived, and wasn't taken aside
+-- the message is in the buffer, has arrived, and isn't stalled
 abbrev pub is_ready : ℕ → ℕ → InboxMessage → Bool
 is_ready buffer now m = m.message.buffer == buffer && nat_le m.message.arrival now && is_none m.waiting
 
--- by arrival, then by number
-abbrev pub message_before : Message → Message → Bool
-message_before a b = nat_lt a.arrival b.arrival || (a.arrival == b.arrival && number_before a.number b.number)
-
-abbrev pub earlier_message : Message → Option Message → Message
-earlier_message m None = m
-earlier_message m (Some o) = if message_before o m then o else m
-
-abbrev pub least_message : List InboxMessage → Option Message
-least_message [] = None
-least_message (m ∷ ms) = Some (earlier_message m.message (least_message ms))
-
-abbrev pub front_of : List InboxMessage → ℕ → ℕ → Option Message
-front_of inbox buffer now = least_message (filter (is_ready buffer now) inbox)
-
+-- the front message, if there is one
 abbrev pub front : Mail → ℕ → ℕ → Option Message
-front mail buffer now = front_of mail.inbox buffer now
+front mail buffer now =
+    option_map (λ (m : InboxMessage). m.message)
+    (general.front (is_ready buffer now) (λ (m : InboxMessage). m.message.arrival) (λ (m : InboxMessage). m.message.number) mail.inbox)
+
+-- the same as a relation: a ready message of the inbox before which no ready one comes, or none where none is ready; since a
+-- ready message isn't stalled, the inbox has it as it came in
+abbrev pub IsFront : List InboxMessage → ℕ → ℕ → Option Message → Type 0
+IsFront inbox buffer now answer =
+    general.IsFront (is_ready buffer now) (λ (m : InboxMessage). m.message.arrival) (λ (m : InboxMessage). m.message.number) inbox
+    (option_map incoming answer)

@@ -15,7 +15,6 @@ pub mod Free
 pub mod Front
 pub mod Get
 pub mod Inbox
-pub mod IsFront
 pub mod IsMachine
 pub mod Lasts
 pub mod Latency

@@ -1,4 +1,7 @@
-pub mod Awake
+pub mod Places
+pub mod Inboxes
+pub mod Requests
 pub mod Book
-pub mod Cycle
 pub mod Outcome
+pub mod Awake
+pub mod Cycle

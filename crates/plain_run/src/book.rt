@@ -1,126 +1,112 @@
 // A run so far: its world, its history and its journal, and each event as one more step of it.
-ghost use Rattle.std.specs.Prelude.{◌≡◌, ◌<◌, ◌≤◌, ◌+◌, ◌-◌, ◌^◌, ◌++◌, [], ◌∷◌, IfOk, IsTrue, None, Some, true, false, length, slice_get, slice_set};
-ghost use Rattle.std.specs.List.{list_any};
-ghost use Rattle.std.specs.Option.{IsSomeAnd};
-ghost use Rattle.slicc_meaning.specs.declared.controller.Scanned.TheVariants.{Fired};
-ghost use Rattle.slicc_meaning.specs.Alone.{IsNextTake};
-ghost use Rattle.slicc_meaning.specs.World.{is_free};
-ghost use Rattle.slicc_meaning.specs.Step.{with_place, is_holder, scan_at, is_busy, ended_by};
-ghost use Rattle.plain_run.specs.Book.{IsRunSoFar};
+ghost use Rattle.std.specs.Prelude.{◌≡◌, ◌<◌, ◌+◌, ◌^◌, ◌++◌, [], ◌∷◌, IfOk, OnOk, None, Some, true, length, slice_get};
+ghost use Rattle.run_journal.specs.declared.event.Event.TheVariants as event;
+ghost use Rattle.ruby_runs.specs.Step.{held_by, with_controller, fired_entry};
+ghost use Rattle.ruby_runs.specs.World.{Place as PlaceRecord};
+ghost use Rattle.run_journal.specs.declared.entry.Entry.TheVariants as entry;
+ghost use Rattle.slicc_meaning.specs.declared.controller.Controller.{Controller as ControllerRecord};
+ghost use Rattle.slicc_meaning.specs.Controller.{with_one_fired};
+ghost use Rattle.slicc_meaning.specs.Try.{consuming};
+ghost use Rattle.plain_run.specs.Places.{with_place};
 
-use crate::steps::{done, fire, take};
+use crate::world::World;
 use ruby_base::{NoMemory, Seq};
-use slicc_meaning::{Controller, End, Entry, Event, FireNote, MsgNo, Setting, World};
+use slicc_meaning::{Controller, End, Entry, Event, FireNote, MsgNo};
+use std::alloc::Global;
 
 /// A run so far.
 #[derive(Drop)]
 pub struct Book {
     pub world: World,
-    pub history: Seq<Event>,
-    pub journal: Seq<Entry>,
+    pub history: Vec<Event>,
+    pub journal: Vec<Entry>,
 }
 
-/// The run with one event more, which led to this world and wrote this entry.
-pub fn with_step(
-    world: World,
-    mut history: Seq<Event>,
-    mut journal: Seq<Entry>,
-    event: Event,
-    entry: Entry,
-) -> Result<Book, NoMemory>
-    ensures { IfOk result (λ book. book ≡ record { world = world; history = history ++ event ∷ []; journal = journal ++ entry ∷ [] }) }
-{
-    history.push(event)?;
-    journal.push(entry)?;
-    Ok(Book {
-        world,
-        history,
-        journal,
-    })
-}
+/// The number of the one worker.
+pub const WORKER: u32 = 0;
 
-/// The one worker takes the least controller that is due, while it holds none.
-pub fn take_one(setting: &Setting, book: Book, worker: u32, c: u32) -> Result<Book, NoMemory>
-    requires run { IsRunSoFar setting.now book }
-    requires running { book.world.verdict ≡ None }
-    requires free { IsSomeAnd (slice_get book.world.places c) (λ p. IsTrue (is_free book.world.now p)) }
-    requires next { IsNextTake book.world worker c }
-    ensures run { IfOk result (IsRunSoFar setting.now) }
-    ensures held { IfOk result (λ after. IsSomeAnd (slice_get book.world.places c) (λ p. after.world ≡ with_place book.world c (record p { holder = Some worker }))) }
-{
-    let Book {
-        world,
-        mut history,
-        journal,
-    } = book;
-    let world = take(world, worker, c);
-    history.push(Event::Take {
-        worker,
-        controller: c,
-    })?;
-    Ok(Book {
-        world,
-        history,
-        journal,
-    })
-}
+impl Book {
+    /// An event and its entry are written.
+    pub fn note(&mut self, event: Event, entry: Entry) -> Result<(), NoMemory>
+        ensures world { self.new.world ≡ self.old.world }
+        ensures history { OnOk result (self.new.history.items ≡ self.old.history.items ++ event ∷ []) }
+        ensures journal { OnOk result (self.new.journal.items ≡ self.old.journal.items ++ entry ∷ []) }
+    {
+        self.journal.push(entry)?;
+        self.history.push(event)?;
+        Ok(())
+    }
 
-/// One scan of the controller that the worker holds fired.
-pub fn fire_one(
-    setting: &Setting,
-    book: Book,
-    worker: u32,
-    c: u32,
-    note: FireNote,
-    consumed: Seq<MsgNo>,
-    after: Controller,
-) -> Result<Book, NoMemory>
-    requires run { IsRunSoFar setting.now book }
-    requires running { book.world.verdict ≡ None }
-    requires fired { IsSomeAnd (slice_get book.world.places c) (λ p. IsTrue (is_holder worker p.holder) × (scan_at setting.now book.world c p ≡ Fired note consumed after)) }
-    requires fits { after.fired + 1 < 2 ^ 64 }
-    requires worker { worker ≡ 0 }
-    ensures run { IfOk result (IsRunSoFar setting.now) }
-    ensures fired { IfOk result (λ next. IsSomeAnd (slice_get book.world.places c) (λ p. next.world ≡ with_place book.world c (record p { controller = record after { fired = after.fired + 1 } }))) }
-{
-    let Book {
-        world,
-        history,
-        journal,
-    } = book;
-    let (world, entry) = fire(setting, world, worker, c, note, consumed, after);
-    let event = Event::Fire {
-        worker,
-        controller: c,
-    };
-    with_step(world, history, journal, event, entry)
-}
+    /// The one worker takes a controller.
+    pub fn take(&mut self, c: u32) -> Result<(), NoMemory>
+        requires { c < length self.old.world.places }
+        ensures world { OnOk result ((p : PlaceRecord ControllerRecord) → slice_get self.old.world.places c ≡ Some p → self.new.world ≡ with_place self.old.world c (held_by 0 p)) }
+        ensures history { OnOk result (self.new.history.items ≡ self.old.history.items ++ event.Take 0 c ∷ []) }
+        ensures journal { self.new.journal.items ≡ self.old.journal.items }
+    {
+        self.history.push(Event::Take {
+            worker: WORKER,
+            controller: c,
+        })?;
+        self.world.hold(WORKER, c);
+        Ok(())
+    }
 
-/// The wake-up of the controller that the worker holds ended.
-pub fn finish_one(
-    setting: &Setting,
-    book: Book,
-    worker: u32,
-    c: u32,
-    after: Controller,
-    end: End,
-) -> Result<Book, NoMemory>
-    requires run { IsRunSoFar setting.now book }
-    requires running { book.world.verdict ≡ None }
-    requires ended { IsSomeAnd (slice_get book.world.places c) (λ p. IsTrue (is_holder worker p.holder) × (ended_by book.world.now p.controller (scan_at setting.now book.world c p) ≡ Some (after, end))) }
-    requires worker { worker ≡ 0 }
-    ensures run { IfOk result (IsRunSoFar setting.now) }
-    ensures back { IfOk result (λ next. next.world ≡ with_place book.world c (record { controller = after; finished = true; holder = None })) }
-{
-    let Book {
-        world,
-        history,
-        journal,
-    } = book;
-    let (world, entry) = done(setting, world, worker, c, after, end);
-    let event = Event::Done {
-        worker,
-        controller: c,
-    };
-    with_step(world, history, journal, event, entry)
+    /// One scan of the controller that the worker holds fired, and left this controller.
+    pub fn fire(
+        &mut self,
+        alloc: Global,
+        c: u32,
+        note: FireNote,
+        consumed: Seq<MsgNo>,
+        mut after: Controller,
+    ) -> Result<(), NoMemory>
+        requires there { c < length self.old.world.places }
+        requires fits { after.fired + 1 < 2 ^ 64 }
+        ensures world { OnOk result ((p : PlaceRecord ControllerRecord) → slice_get self.old.world.places c ≡ Some p → self.new.world ≡ with_place self.old.world c (with_controller p (with_one_fired after))) }
+        ensures history { OnOk result (self.new.history.items ≡ self.old.history.items ++ event.Fire 0 c ∷ []) }
+        ensures journal { OnOk result (self.new.journal.items ≡ self.old.journal.items ++ fired_entry self.old.world.now c note (consuming consumed) ∷ []) }
+    {
+        let entry = Entry::Fired {
+            cycle: self.world.now,
+            controller: c,
+            note,
+            consumed,
+            sent: Seq::new(alloc),
+            stalled: Seq::new(alloc),
+            woken: Seq::new(alloc),
+            recycled: Seq::new(alloc),
+        };
+        after.fired += 1;
+        self.world.put(c, after);
+        self.note(
+            Event::Fire {
+                worker: WORKER,
+                controller: c,
+            },
+            entry,
+        )
+    }
+
+    /// The wake-up of the controller that the worker holds ended so, and left this controller.
+    pub fn finish(&mut self, c: u32, after: Controller, end: End) -> Result<(), NoMemory>
+        requires { c < length self.old.world.places }
+        ensures world { self.new.world ≡ with_place self.old.world c (record { controller = after; finished = true; holder = None }) }
+        ensures history { OnOk result (self.new.history.items ≡ self.old.history.items ++ event.Done 0 c ∷ []) }
+        ensures journal { OnOk result (self.new.journal.items ≡ self.old.journal.items ++ entry.Ended self.old.world.now c end ∷ []) }
+    {
+        let entry = Entry::Ended {
+            cycle: self.world.now,
+            controller: c,
+            end,
+        };
+        self.world.give_back(c, after);
+        self.note(
+            Event::Done {
+                worker: WORKER,
+                controller: c,
+            },
+            entry,
+        )
+    }
 }

@@ -1,15 +1,15 @@
 //! A whole run on one thread by the plain driver, from the opening to a verdict, and its record. Each event of it is one
-//! step of the world, as `slicc_meaning` defines it.
+//! step of the world, as `ruby_runs` defines it over the rules of `slicc_meaning`.
 #![tactic(auto)]
 
+mod account;
 mod book;
 mod driver;
-mod marks;
-mod outcomes;
+mod ending;
 mod recording;
 mod run;
-mod steps;
 mod turn;
 mod waking;
+mod world;
 
 pub use recording::run_plain;

@@ -6,15 +6,16 @@ use Rattle.ruby_outside.specs.declared.library.Got.TheVariants as got
 use Rattle.slicc_ast.specs.declared.machine.Machine.{Machine}
 use Rattle.slicc_ast.specs.SmallForm.{IsSmallForm}
 use Rattle.slicc_meaning.specs.declared.plan.Plan.{Plan}
-use Rattle.slicc_meaning.specs.declared.record.Options.{Options}
+use Rattle.ruby_cli.specs.declared.options.Options.{Options}
 use Rattle.slicc_meaning.specs.declared.record.RunRecord.{RunRecord}
-use Rattle.slicc_meaning.specs.declared.world.Topology.{Topology}
-use Rattle.slicc_meaning.specs.Answer.{Answer, Runs, Refused, Absent, TooLarge, IsAnswer, file_limit}
+use Rattle.slicc_meaning.specs.declared.setting.Topology.{Topology}
+use Rattle.ruby_cli.specs.Answer.{Answer, Runs, Refused, Absent, TooLarge, IsAnswer, file_limit}
 use Rattle.slicc_meaning.specs.Plan.{plan_of}
 use Rattle.slicc_meaning.specs.Topology.{plain_of}
-use Rattle.slicc_meaning.proofs.OneRun.{one_record}
 use Rattle.small_form.proofs.Trees.{trees_are_one}
+use Rattle.ruby_cli.proofs.OneRecord.{one_record}
 use Rattle.ruby_cli.specs.Answered.{IsRunOf, IsRight}
+use Rattle.ruby_cli.specs.Asked.{setting_of}
 use Rattle.ruby_cli.specs.Top.{verdict_status}
 
 same_bytes : (files : Files) (o : Options) (a b : List ℕ) → bytes_of files o.protocol ≡ Some a → bytes_of files o.protocol ≡ Some b → a ≡ b
@@ -79,9 +80,8 @@ one_answer files o TooLarge TooLarge is also = refl
 run_is_one : (bytes : List ℕ) (o : Options) (r q : RunRecord) → IsRunOf bytes o r → IsRunOf bytes o q → r ≡ q
 run_is_one bytes o r q is also =
     let tree : is.tree ≡ also.tree = trees_are_one bytes is.tree also.tree is.form also.form in
-    let plan : r.plan ≡ q.plan = is.plan ∙ ap (λ (x : Machine). plan_of x) tree ∙ sym also.plan in
-    let topology : r.topology ≡ q.topology = is.topology ∙ ap (λ (x : Plan). plain_of x) plan ∙ sym also.topology in
-    one_record r q is.whole is.by_one_worker also.whole also.by_one_worker plan topology (is.options ∙ sym also.options)
+    let setting = is.setting ∙ ap (λ (m : Machine). setting_of (plan_of m) (plain_of (plan_of m)) o) tree ∙ sym also.setting in
+    one_record r q is.whole is.by_one_worker also.whole also.by_one_worker setting
 
 pub one_right : (o : Options) (g : Got) (s t : ℕ) (kept other : Option RunRecord) → IsRight o g s kept → IsRight o g t other → (s ≡ t) × (kept ≡ other)
 one_right o (got.Bytes bytes) s t None None is also = (is.0 ∙ sym also.0, refl)

@@ -1,6 +1,6 @@
 -- What a call does, all of it. It reads the protocol's file once, and nothing else; what the read answers decides the
 -- status and the record, and these the text; the text goes to the sink piece by piece, and where a piece isn't written
--- whole nothing follows it and the status is 7. Or memory was wanting: then the status is 8 and the sink is as it was.
+-- whole nothing follows it and the status is 7. Or memory ran out: then the status is 8 and the sink is as it was.
 -- What one read and one write are, the library and the sink say. All this is this project's own.
 use Rattle.std.specs.Prelude.{◌≡◌, ◌⊎◌, ℕ, Bool, Option, None, Some, List, if◌then◌else◌}
 use Rattle.ruby_outside.specs.declared.library.Got.{Got}
@@ -8,25 +8,24 @@ use Rattle.ruby_outside.specs.declared.library.Got.TheVariants.{Bytes, Absent, T
 use Rattle.ruby_outside.specs.declared.sink.Wrote.{Wrote}
 use Rattle.slicc_ast.specs.declared.machine.Machine.{Machine}
 use Rattle.slicc_ast.specs.SmallForm.{IsSmallForm}
-use Rattle.slicc_meaning.specs.declared.record.Options.{Options}
+use Rattle.ruby_cli.specs.declared.options.Options.{Options}
 use Rattle.slicc_meaning.specs.declared.record.RunRecord.{RunRecord}
-use Rattle.slicc_meaning.specs.Answer.{file_limit}
+use Rattle.ruby_cli.specs.Answer.{file_limit}
 use Rattle.slicc_meaning.specs.Plan.{plan_of}
 use Rattle.slicc_meaning.specs.Record.{IsWholeRun}
 use Rattle.slicc_meaning.specs.Topology.{plain_of}
 use Rattle.run_text.specs.Pieces.{IsPutInPieces}
 use Rattle.ruby_cli.specs.Answers.{usage_line}
+use Rattle.ruby_cli.specs.Asked.{setting_of}
 use Rattle.ruby_cli.specs.Top.{IsByOneWorker, verdict_status, whole_text}
 
--- a record of a whole run of the tree of these bytes, with the options that were asked for, by one worker
+-- a record of a whole run of the tree of these bytes, as the options ask, over the plain topology, by one worker
 pub record IsRunOf (bytes : List ℕ) (o : Options) (r : RunRecord) : Type 0 where
   pub whole : IsWholeRun r
   pub by_one_worker : IsByOneWorker r
-  pub options : r.options ≡ o
   pub tree : Machine
   pub form : IsSmallForm bytes tree
-  pub plan : r.plan ≡ plan_of tree
-  pub topology : r.topology ≡ plain_of r.plan
+  pub setting : r.setting ≡ setting_of (plan_of tree) (plain_of (plan_of tree)) o
 
 -- the status and the record that belong to what the read of the protocol's file has answered
 abbrev pub IsRight : Options → Got → ℕ → Option RunRecord → Type 0
@@ -37,7 +36,7 @@ IsRight o TooLarge s kept = (s ≡ 9) × (kept ≡ None)
 IsRight o Failed s kept = (s ≡ 5) × (kept ≡ None)
 IsRight o NoMemory s kept = ⊥
 
--- memory was wanting: nothing was written
+-- memory ran out: nothing was written
 pub record IsUntold {S : Type 0} (before after : S) (kept : Option RunRecord) (status : ℕ) : Type 0 where
   pub status_is : status ≡ 8
   pub nothing_kept : kept ≡ None
@@ -63,7 +62,7 @@ pub record IsUsageTold {S : Type 0} (writes : S → List ℕ → Wrote → S →
   pub text : IsPutInPieces writes before usage_line whole after
   pub status_is : status ≡ (if whole then 2 else 7)
 
--- for words that may ask for nothing; memory may be wanting before the read
+-- for words that may ask for nothing; memory may run out before the read
 abbrev pub IsAnsweredTo :
     {L S : Type 0} (reads : L → List ℕ → ℕ → Got → L → Type 0) (writes : S → List ℕ → Wrote → S → Type 0)
     → Option Options → (library library' : L) (sink sink' : S) → Option RunRecord → ℕ → Type 0

@@ -2,7 +2,7 @@
 -- is absent or too large; that the library that it is read from failed; and how the program is called. The texts are
 -- this project's own.
 use Rattle.std.specs.Prelude.{ℕ, List, [], ◌∷◌, ◌++◌, codes}
-use Rattle.slicc_meaning.specs.Text.{line}
+use Rattle.run_text.specs.Text.{line}
 
 abbrev pub refused_line : List ℕ → List ℕ
 refused_line name = line (codes "refused" ∷ (name ++ codes ":1:1") ∷ codes "U1" ∷ [])

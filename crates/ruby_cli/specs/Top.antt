@@ -5,53 +5,62 @@ use Rattle.std.specs.Prelude.{◌≡◌, ◌+◌, ◌≢◌, ◌⊎◌, ◌==◌
 use Rattle.std.specs.Option.{ForSome}
 use Rattle.ruby_outside.specs.Files.{Files}
 use Rattle.ruby_outside.specs.Sink.{IsCutOff}
-use Rattle.slicc_meaning.specs.declared.record.Options.{Options}
+use Rattle.ruby_cli.specs.declared.options.Options.{Options}
+use Rattle.slicc_meaning.specs.declared.plan.Plan.{Plan}
 use Rattle.slicc_meaning.specs.declared.record.RunRecord.{RunRecord}
-use Rattle.slicc_meaning.specs.declared.record.Verdict.{Verdict}
-use Rattle.slicc_meaning.specs.declared.record.Verdict.TheVariants.{Stop, Quiet, Cycles}
-use Rattle.slicc_meaning.specs.declared.world.World.{World}
-use Rattle.slicc_meaning.specs.Account.{IsAccounted}
-use Rattle.slicc_meaning.specs.Alone.{IsAlone}
-use Rattle.slicc_meaning.specs.Answer.{Answer, Runs, Refused, Absent, TooLarge, IsAnswer}
-use Rattle.slicc_meaning.specs.InvalidExactly.{InvalidExactly}
-use Rattle.slicc_meaning.specs.Record.{IsRecordOf, setting}
+use Rattle.slicc_meaning.specs.declared.setting.Topology.{Topology}
+use Rattle.run_journal.specs.declared.verdict.Verdict.{Verdict}
+use Rattle.run_journal.specs.declared.verdict.Verdict.TheVariants.{Passed, Quiet}
+use Rattle.ruby_runs.specs.Account.{IsAccounted}
+use Rattle.ruby_runs.specs.Alone.{IsAlone}
+use Rattle.ruby_runs.specs.InvalidExactly.{InvalidExactly}
+use Rattle.ruby_runs.specs.WakesOnce.{WakesOnce}
+use Rattle.ruby_runs.specs.World.{World}
+use Rattle.slicc_meaning.specs.declared.controller.Controller.{Controller}
+use Rattle.slicc_meaning.specs.declared.setting.PlainDriver.{PlainDriver}
+use Rattle.ruby_cli.specs.Asked.{setting_of}
+use Rattle.ruby_cli.specs.Answer.{Answer, Runs, Refused, Absent, TooLarge, IsAnswer}
+use Rattle.slicc_meaning.specs.Record.{IsRecordOf}
+use Rattle.slicc_meaning.specs.Rules.{rules}
 use Rattle.run_journal.specs.Tally.{tally}
-use Rattle.slicc_meaning.specs.WakesOnce.{WakesOnce}
-use Rattle.slicc_meaning.specs.Text.{text}
+use Rattle.run_text.specs.Text.{text}
 use Rattle.ruby_cli.specs.Answers.{refused_line, absent_line, too_large_line, fault_line, usage_line}
 
 -- each controller that must wake at a cycle of the record's run wakes in it once, and no other does
 abbrev pub IsWokenOnce : RunRecord → Type 0
-IsWokenOnce r = WakesOnce (setting r) r.history
+IsWokenOnce r = WakesOnce (rules r.setting) r.history
 
 -- each message number of the record's run was sent once and is in exactly one place: consumed by one entry, or in one
 -- inbox, as stalled, recycled or queued; and the account's four parts add up to its first number
 abbrev pub IsMessageAccount : RunRecord → Type 0
 IsMessageAccount r =
-    (w : World) × IsRecordOf r w × IsAccounted r.journal w
+    (w : World Controller PlainDriver) × IsRecordOf r w × IsAccounted (rules r.setting) r.journal w
     × (r.account.sent ≡ r.account.consumed + r.account.queued + r.account.stalled + r.account.recycled)
 
 -- a wake-up ended as `invalid` exactly where its scan triggered a pair without a transition, and then with that pair
 abbrev pub IsInvalidExactly : RunRecord → Type 0
-IsInvalidExactly r = InvalidExactly (setting r) r.history r.journal
+IsInvalidExactly r = InvalidExactly (rules r.setting) r.history r.journal
 
 -- one worker made the run, and took the controllers in the order of their numbers
 abbrev pub IsByOneWorker : RunRecord → Type 0
-IsByOneWorker r = IsAlone (setting r) r.history
+IsByOneWorker r = IsAlone (rules r.setting) r.history
 
 -- one tally, of the one worker, has the counts of its events
 abbrev pub IsTallied : RunRecord → Type 0
 IsTallied r = r.tallies ≡ tally 0 r.history ∷ []
 
--- the record is of what was asked: its options, and where the files are told the plan and the topology
+-- the record is of what was asked: its setting is that of the options, and where the files are told the plan and the
+-- topology are theirs
 abbrev pub IsAsAsked : Option Files → Options → RunRecord → Type 0
-IsAsAsked files o r = (r.options ≡ o) × ForSome files (λ told. IsAnswer told o (Runs r.plan r.topology))
+IsAsAsked files o r =
+    (r.setting ≡ setting_of r.setting.plan r.setting.topology o)
+    × ForSome files (λ told. IsAnswer told o (Runs r.setting.plan r.setting.topology))
 
--- 0 for a run that ended quietly, and 1 for any other
+-- 0 for a run whose checks have passed or that ended quietly, and 1 for any other
 abbrev pub verdict_status : Verdict → ℕ
+verdict_status (Passed cycle checks) = 0
 verdict_status (Quiet cycle) = 0
-verdict_status (Stop cycle c) = 1
-verdict_status (Cycles cycle) = 1
+verdict_status other = 1
 
 -- the whole text that belongs to a status: of the run, or the line of the refusal
 abbrev pub whole_text : Options → Option RunRecord → ℕ → List ℕ
@@ -96,12 +105,13 @@ IsBegun files o kept rose before after =
 abbrev pub KeepsRun : Option Files → Options → Type 0 → Option RunRecord → ℕ → Type 0
 KeepsRun files o rose kept status =
     status ≡ 7
-    → ForSome files (λ told. (r : RunRecord) → IsAnswer told o (Runs r.plan r.topology) → (rose → ⊥) → IsSome kept)
+    → ForSome files (λ told. (plan : Plan) (topology : Topology) → IsAnswer told o (Runs plan topology) → (rose → ⊥) → IsSome kept)
 
 -- where the files are told, a run is right and no count rose, there is a run with 0 or 1, or want of memory
 abbrev pub IsComplete : Option Files → Options → Type 0 → Type 0 → Option RunRecord → ℕ → Type 0
 IsComplete files o read_rose write_rose kept status =
-    ForSome files (λ told. (r : RunRecord) → IsAnswer told o (Runs r.plan r.topology) → (read_rose → ⊥) → (write_rose → ⊥)
+    ForSome files (λ told. (plan : Plan) (topology : Topology) → IsAnswer told o (Runs plan topology)
+    → (read_rose → ⊥) → (write_rose → ⊥)
     → (IsSome kept × IsOneOf (0 ∷ 1 ∷ []) status) ⊎ (status ≡ 8))
 
 -- what belongs to a status for words that may ask for nothing: then it is the usage line, with status 2

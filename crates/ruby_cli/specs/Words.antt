@@ -1,10 +1,10 @@
--- What the words of a command line ask for: `run`, a name, and a number of 0 to 100,000 in at most twenty decimal
+-- What the words of a command line ask for: `run`, a name, and a number of 0 to 1,000,000 in at most twenty decimal
 -- digits, without a sign. Other words ask for nothing. The bounds and the command are this project's own.
 use Rattle.std.specs.Prelude.{ℕ, Bool, Option, None, Some, List, [], ◌∷◌, ◌+◌, ◌-◌, ◌*◌, ◌&&◌, nat_le, fold, length, codes, if◌then◌else◌}
 use Rattle.std.specs.List.{list_all}
 use Rattle.std.specs.Str.{bytes_eq}
-use Rattle.slicc_meaning.specs.declared.record.Command.TheVariants.{Plain}
-use Rattle.slicc_meaning.specs.declared.record.Options.{Options}
+use Rattle.ruby_cli.specs.declared.options.Command.TheVariants.{Plain}
+use Rattle.ruby_cli.specs.declared.options.Options.{Options}
 
 abbrev pub is_digit : ℕ → Bool
 is_digit c = nat_le 48 c && nat_le c 57
@@ -16,7 +16,7 @@ value_of digits = fold (λ v c. v * 10 + (c - 48)) 0 digits
 -- one to twenty digits, of a number within the bound
 abbrev pub is_count : List ℕ → Bool
 is_count word =
-    nat_le 1 (length word) && nat_le (length word) 20 && list_all is_digit word && nat_le (value_of word) 100000
+    nat_le 1 (length word) && nat_le (length word) 20 && list_all is_digit word && nat_le (value_of word) 1000000
 
 -- a plain run of this protocol, with the defaults of all else
 abbrev pub plain_run : List ℕ → ℕ → Options

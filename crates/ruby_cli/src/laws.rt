@@ -2,9 +2,9 @@
 ghost use Rattle.std.specs.Prelude.{◌≡◌, ℕ, Option};
 ghost use Rattle.ruby_outside.specs.Files.{Files};
 ghost use Rattle.ruby_outside.specs.declared.library.Got.{Got};
-ghost use Rattle.slicc_meaning.specs.declared.record.Options.{Options};
+ghost use Rattle.ruby_cli.specs.declared.options.Options.{Options};
 ghost use Rattle.slicc_meaning.specs.declared.record.RunRecord.{RunRecord};
-ghost use Rattle.slicc_meaning.specs.Answer.{Answer, IsAnswer};
+ghost use Rattle.ruby_cli.specs.Answer.{Answer, IsAnswer};
 ghost use Rattle.ruby_cli.specs.Answered.{IsRight};
 
 /// One answer is right to options over a map of files, and one status and record to what a read of the protocol's file

@@ -5,6 +5,7 @@
 mod answers;
 mod exit;
 mod laws;
+mod options;
 mod program;
 mod reply;
 mod top;
@@ -13,10 +14,6 @@ mod words;
 pub use answers::{absent_line, fault_line, refused_line, too_large_line, usage_line};
 pub use exit::exit_code;
 pub use laws::answers_are_one;
+pub use options::{Command, Options};
 pub use program::ruby;
 pub use top::{Done, ruby_alone};
-
-#[cfg(test)]
-mod calls;
-#[cfg(test)]
-mod tests;

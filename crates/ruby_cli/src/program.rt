@@ -3,7 +3,7 @@ ghost use Rattle.std.specs.Prelude.{◌≡◌, ◌≢◌, ◌≤◌, ◌⊎◌, 
 ghost use Rattle.std.specs.Option.{ForSome};
 ghost use Rattle.ruby_outside.specs.Faults.{Rose};
 ghost use Rattle.ruby_outside.specs.Sink.{grown, IsCutOff};
-ghost use Rattle.slicc_meaning.specs.Answer.{Refused, Absent, TooLarge};
+ghost use Rattle.ruby_cli.specs.Answer.{Refused, Absent, TooLarge};
 ghost use Rattle.slicc_meaning.specs.Record.{IsWholeRun};
 ghost use Rattle.ruby_cli.specs.Answered.{IsAnsweredTo, IsUntold, IsUsageTold};
 ghost use Rattle.ruby_cli.specs.Answers.{usage_line as usage_text};

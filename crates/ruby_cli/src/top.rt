@@ -2,17 +2,19 @@
 ghost use Rattle.std.specs.Prelude.{◌≡◌, ◌≢◌, ◌<◌, ◌≤◌, ◌^◌, ◌∷◌, [], None, true, IfOk, IfSome, IsUtf8, is_some};
 ghost use Rattle.ruby_outside.specs.Faults.{Rose};
 ghost use Rattle.ruby_outside.specs.Sink.{grown};
-ghost use Rattle.slicc_meaning.specs.Answer.{Refused, Absent, TooLarge};
+ghost use Rattle.ruby_cli.specs.Answer.{Refused, Absent, TooLarge};
 ghost use Rattle.slicc_meaning.specs.Record.{IsWholeRun};
 ghost use Rattle.ruby_cli.specs.Answered.{IsAnswered};
 ghost use Rattle.ruby_cli.specs.Reply.{IsReadOnce, IsReply, IsReplyBy, reply_text, done_with};
 ghost use Rattle.ruby_cli.specs.Top.{IsWokenOnce, IsMessageAccount, IsInvalidExactly, IsTallied, IsByOneWorker, IsAsAsked, IsVerdictStatus, IsStatusOf, IsOneOf, IsBegun, KeepsRun, IsComplete, whole_text, verdict_status as verdict_status_of};
 
+use crate::Options;
 use crate::reply::{Reply, find_reply, text_of_reply};
 use ruby_base::{NoMemory, Text};
 use ruby_outside::{Library, Sink};
+use run_journal::Verdict;
 use run_text::write_lines;
-use slicc_meaning::{Options, RunRecord, Verdict};
+use slicc_meaning::RunRecord;
 use std::alloc::Global;
 
 /// What a call of the program answers.
@@ -28,8 +30,8 @@ fn verdict_status(verdict: Verdict) -> u8
     ensures { result ≡ verdict_status_of verdict }
 {
     match verdict {
-        Verdict::Quiet { .. } => 0,
-        Verdict::Stop { .. } | Verdict::Cycles { .. } => 1,
+        Verdict::Passed { .. } | Verdict::Quiet { .. } => 0,
+        _ => 1,
     }
 }
 
@@ -48,10 +50,10 @@ fn kept(reply: Reply) -> Done
             status: verdict_status(record.verdict),
             kept: Some(record),
         },
-        Reply::Refused(_) => without_run(3),
-        Reply::Absent(_) => without_run(6),
-        Reply::TooLarge(_) => without_run(9),
-        Reply::Faulted(_) => without_run(5),
+        Reply::Refused => without_run(3),
+        Reply::Absent => without_run(6),
+        Reply::TooLarge => without_run(9),
+        Reply::Faulted => without_run(5),
     }
 }
 
@@ -68,29 +70,29 @@ fn finish(reply: Reply, written: bool) -> Done
 // The reply and its whole text, for which all memory is taken before anything is written.
 fn prepare<L: Library>(
     alloc: Global,
-    options: Options,
+    options: &Options,
     library: &mut L,
 ) -> Result<(Reply, Text), NoMemory>
-    requires name { IsUtf8 options.protocol }
-    requires count { options.count ≤ 100000 }
-    requires cycles { options.cycles < 2 ^ 63 }
-    requires limit { options.limit < 2 ^ 63 }
-    ensures read { IsReadOnce L.reads options library.old library.new (λ got. IfOk result (λ r. IsReplyBy options got r.0)) }
-    ensures reply { IfOk result (λ r. IsReply (L.files library.old) (Rose (L.faults library.old) (L.faults library.new)) options r.0) }
-    ensures text { IfOk result (λ r. r.1 ≡ reply_text r.0) }
+    requires name { IsUtf8 options.now.protocol }
+    requires cycles { options.now.cycles < 2 ^ 63 }
+    requires limit { options.now.limit < 2 ^ 63 }
+    ensures read { IsReadOnce L.reads options.now library.old library.new (λ got. IfOk result (λ r. IsReplyBy options.now got r.0)) }
+    ensures reply { IfOk result (λ r. IsReply (L.files library.old) (Rose (L.faults library.old) (L.faults library.new)) options.now r.0) }
+    ensures text { IfOk result (λ r. r.1 ≡ reply_text options.now r.0) }
     ensures files { L.files library.new ≡ L.files library.old }
     ensures counts { L.faults library.old ≤ L.faults library.new }
 {
     let reply = find_reply(alloc, options, library)?;
-    let text = text_of_reply(alloc, &reply)?;
+    let text = text_of_reply(alloc, options, &reply)?;
     Ok((reply, text))
 }
 
 /// Answers what the options ask for over a library, and writes its text to a sink. It waits for nobody and returns.
 ///
-/// The status is 0 for a run that ended quietly and 1 for any other run; 3, 6 or 9 where the protocol's file is of
-/// another form, absent or too long; 5 where the library met a fault; 7 where the sink did, and then a beginning of the
-/// text is written; and 8 for want of memory, and then nothing is written. The statuses are this project's own.
+/// The status is 0 for a run whose checks have passed or that ended quietly, and 1 for any other run; 3, 6 or 9 where the
+/// protocol's file is of another form, absent or too long; 5 where the library met a fault; 7 where the sink did, and then
+/// a beginning of the text is written; and 8 where memory ran out, and then nothing is written. The statuses are this
+/// project's own.
 pub fn ruby_alone<L: Library, S: Sink>(
     alloc: Global,
     options: Options,
@@ -98,7 +100,7 @@ pub fn ruby_alone<L: Library, S: Sink>(
     sink: &mut S,
 ) -> Done
     requires name { IsUtf8 options.protocol }
-    requires count { options.count ≤ 100000 }
+    requires count { options.count ≤ 1000000 }
     requires cycles { (1 ≤ options.cycles) × (options.cycles ≤ 10 ^ 12) }
     requires limit { (1 ≤ options.limit) × (options.limit ≤ 1000) }
 
@@ -136,7 +138,7 @@ pub fn ruby_alone<L: Library, S: Sink>(
     ensures sink_counts { S.faults sink.old ≤ S.faults sink.new }
     ensures tells { is_some (S.written sink.new) ≡ is_some (S.written sink.old) }
 {
-    match prepare(alloc, options, library) {
+    match prepare(alloc, &options, library) {
         Err(NoMemory) => without_run(8),
         Ok((reply, text)) => {
             let written = write_lines(sink, text.as_slice());

@@ -3,12 +3,12 @@ ghost use Rattle.std.specs.Prelude.{◌≡◌, ◌≤◌, ◌<◌, ◌*◌, ◌+
 ghost use Rattle.std.specs.List.{list_all};
 ghost use Rattle.ruby_cli.specs.Words.{is_digit as is_digit_byte, is_count as is_count_word, value_of, asked as asked_of};
 
+use crate::{Command, Options};
 use ruby_base::{NoMemory, Text};
-use slicc_meaning::{Command, Options};
 use std::alloc::Global;
 
 // The most requests of a plain run.
-const MOST_REQUESTS: u64 = 100_000;
+const MOST_REQUESTS: u64 = 1_000_000;
 
 fn is_digit(c: u8) -> bool
     ensures { result ≡ is_digit_byte c }
@@ -25,8 +25,8 @@ fn are_digits(word: &[u8]) -> bool
 // The value of digits, or none where it is above the bound.
 fn value(word: &[u8]) -> Option<u64>
     requires { IsTrue (list_all is_digit_byte word.now) }
-    ensures some { IfSome result (λ n. (n ≡ value_of word.now) × (n ≤ 100000)) }
-    ensures none { IfNone result (100000 < value_of word.now) }
+    ensures some { IfSome result (λ n. (n ≡ value_of word.now) × (n ≤ 1000000)) }
+    ensures none { IfNone result (1000000 < value_of word.now) }
 {
     let mut value = 0;
     for c in word {
@@ -52,7 +52,7 @@ fn count(word: &[u8]) -> Option<u64>
 pub fn asked(alloc: Global, words: &[String]) -> Result<Option<Options>, NoMemory>
     ensures asked { IfOk result (λ o. o ≡ asked_of (map string_bytes words.now)) }
     ensures name { IfOk result (λ o. IfSome o (λ options. IsUtf8 options.protocol)) }
-    ensures bounds { IfOk result (λ o. IfSome o (λ options. (options.count ≤ 100000) × (options.cycles ≡ 1000000) × (options.limit ≡ 32))) }
+    ensures bounds { IfOk result (λ o. IfSome o (λ options. (options.count ≤ 1000000) × (options.cycles ≡ 1000000) × (options.limit ≡ 32))) }
 {
     let [command, protocol, number] = words else {
         return Ok(None);

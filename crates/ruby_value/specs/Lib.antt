@@ -8,6 +8,7 @@ pub mod Directory
 pub mod EqualKinds
 pub mod FieldsAt
 pub mod FieldsOf
+pub mod Front
 pub mod HasKind
 pub mod HasKinds
 pub mod HasLawfulSets

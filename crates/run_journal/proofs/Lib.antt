@@ -1,4 +1,4 @@
-mod FinalStates
+pub mod FinalStates
 mod LastStates
 mod PartStates
 mod SomeFinals

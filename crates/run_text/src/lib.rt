@@ -6,6 +6,3 @@ mod text;
 
 pub use lines::write_lines;
 pub use text::{line_of, text_of};
-
-#[cfg(test)]
-mod tests;

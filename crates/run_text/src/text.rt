@@ -1,7 +1,7 @@
 // The text of a run, line by line.
 ghost use Rattle.std.specs.Prelude.{◌≡◌, ◌++◌, IfOk, OnOk};
 ghost use Rattle.std.specs.List.{flat_map};
-ghost use Rattle.slicc_meaning.specs.Text.{entry_line, final_line, text};
+ghost use Rattle.run_text.specs.Text.{entry_line, final_line, text};
 
 mod journal;
 mod names;
@@ -10,7 +10,8 @@ mod words;
 
 use journal::{push_entry, push_final};
 use ruby_base::{NoMemory, Seq, Text};
-use slicc_meaning::{Entry, Final, Plan, RunRecord, Topology};
+use run_journal::{Entry, Final};
+use slicc_meaning::{Plan, RunRecord, Topology};
 use std::alloc::Global;
 use summary::{push_account, push_verdict};
 pub use words::line_of;
@@ -50,8 +51,8 @@ pub fn text_of(alloc: Global, run: &RunRecord) -> Result<Text, NoMemory>
     ensures { IfOk result (λ bytes. bytes ≡ text run.now) }
 {
     let mut out = Seq::new(alloc);
-    let plan = &run.plan;
-    let topology = &run.topology;
+    let plan = &run.setting.plan;
+    let topology = &run.setting.topology;
     push_entries(alloc, &mut out, plan, topology, run.journal.as_slice())?;
     push_finals(alloc, &mut out, plan, topology, run.finals.as_slice())?;
     push_account(alloc, &mut out, &run.account)?;

@@ -1,7 +1,8 @@
 //! What a protocol's text is made of: its tokens, and the trees that the grammar builds of them.
 //!
-//! The language is SLICC's, as Wisconsin GEMS and gem5's Ruby have it. For now only its small form is here: one
-//! machine with one port and one action. Each nonterminal of the grammar is a type.
+//! The language is SLICC's, as Wisconsin GEMS and gem5's Ruby have it. `tree` has a type for each nonterminal of the whole
+//! language. Beside it are the tokens and trees of the small form that is read so far: one machine with one port and one
+//! action.
 #![tactic(auto)]
 
 mod body;

@@ -1,13 +1,15 @@
 -- An inbox with a message more, and one without its front message.
-use Rattle.std.proofs.Common.{◌≡◌, ◌≤◌, ◌+◌, ℕ, Bool, true, false, not, inl, inr, Option, None, Some, List, [], ◌∷◌, refl, sym, ◌∙◌, ap, cond, zero-add, eqb, arith}
+use Rattle.std.proofs.Common.{◌≡◌, ◌≤◌, ◌+◌, ℕ, Bool, true, false, not, inl, inr, Option, None, Some, List, [], ◌∷◌, refl, sym, subst, ⊎_elim, ◌∙◌, ap, cond, Contains, zero-add, eqb, arith}
 use Rattle.std.specs.List.{filter}
 use Rattle.std.proofs.lemmas.Bool.{eqb-true, eq-eqb, and_parts, cases_Bool, and_from}
 use Rattle.std.proofs.lemmas.Bool.Decides.{nat_tests}
 use Rattle.slicc_meaning.specs.declared.controller.Message.{Message}
 use Rattle.ruby_value.specs.declared.message.MsgNo.{MsgNo}
 use Rattle.ruby_value.specs.NumberBefore.{same_number, number_before}
-use Rattle.slicc_meaning.specs.Front.{with_message, without_message, message_before, earlier_message, least_message, front, is_ready}
-use Rattle.slicc_meaning.proofs.Tallies.{one, tally, tally-append, tally-filter_le}
+use Rattle.ruby_value.proofs.Fronts.{front-is as general}
+use Rattle.slicc_meaning.specs.Front.{with_message, without_message, front, is_ready, IsFront}
+use Rattle.ruby_value.proofs.Contained.{Contains-cons_cases}
+use Rattle.ruby_runs.proofs.Tallies.{one, tally, tally-append}
 
 pub same-refl : (a : MsgNo) → same_number a a ≡ true
 same-refl a = and_from (eqb a.sender a.sender) (eqb a.count a.count) (eq-eqb a.sender a.sender refl) (eq-eqb a.count a.count refl)
@@ -111,29 +113,27 @@ mail-without f number (o ∷ inbox) once =
           omega (arith, rest, first, mail-without f number inbox once_more)
     ]
 
--- the message, if there is one, has its number in the inbox
+-- an element that passes counts
+tally-contained : {X : Type 0} (f : X → Bool) (xs : List X) (x : X) → Contains xs x → f x ≡ true → 1 ≤ tally f xs
+tally-contained f [] x has passes = absurd (omega (arith, has.1))
+tally-contained f (y ∷ ys) x has passes =
+    ⊎_elim
+    (λ same. let here : one (f y) ≡ 1 = ap one (subst (λ z. f z ≡ true) (sym same) passes) in omega (arith, here))
+    (λ there. omega (arith, tally-contained f ys x there passes))
+    (Contains-cons_cases y x ys has)
+
+-- the front, if there is one, has its number in the inbox
 abbrev pub IsIn : List Message → Option Message → Type 0
 IsIn inbox None = Unit {0}
 IsIn inbox (Some m) = 1 ≤ mail (same_number m.number) inbox
 
-earlier-in : (m : Message) (inbox : List Message) (o : Option Message) → IsIn inbox o → IsIn (m ∷ inbox) (Some (earlier_message m o))
-earlier-in m inbox None is_in =
-    let here : one (same_number m.number m.number) ≡ 1 = ap (λ b. one b) (same-refl m.number) in
-    omega (arith, here)
-earlier-in m inbox (Some o) is_in =
-    let here : one (same_number m.number m.number) ≡ 1 = ap (λ b. one b) (same-refl m.number) in
-    elim (message_before o m) as (λ b. IsIn (m ∷ inbox) (Some (cond b o m))) [
-      | true ↦ omega (arith, is_in)
-      | false ↦ omega (arith, here)
-    ]
+is-in : (inbox : List Message) (buffer now : ℕ) (o : Option Message) → IsFront inbox buffer now o → IsIn inbox o
+is-in inbox buffer now None is = tt
+is-in inbox buffer now (Some m) is =
+    tally-contained (λ (o : Message). same_number m.number o.number) inbox m is.held (same-refl m.number)
 
-least-in : (inbox : List Message) → IsIn inbox (least_message inbox)
-least-in [] = tt
-least-in (m ∷ inbox) = earlier-in m inbox (least_message inbox) (least-in inbox)
-
-in-more : (p : Message → Bool) (inbox : List Message) (o : Option Message) → IsIn (filter p inbox) o → IsIn inbox o
-in-more p inbox None is_in = tt
-in-more p inbox (Some m) is_in = omega (arith, is_in, tally-filter_le (λ (x : Message). same_number m.number x.number) p inbox)
+pub front-is : (inbox : List Message) (buffer now : ℕ) → IsFront inbox buffer now (front inbox buffer now)
+front-is inbox buffer now = general (is_ready buffer now) (λ (m : Message). m.arrival) (λ (m : Message). m.number) inbox
 
 pub front-in : (inbox : List Message) (buffer now : ℕ) → IsIn inbox (front inbox buffer now)
-front-in inbox buffer now = in-more (is_ready buffer now) inbox (front inbox buffer now) (least-in (filter (is_ready buffer now) inbox))
+front-in inbox buffer now = is-in inbox buffer now (front inbox buffer now) (front-is inbox buffer now)

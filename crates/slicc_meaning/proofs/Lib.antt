@@ -1,35 +1,12 @@
-pub mod Optional
 mod Folds
-mod ScansKeep
-pub mod FiredCounts
-pub mod Invalid
-pub mod InvalidRuns
-pub mod KeptMarks
-pub mod Places
-pub mod Cleared
-pub mod Waking
-pub mod WokenOnce
-pub mod Tallies
-pub mod Inboxes
-pub mod Scans
-pub mod Kept
-pub mod Turns
-pub mod Accounting
-pub mod Alone
-pub mod NextCycles
-pub mod Fronts
-pub mod Orders
-pub mod FinalLists
-pub mod Lasting
-pub mod Ordered
+mod Inboxes
+mod Orders
 pub mod OneKey
-pub mod Outcomes
-pub mod OneRun
-pub mod FedScans
-pub mod ShortRuns
-pub mod ShortTurns
-pub mod AlongRuns
-pub mod PlainScans
-pub mod PlainFaults
-pub mod Prompt
-pub mod NeverFull
+pub mod Marks
+mod Ordered
+mod Scans
+mod Outcomes
+pub mod Sound
+pub mod Reported
+pub mod Carried
+pub mod Lawful

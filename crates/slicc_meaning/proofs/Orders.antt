@@ -1,16 +1,10 @@
 -- What a list contains, and what is kept of it by a test.
-use Rattle.std.proofs.Common.{◌≡◌, suc, Bool, true, false, List, [], ◌∷◌, cond, refl, subst, ⊎_elim, Contains, filter, arith}
-pub use Rattle.ruby_value.proofs.Contained.{Contains-cons_cases as head_or_rest}
+use Rattle.std.proofs.Common.{◌≡◌, Bool, true, false, List, [], ◌∷◌, cond, refl, subst, ⊎_elim, Contains, filter, arith}
+pub use Rattle.ruby_value.proofs.Contained.{Contains-cons_cases as head_or_rest, Contains-cons_here as at-head, Contains-cons_there as in-rest}
 
 module _ {X : Type 0} where
   pub nothing-there : (x : X) → Contains [] x → ⊥
   nothing-there x has = omega (arith, has.1)
-
-  pub at-head : (x : X) (xs : List X) → Contains (x ∷ xs) x
-  at-head x xs = (0, omega arith, refl)
-
-  pub in-rest : (y x : X) (ys : List X) → Contains ys x → Contains (y ∷ ys) x
-  in-rest y x ys has = (suc has.0, omega (arith, has.1), has.2)
 
   kept-by : (y x : X) (ys : List X) (p : X → Bool) (b : Bool) → p y ≡ b → p x ≡ true → Contains (y ∷ ys) x → (Contains ys x → Contains (filter p ys) x) → Contains (cond b (y ∷ filter p ys) (filter p ys)) x
   kept-by y x ys p true is passes has rest =

@@ -1,9 +1,10 @@
 -- The messages of a controller. An inbox is a finite map from message numbers to messages, as the list of its messages
--- with ascending numbers. The front of a buffer is the least message by arrival, then number, of those that have
--- arrived and weren't taken aside. The order by number is this project's own.
-use Rattle.std.specs.Prelude.{ℕ, Bool, Option, None, Some, List, [], ◌∷◌, ◌==◌, ◌&&◌, ◌||◌, not, nat_lt, nat_le, is_none, if◌then◌else◌}
+-- with ascending numbers. A message is ready in a buffer where it is in it, has arrived, and doesn't wait under a line; the
+-- front of the buffer is the least of these by arrival, then by number. That the list ascends is this project's own.
+use Rattle.std.specs.Prelude.{ℕ, Bool, Option, List, ◌==◌, ◌&&◌, not, nat_le, is_none}
 use Rattle.std.specs.List.{filter}
 use Rattle.ruby_value.specs.declared.message.MsgNo.{MsgNo}
+use Rattle.ruby_value.specs.Front as general
 use Rattle.ruby_value.specs.Inserted.{inserted}
 use Rattle.ruby_value.specs.NumberBefore.{number_before, same_number}
 use Rattle.slicc_meaning.specs.declared.controller.Message.{Message}
@@ -16,21 +17,14 @@ with_message inbox m = inserted (λ (a b : Message). number_before a.number b.nu
 abbrev pub without_message : List Message → MsgNo → List Message
 without_message inbox number = filter (λ (o : Message). not (same_number o.number number)) inbox
 
--- the message is in the buffer, has arrived, and wasn't taken aside
+-- the message is in the buffer, has arrived, and doesn't wait
 abbrev pub is_ready : ℕ → ℕ → Message → Bool
 is_ready buffer now m = m.buffer == buffer && nat_le m.arrival now && is_none m.waiting
 
--- by arrival, then by number
-abbrev pub message_before : Message → Message → Bool
-message_before a b = nat_lt a.arrival b.arrival || (a.arrival == b.arrival && number_before a.number b.number)
-
-abbrev pub earlier_message : Message → Option Message → Message
-earlier_message m None = m
-earlier_message m (Some o) = if message_before o m then o else m
-
-abbrev pub least_message : List Message → Option Message
-least_message [] = None
-least_message (m ∷ ms) = Some (earlier_message m (least_message ms))
-
 abbrev pub front : List Message → ℕ → ℕ → Option Message
-front inbox buffer now = least_message (filter (is_ready buffer now) inbox)
+front inbox buffer now = general.front (is_ready buffer now) (λ (m : Message). m.arrival) (λ (m : Message). m.number) inbox
+
+-- the same as a relation: a ready message before which no ready one comes, or none where none is ready
+abbrev pub IsFront : List Message → ℕ → ℕ → Option Message → Type 0
+IsFront inbox buffer now answer =
+    general.IsFront (is_ready buffer now) (λ (m : Message). m.arrival) (λ (m : Message). m.number) inbox answer

@@ -2,12 +2,12 @@
 -- messages by their numbers, and its marks. So each address, message number and cycle is in its list at most once.
 -- It doesn't say which of them are there. That the lists ascend is this project's own.
 use Rattle.std.specs.Prelude.{◌<◌, ℕ, AllPairs, All}
+use Rattle.ruby_value.specs.IsBefore.{IsBefore}
+use Rattle.ruby_runs.specs.World.{Place, World}
 use Rattle.slicc_meaning.specs.declared.controller.Controller.{Controller}
 use Rattle.slicc_meaning.specs.declared.controller.Message.{Message}
 use Rattle.slicc_meaning.specs.declared.controller.StateAt.{StateAt}
-use Rattle.slicc_meaning.specs.declared.world.Place.{Place}
-use Rattle.slicc_meaning.specs.declared.world.World.{World}
-use Rattle.ruby_value.specs.IsBefore.{IsBefore}
+use Rattle.slicc_meaning.specs.declared.setting.PlainDriver.{PlainDriver}
 
 pub record IsOrdered (c : Controller) : Type 0 where
   pub by_address : AllPairs (λ (a b : StateAt). a.address < b.address) c.states
@@ -15,5 +15,5 @@ pub record IsOrdered (c : Controller) : Type 0 where
   pub by_cycle : AllPairs (λ (a b : ℕ). a < b) c.marks
 
 -- in a world each controller's lists ascend
-abbrev pub IsWorldOrdered : World → Type 0
-IsWorldOrdered w = All (λ (p : Place). IsOrdered p.controller) w.places
+abbrev pub IsWorldOrdered : World Controller PlainDriver → Type 0
+IsWorldOrdered w = All (λ (p : Place Controller). IsOrdered p.controller) w.places

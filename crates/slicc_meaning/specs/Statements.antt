@@ -7,7 +7,7 @@ use Rattle.slicc_meaning.specs.declared.controller.Acted.{Acted}
 use Rattle.slicc_meaning.specs.declared.controller.Controller.{Controller}
 use Rattle.slicc_meaning.specs.declared.controller.Message.{Message}
 use Rattle.ruby_value.specs.declared.message.MsgNo.{MsgNo}
-use Rattle.slicc_meaning.specs.declared.record.Fault.TheVariants.{Front}
+use Rattle.ruby_value.specs.declared.fault.Fault.TheVariants.{Front}
 use Rattle.slicc_meaning.specs.declared.plan.MachinePlan.{MachinePlan}
 use Rattle.slicc_meaning.specs.declared.plan.PortPlan.{PortPlan}
 use Rattle.slicc_meaning.specs.declared.plan.ActionPlan.{ActionPlan}

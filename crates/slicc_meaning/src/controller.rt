@@ -1,6 +1,10 @@
-use crate::{Fault, FireNote, MsgNo, StopAt};
-use ruby_base::Seq;
+ghost use Rattle.std.specs.Prelude.{◌≡◌, IfOk, OnOk, OnErr};
+ghost use Rattle.slicc_meaning.specs.Controller.{opening_controller, with_message as with_message_of, with_mark as with_mark_of, at_cycle as at_cycle_of};
+
+use crate::front::with_message;
+use crate::{Fault, FireNote, MsgNo, NoMemory, Seq, StopAt, marks_from, with_mark};
 use ruby_value::Ascends;
+use std::alloc::Global;
 
 /// A message in a controller's inbox.
 #[derive(Clone, Copy)]
@@ -10,9 +14,9 @@ pub struct Message {
     pub buffer: u16,
     /// The cycle from which it can be seen.
     pub arrival: u64,
-    /// The line number under which it was taken aside, if it was.
+    /// The line number under which it waits, if it does.
     pub waiting: Option<u64>,
-    /// Whether it was put back with a later arrival.
+    /// Whether it was put off to a later arrival.
     pub recycled: bool,
     /// The byte address of the requested block.
     pub line_address: u64,
@@ -63,7 +67,67 @@ pub struct Controller {
     pub stopped: bool,
 }
 
-/// Where running a list of actions has come to.
+impl Controller {
+    /// A controller as a run begins.
+    pub fn opening(alloc: Global) -> Controller
+        ensures { result ≡ opening_controller }
+    {
+        Controller {
+            states: Seq::new(alloc),
+            inbox: Seq::new(alloc),
+            marks: Seq::new(alloc),
+            fired: 0,
+            stopped: false,
+        }
+    }
+
+    /// A controller of its own with the same content.
+    pub fn copied(alloc: Global, c: &Controller) -> Result<Controller, NoMemory>
+        ensures { IfOk result (λ copy. copy ≡ c.now) }
+    {
+        Ok(Controller {
+            states: Seq::copied(alloc, c.states.as_slice())?,
+            inbox: Seq::copied(alloc, c.inbox.as_slice())?,
+            marks: Seq::copied(alloc, c.marks.as_slice())?,
+            fired: c.fired,
+            stopped: c.stopped,
+        })
+    }
+
+    /// A message that wasn't in the inbox comes, for whose arrival the controller must wake. Without memory the controller is as
+    /// it was.
+    pub fn arrive(&mut self, alloc: Global, m: Message) -> Result<(), NoMemory>
+        ensures ok { OnOk result (self.new ≡ with_mark_of (with_message_of self.old m) m.arrival) }
+        ensures err { OnErr result (self.new ≡ self.old) }
+    {
+        let inbox = with_message(alloc, self.inbox.as_slice(), m)?;
+        let marks = with_mark(alloc, self.marks.as_slice(), m.arrival)?;
+        self.inbox = inbox;
+        self.marks = marks;
+        Ok(())
+    }
+
+    /// The controller must wake at one more cycle. Without memory it is as it was.
+    pub fn mark(&mut self, alloc: Global, cycle: u64) -> Result<(), NoMemory>
+        ensures ok { OnOk result (self.new ≡ with_mark_of self.old cycle) }
+        ensures err { OnErr result (self.new ≡ self.old) }
+    {
+        self.marks = with_mark(alloc, self.marks.as_slice(), cycle)?;
+        Ok(())
+    }
+
+    /// A cycle begins: older marks go, and no transition has been fired in it. Without memory the controller is as it was.
+    pub fn begin(&mut self, alloc: Global, now: u64) -> Result<(), NoMemory>
+        ensures ok { OnOk result (self.new ≡ at_cycle_of self.old now) }
+        ensures err { OnErr result (self.new ≡ self.old) }
+    {
+        self.marks = marks_from(alloc, self.marks.as_slice(), now)?;
+        self.fired = 0;
+        Ok(())
+    }
+}
+
+/// What a list of actions has done.
 #[derive(Drop)]
 pub struct Acted {
     pub controller: Controller,
@@ -73,7 +137,7 @@ pub struct Acted {
     pub fault: Option<Fault>,
 }
 
-/// What one scan of a controller comes to.
+/// What one scan of a controller answers.
 #[derive(Drop)]
 pub enum Scanned {
     /// It has fired as many transitions in this cycle as it may.

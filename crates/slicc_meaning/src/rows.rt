@@ -1,8 +1,8 @@
 // The written transitions for a pair of state and event.
-ghost use Rattle.std.specs.Prelude.{◌≡◌, ◌==◌, slice_get};
+ghost use Rattle.std.specs.Prelude.{◌≡◌, ◌==◌};
 ghost use Rattle.std.specs.List.{list_any};
 ghost use Rattle.std.specs.Option.{option_copied};
-ghost use Rattle.slicc_meaning.specs.Rows.{is_for as is_for_pair, rows};
+ghost use Rattle.slicc_meaning.specs.Rows.{is_for as is_for_pair, first_row as first_row_of};
 
 use crate::{MachinePlan, WrittenTransition};
 
@@ -20,7 +20,7 @@ fn is_for(t: &WrittenTransition, state: u16, event: u16) -> bool
 
 /// The first written transition of the machine for a pair of state and event, if there is one.
 pub fn first_row(m: &MachinePlan, state: u16, event: u16) -> Option<&WrittenTransition>
-    ensures { option_copied result ≡ slice_get (rows m.now state event) 0 }
+    ensures { option_copied result ≡ first_row_of m.now state event }
 {
     let transitions = m.transitions.as_slice();
     for t in transitions {

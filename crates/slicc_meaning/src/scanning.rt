@@ -1,25 +1,12 @@
 // One scan of a controller.
 ghost use Rattle.std.specs.Prelude.{◌≡◌, IfOk};
 ghost use Rattle.slicc_meaning.specs.Scan.{scan as scan_of, run_port as run_port_of, scan_ports as scan_ports_of};
-ghost use Rattle.slicc_meaning.specs.FiredCount.{KeepsFired, FiresBelow};
+ghost use Rattle.slicc_meaning.specs.Scanned.{outcome_of, KeepsFired, FiresBelow};
+ghost use Rattle.slicc_meaning.specs.Try.{untriggered};
 
 use crate::trigger::if_ready;
-use crate::{Controller, MachinePlan, PortPlan, Scanned};
-use ruby_base::{NoMemory, Seq};
+use crate::{Controller, MachinePlan, NoMemory, PortPlan, Scanned};
 use std::alloc::Global;
-
-/// A controller of its own with the same content.
-pub fn copy_of(alloc: Global, c: &Controller) -> Result<Controller, NoMemory>
-    ensures { IfOk result (λ copy. copy ≡ c.now) }
-{
-    Ok(Controller {
-        states: Seq::copied(alloc, c.states.as_slice())?,
-        inbox: Seq::copied(alloc, c.inbox.as_slice())?,
-        marks: Seq::copied(alloc, c.marks.as_slice())?,
-        fired: c.fired,
-        stopped: c.stopped,
-    })
-}
 
 fn run_port(
     alloc: Global,
@@ -28,7 +15,7 @@ fn run_port(
     scanned: Scanned,
     p: &PortPlan,
 ) -> Result<Scanned, NoMemory>
-    ensures { IfOk result (λ after. after ≡ run_port_of m.now now scanned p.now) }
+    ensures { IfOk result (λ after. outcome_of after ≡ (run_port_of m.now now (untriggered (outcome_of scanned)) p.now).outcome) }
 {
     match scanned {
         Scanned::Idle { controller } => if_ready(alloc, m, &p.body, controller, now),
@@ -37,7 +24,7 @@ fn run_port(
 }
 
 fn scan_ports(alloc: Global, m: &MachinePlan, c: Controller, now: u64) -> Result<Scanned, NoMemory>
-    ensures { IfOk result (λ after. after ≡ scan_ports_of m.now m.now.ports c now) }
+    ensures { IfOk result (λ after. outcome_of after ≡ (scan_ports_of m.now m.now.ports c now).outcome) }
 {
     let mut scanned = Scanned::Idle { controller: c };
     for p in m.ports.as_slice() {
@@ -46,8 +33,8 @@ fn scan_ports(alloc: Global, m: &MachinePlan, c: Controller, now: u64) -> Result
     Ok(scanned)
 }
 
-/// One scan of a controller of the machine at a cycle, in which it may fire so many transitions. The controller stays
-/// as it is; the outcome has the one after the scan.
+/// One scan of a controller of the machine at a cycle, in which it may fire `limit` transitions. The controller stays
+/// as it is; the answer has the one after the scan.
 pub fn scan(
     alloc: Global,
     m: &MachinePlan,
@@ -55,14 +42,14 @@ pub fn scan(
     now: u64,
     limit: u64,
 ) -> Result<Scanned, NoMemory>
-    ensures scan { IfOk result (λ after. after ≡ scan_of m.now c.now now limit) }
+    ensures outcome { IfOk result (λ after. outcome_of after ≡ (scan_of m.now c.now now limit).outcome) }
     ensures same_count { IfOk result (KeepsFired c.now) }
     ensures below_limit { IfOk result (FiresBelow limit c.now) }
 {
     if limit <= c.fired {
         return Ok(Scanned::Full);
     }
-    let copy = copy_of(alloc, c)?;
+    let copy = Controller::copied(alloc, c)?;
     let scanned = scan_ports(alloc, m, copy, now)?;
     Ok(scanned)
 }

@@ -1,11 +1,10 @@
 // What the statements of actions do to a controller, and which message a port sees.
-ghost use Rattle.std.specs.Prelude.{◌≡◌, [], IfOk, Option, Some, None, slice_get};
+ghost use Rattle.std.specs.Prelude.{◌≡◌, [], IfOk, OnOk, Option, Some, None, slice_get};
 ghost use Rattle.std.specs.Option.{option_copied};
 ghost use Rattle.slicc_meaning.specs.Statements.{buffer_of as buffer_of_number, front_of as front_of_port, dequeue as dequeue_of, run_action as run_action_of, act as act_of, run_actions as run_actions_of};
 
 use crate::front::{front, without_message};
-use crate::{Acted, ActionPlan, Controller, Fault, MachinePlan, Message};
-use ruby_base::{NoMemory, Seq};
+use crate::{Acted, ActionPlan, Controller, Fault, MachinePlan, Message, NoMemory, Seq};
 use std::alloc::Global;
 
 fn buffer_of(m: &MachinePlan, port: u16) -> u16
@@ -24,37 +23,33 @@ pub fn front_of(m: &MachinePlan, port: u16, c: &Controller, now: u64) -> Option<
     front(c.inbox.as_slice(), buffer_of(m, port), now)
 }
 
-fn dequeue(alloc: Global, mut acted: Acted, front: Option<Message>) -> Result<Acted, NoMemory>
-    requires { acted.fault ≡ None }
-    ensures { IfOk result (λ after. after ≡ dequeue_of acted.controller acted.consumed front) }
+fn dequeue(alloc: Global, acted: &mut Acted, front: Option<Message>) -> Result<(), NoMemory>
+    requires { acted.old.fault ≡ None }
+    ensures { OnOk result (acted.new ≡ dequeue_of acted.old.controller acted.old.consumed front) }
 {
     match front {
-        None => Ok(Acted {
-            controller: acted.controller,
-            consumed: acted.consumed,
-            fault: Some(Fault::Front),
-        }),
+        None => acted.fault = Some(Fault::Front),
         Some(m) => {
             let rest = without_message(alloc, acted.controller.inbox.as_slice(), m.number)?;
             acted.consumed.push(m.number)?;
             acted.controller.inbox = rest;
-            Ok(acted)
         }
     }
+    Ok(())
 }
 
 fn run_action(
     alloc: Global,
     m: &MachinePlan,
     action: Option<&ActionPlan>,
-    acted: Acted,
+    acted: &mut Acted,
     now: u64,
-) -> Result<Acted, NoMemory>
-    requires { acted.fault ≡ None }
-    ensures { IfOk result (λ after. after ≡ run_action_of m.now (option_copied action.entry) acted.controller acted.consumed now) }
+) -> Result<(), NoMemory>
+    requires { acted.old.fault ≡ None }
+    ensures { OnOk result (acted.new ≡ run_action_of m.now (option_copied action.entry) acted.old.controller acted.old.consumed now) }
 {
     match action {
-        None => Ok(acted),
+        None => Ok(()),
         Some(a) => {
             let front = front_of(m, a.body.port, &acted.controller, now);
             dequeue(alloc, acted, front)
@@ -66,13 +61,13 @@ fn act(
     alloc: Global,
     m: &MachinePlan,
     now: u64,
-    acted: Acted,
+    acted: &mut Acted,
     action: u16,
-) -> Result<Acted, NoMemory>
-    ensures { IfOk result (λ after. after ≡ act_of m.now now acted action) }
+) -> Result<(), NoMemory>
+    ensures { OnOk result (acted.new ≡ act_of m.now now acted.old action) }
 {
     if acted.fault.is_some() {
-        return Ok(acted);
+        return Ok(());
     }
     run_action(alloc, m, m.actions.get(action as usize), acted, now)
 }
@@ -93,7 +88,7 @@ pub fn run_actions(
         fault: None,
     };
     for action in actions {
-        acted = act(alloc, m, now, acted, *action)?;
+        act(alloc, m, now, &mut acted, *action)?;
     }
     Ok(acted)
 }

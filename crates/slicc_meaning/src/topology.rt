@@ -1,11 +1,9 @@
 // Which controllers there are, and of which machine each is.
 ghost use Rattle.std.specs.Prelude.{◌≡◌, ◌++◌, IfOk, codes};
-ghost use Rattle.slicc_meaning.specs.Topology.{plain_of as plain_of_plan};
-ghost use Rattle.slicc_meaning.specs.World.{machine_of as machine_of_controller};
+ghost use Rattle.slicc_meaning.specs.Topology.{plain_of as plain_of_plan, machine_of as machine_of_controller};
 
 use crate::single::single;
-use crate::{MachinePlan, Plan, Seat, Topology};
-use ruby_base::{NoMemory, Seq, Text};
+use crate::{MachinePlan, NoMemory, Plan, Seat, Seq, Text, Topology};
 use std::alloc::Global;
 
 fn name_of(alloc: Global, m: &MachinePlan) -> Result<Text, NoMemory>
@@ -37,7 +35,7 @@ pub fn plain_of(alloc: Global, plan: &Plan) -> Result<Topology, NoMemory>
     })
 }
 
-/// The number of a controller's machine, where each machine has so many controllers.
+/// The number of a controller's machine, where `counts` has each machine's number of controllers.
 pub fn machine_of(counts: &[u32], controller: u32) -> usize
     ensures { result ≡ machine_of_controller counts.now controller }
 {

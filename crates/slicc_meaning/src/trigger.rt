@@ -1,15 +1,16 @@
 // `trigger`, and the statements of a port's body that lead to it.
 ghost use Rattle.std.specs.Prelude.{◌≡◌, IfOk};
 ghost use Rattle.std.specs.Option.{option_copied};
+ghost use Rattle.slicc_meaning.specs.Scanned.{outcome_of};
 ghost use Rattle.slicc_meaning.specs.Try.{stop_at as stop_at_of, settled as settled_of, fire_first as fire_first_of, try_event as try_event_of, peek as peek_of, if_ready as if_ready_of};
 
 use crate::rows::first_row;
 use crate::statements::{front_of, run_actions};
 use crate::states::{line_of, state_at, with_state};
 use crate::{
-    Acted, Controller, Fault, FireNote, If, MachinePlan, Peek, Scanned, StopAt, WrittenTransition,
+    Acted, Controller, Fault, FireNote, If, MachinePlan, NoMemory, Peek, Scanned, StopAt,
+    WrittenTransition,
 };
-use ruby_base::NoMemory;
 use std::alloc::Global;
 
 // What was triggered, for an address in a state.
@@ -21,7 +22,7 @@ struct Pair {
 }
 
 fn stop_at(pair: Pair, fault: Fault) -> Scanned
-    ensures { result ≡ stop_at_of pair.address pair.state pair.event fault }
+    ensures { outcome_of result ≡ stop_at_of pair.address pair.state pair.event fault }
 {
     Scanned::Stop(StopAt {
         address: Some(pair.address),
@@ -31,31 +32,29 @@ fn stop_at(pair: Pair, fault: Fault) -> Scanned
     })
 }
 
-fn settled(alloc: Global, pair: Pair, next: u16, mut acted: Acted) -> Result<Scanned, NoMemory>
-    ensures { IfOk result (λ after. after ≡ settled_of pair.address pair.state pair.event next acted.controller acted.consumed acted.fault) }
+fn settled(alloc: Global, pair: Pair, next: u16, acted: Acted) -> Result<Scanned, NoMemory>
+    ensures { IfOk result (λ after. outcome_of after ≡ settled_of pair.address pair.state pair.event next acted.controller acted.consumed acted.fault) }
 {
-    match acted.fault {
-        Some(fault) => Ok(stop_at(pair, fault)),
-        None => {
-            let states = with_state(
-                alloc,
-                acted.controller.states.as_slice(),
-                pair.address,
-                next,
-            )?;
-            acted.controller.states = states;
-            Ok(Scanned::Fired {
-                note: FireNote {
-                    address: pair.address,
-                    state: pair.state,
-                    event: pair.event,
-                    next,
-                },
-                consumed: acted.consumed,
-                controller: acted.controller,
-            })
-        }
+    let Acted {
+        mut controller,
+        consumed,
+        fault,
+    } = acted;
+    if let Some(fault) = fault {
+        return Ok(stop_at(pair, fault));
     }
+    let states = with_state(alloc, controller.states.as_slice(), pair.address, next)?;
+    controller.states = states;
+    Ok(Scanned::Fired {
+        note: FireNote {
+            address: pair.address,
+            state: pair.state,
+            event: pair.event,
+            next,
+        },
+        consumed,
+        controller,
+    })
 }
 
 fn fire_first(
@@ -66,7 +65,7 @@ fn fire_first(
     now: u64,
     row: Option<&WrittenTransition>,
 ) -> Result<Scanned, NoMemory>
-    ensures { IfOk result (λ after. after ≡ fire_first_of m.now pair.address pair.state pair.event c now (option_copied row.entry)) }
+    ensures { IfOk result (λ after. outcome_of after ≡ fire_first_of m.now pair.address pair.state pair.event c now (option_copied row.entry)) }
 {
     match row {
         None => Ok(stop_at(pair, Fault::Invalid)),
@@ -85,7 +84,7 @@ fn try_event(
     c: Controller,
     now: u64,
 ) -> Result<Scanned, NoMemory>
-    ensures { IfOk result (λ after. after ≡ try_event_of m.now event address c now) }
+    ensures { IfOk result (λ after. outcome_of after ≡ (try_event_of m.now event address c now).outcome) }
 {
     let address = line_of(address);
     let state = state_at(m.default, c.states.as_slice(), address);
@@ -104,7 +103,7 @@ fn peek(
     c: Controller,
     now: u64,
 ) -> Result<Scanned, NoMemory>
-    ensures { IfOk result (λ after. after ≡ peek_of m.now p.now c now) }
+    ensures { IfOk result (λ after. outcome_of after ≡ (peek_of m.now p.now c now).outcome) }
 {
     match front_of(m, p.port, &c, now) {
         None => Ok(Scanned::Stop(StopAt {
@@ -125,7 +124,7 @@ pub fn if_ready(
     c: Controller,
     now: u64,
 ) -> Result<Scanned, NoMemory>
-    ensures { IfOk result (λ after. after ≡ if_ready_of m.now i.now c now) }
+    ensures { IfOk result (λ after. outcome_of after ≡ (if_ready_of m.now i.now c now).outcome) }
 {
     if front_of(m, i.port, &c, now).is_some() {
         peek(alloc, m, &i.then, c, now)

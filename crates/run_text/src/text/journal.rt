@@ -1,11 +1,13 @@
 // The lines of a run's steps, and of its final states.
 ghost use Rattle.std.specs.Prelude.{◌≡◌, ◌++◌, IfOk, OnOk, string_bytes};
-ghost use Rattle.slicc_meaning.specs.Text.{end_line, entry_line, fault_word as fault_word_of, final_line, fired_line, hexadecimal as hexadecimal_of, or_dash, event_name as event_name_of, state_name as state_name_of};
+ghost use Rattle.run_text.specs.Text.{end_line, entry_line, fault_name as fault_name_of, fault_text as fault_text_of, final_line, fired_line, hexadecimal as hexadecimal_of, or_dash, event_name as event_name_of, state_name as state_name_of};
 
 use crate::text::names::{controller_name, event_name, state_name};
 use crate::text::words::{decimal, hexadecimal, push_line};
 use ruby_base::{NoMemory, Text};
-use slicc_meaning::{End, Entry, Fault, Final, FireNote, Plan, StopAt, Topology};
+use ruby_value::Fault;
+use run_journal::{End, Entry, Final, FireNote, StopAt};
+use slicc_meaning::{Plan, Topology};
 use std::alloc::Global;
 
 fn push_fired(
@@ -34,13 +36,37 @@ fn push_fired(
     )
 }
 
-fn fault_word(fault: &Fault) -> &[u8]
-    ensures { result.now ≡ fault_word_of fault.now }
+fn fault_name(fault: &Fault) -> &[u8]
+    ensures { result.now ≡ fault_name_of fault.now }
 {
     match fault {
         Fault::Invalid => b"invalid",
+        Fault::Assert => b"assert",
+        Fault::Error(_) => b"error",
+        Fault::Overflow => b"overflow",
+        Fault::Latency => b"latency",
+        Fault::Reference => b"reference",
         Fault::Front => b"front",
+        Fault::Full => b"full",
+        Fault::Present => b"present",
+        Fault::Absent => b"absent",
+        Fault::Probe => b"probe",
+        Fault::Callback => b"callback",
+        Fault::Route => b"route",
+        Fault::Copies => b"copies",
     }
+}
+
+// The name of a fault, with the text that the protocol gave to an `error`.
+fn fault_text(alloc: Global, fault: &Fault) -> Result<Text, NoMemory>
+    ensures { IfOk result (λ text. text ≡ fault_text_of fault.now) }
+{
+    let Fault::Error(given) = fault else {
+        return Text::copied(alloc, fault_name(fault));
+    };
+    let mut text = Text::copied(alloc, b"error ")?;
+    text.append(given.as_slice())?;
+    Ok(text)
 }
 
 fn address_or_dash(alloc: Global, address: Option<u64>) -> Result<String, NoMemory>
@@ -65,6 +91,7 @@ fn push_stop(
 {
     let cycle = decimal(alloc, cycle)?;
     let address = address_or_dash(alloc, at.address)?;
+    let fault = fault_text(alloc, &at.fault)?;
     let state = at.state.map_or(
         "-".as_bytes(),
         |s| state_name(plan, topology, controller, s),
@@ -73,7 +100,6 @@ fn push_stop(
         "-".as_bytes(),
         |e| event_name(plan, topology, controller, e),
     );
-    let fault = at.fault;
     push_line(
         out,
         b"stop",
@@ -83,7 +109,7 @@ fn push_stop(
             address.as_bytes(),
             state,
             event,
-            fault_word(&fault),
+            fault.as_slice(),
         ],
     )
 }

@@ -1,8 +1,8 @@
 // Names by their numbers.
 ghost use Rattle.std.specs.Prelude.{◌≡◌};
 ghost use Rattle.std.specs.Option.{option_copied};
-ghost use Rattle.slicc_meaning.specs.Text.{event_name as event_name_of, name_at as name_at_number, state_name as state_name_of};
-ghost use Rattle.slicc_meaning.specs.World.{plan_for as plan_for_controller};
+ghost use Rattle.run_text.specs.Text.{event_name as event_name_of, name_at as name_at_number, state_name as state_name_of};
+ghost use Rattle.slicc_meaning.specs.Topology.{plan_for as plan_for_controller};
 
 use ruby_base::Text;
 use slicc_meaning::{MachinePlan, Plan, Topology, machine_of};

@@ -1,7 +1,7 @@
 // Words, and the lines that are made of them.
 ghost use Rattle.std.specs.Prelude.{◌≡◌, ◌∷◌, ◌++◌, IfOk, OnOk, map, string_bytes};
 ghost use Rattle.std.specs.Fmt.{decimal as decimal_of};
-ghost use Rattle.slicc_meaning.specs.Text.{hexadecimal as hexadecimal_of, line};
+ghost use Rattle.run_text.specs.Text.{hexadecimal as hexadecimal_of, line};
 ghost use Rattle.run_text.specs.Line.{rest_of_line};
 
 use ruby_base::{NoMemory, Seq, Text};
@@ -14,7 +14,7 @@ pub fn decimal(alloc: Global, number: u64) -> Result<String, NoMemory>
     Ok(format!(in alloc; "{number}")?)
 }
 
-/// A number in hexadecimal digits, behind `0x`.
+/// A number in hexadecimal digits, after `0x`.
 pub fn hexadecimal(alloc: Global, number: u64) -> Result<String, NoMemory>
     ensures { IfOk result (λ word. string_bytes word ≡ hexadecimal_of number) }
 {
@@ -38,7 +38,7 @@ fn push_rest(out: &mut Text, words: &[&[u8]]) -> Result<(), NoMemory>
     out.push(b'\n')
 }
 
-/// Adds a line to a text: the first word and the others, parted by single spaces, and a line feed.
+/// Adds a line to a text: the first word and the others, separated by single spaces, and a line feed.
 pub fn push_line(out: &mut Text, first: &[u8], others: &[&[u8]]) -> Result<(), NoMemory>
     ensures { OnOk result (out.new ≡ out.old ++ line (first.now ∷ map (λ w. w.now) others.now)) }
 {

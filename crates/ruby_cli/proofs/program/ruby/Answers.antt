@@ -1,6 +1,6 @@
 use Rattle.std.proofs.Common.{◌≡◌, subst}
 use Rattle.ruby_outside.specs.Faults.{Rose}
-use Rattle.slicc_meaning.specs.declared.record.Options.{Options}
+use Rattle.ruby_cli.specs.declared.options.Options.{Options}
 use Rattle.ruby_cli.specs.Top.{KeepsRun}
 use Rattle.ruby_cli.proofs.program.ruby.Goals as goal
 

@@ -36,50 +36,50 @@ done g c =
 run-of : (P : RunRecord → Type 0) → ((r : RunRecord) → IsWholeRun r → P r) → (d : Done) → IfSome d.kept IsWholeRun → IfSome d.kept P
 run-of P follows d whole = for_kept P follows d.kept whole
 
-pub returns-in-Ok-clause-record_is_a_run : goal.returns-in-Ok-clause-record_is_a_run
-returns-in-Ok-clause-record_is_a_run g c = (done g (goal.at.returns-in-Ok-clause-record_is_a_run g c).After-finish).run
+pub returns-clause-record_is_a_run : goal.returns-clause-record_is_a_run
+returns-clause-record_is_a_run g c = (done g (goal.at.returns-clause-record_is_a_run g c).After-finish).run
 
-pub returns-in-Ok-clause-invalid_exactly : goal.returns-in-Ok-clause-invalid_exactly
-returns-in-Ok-clause-invalid_exactly g c =
-    run-of IsInvalidExactly invalid-whole c.finish.result (returns-in-Ok-clause-record_is_a_run g c)
+pub returns-clause-invalid_exactly : goal.returns-clause-invalid_exactly
+returns-clause-invalid_exactly g c =
+    run-of IsInvalidExactly invalid-whole c.finish.result (returns-clause-record_is_a_run g c)
 
-pub returns-in-Ok-clause-woken_once : goal.returns-in-Ok-clause-woken_once
-returns-in-Ok-clause-woken_once g c =
-    run-of IsWokenOnce woken-whole c.finish.result (returns-in-Ok-clause-record_is_a_run g c)
+pub returns-clause-woken_once : goal.returns-clause-woken_once
+returns-clause-woken_once g c =
+    run-of IsWokenOnce woken-whole c.finish.result (returns-clause-record_is_a_run g c)
 
-pub returns-in-Ok-clause-tallied : goal.returns-in-Ok-clause-tallied
-returns-in-Ok-clause-tallied g c =
-    run-of IsTallied tallied-whole c.finish.result (returns-in-Ok-clause-record_is_a_run g c)
+pub returns-clause-tallied : goal.returns-clause-tallied
+returns-clause-tallied g c =
+    run-of IsTallied tallied-whole c.finish.result (returns-clause-record_is_a_run g c)
 
-pub returns-in-Ok-clause-accounted : goal.returns-in-Ok-clause-accounted
-returns-in-Ok-clause-accounted g c = (done g (goal.at.returns-in-Ok-clause-accounted g c).After-finish).accounted
+pub returns-clause-accounted : goal.returns-clause-accounted
+returns-clause-accounted g c = (done g (goal.at.returns-clause-accounted g c).After-finish).accounted
 
-pub returns-in-Ok-clause-as_asked : goal.returns-in-Ok-clause-as_asked
-returns-in-Ok-clause-as_asked g c = (done g (goal.at.returns-in-Ok-clause-as_asked g c).After-finish).asked
+pub returns-clause-as_asked : goal.returns-clause-as_asked
+returns-clause-as_asked g c = (done g (goal.at.returns-clause-as_asked g c).After-finish).asked
 
-pub returns-in-Ok-clause-as_written : goal.returns-in-Ok-clause-as_written
-returns-in-Ok-clause-as_written g c = (done g (goal.at.returns-in-Ok-clause-as_written g c).After-finish).written
+pub returns-clause-as_written : goal.returns-clause-as_written
+returns-clause-as_written g c = (done g (goal.at.returns-clause-as_written g c).After-finish).written
 
-pub returns-in-Ok-clause-cut_off : goal.returns-in-Ok-clause-cut_off
-returns-in-Ok-clause-cut_off g c = (done g (goal.at.returns-in-Ok-clause-cut_off g c).After-finish).cut_off
+pub returns-clause-cut_off : goal.returns-clause-cut_off
+returns-clause-cut_off g c = (done g (goal.at.returns-clause-cut_off g c).After-finish).cut_off
 
-pub returns-in-Ok-clause-keeps_run : goal.returns-in-Ok-clause-keeps_run
-returns-in-Ok-clause-keeps_run g c = (done g (goal.at.returns-in-Ok-clause-keeps_run g c).After-finish).keeps_run
+pub returns-clause-keeps_run : goal.returns-clause-keeps_run
+returns-clause-keeps_run g c = (done g (goal.at.returns-clause-keeps_run g c).After-finish).keeps_run
 
-pub returns-in-Ok-clause-complete : goal.returns-in-Ok-clause-complete
-returns-in-Ok-clause-complete g c = (done g (goal.at.returns-in-Ok-clause-complete g c).After-finish).complete
+pub returns-clause-complete : goal.returns-clause-complete
+returns-clause-complete g c = (done g (goal.at.returns-clause-complete g c).After-finish).complete
 
-pub returns-in-Ok-clause-refused : goal.returns-in-Ok-clause-refused
-returns-in-Ok-clause-refused g c = (done g (goal.at.returns-in-Ok-clause-refused g c).After-finish).refused
+pub returns-clause-refused : goal.returns-clause-refused
+returns-clause-refused g c = (done g (goal.at.returns-clause-refused g c).After-finish).refused
 
-pub returns-in-Ok-clause-absent : goal.returns-in-Ok-clause-absent
-returns-in-Ok-clause-absent g c = (done g (goal.at.returns-in-Ok-clause-absent g c).After-finish).absent
+pub returns-clause-absent : goal.returns-clause-absent
+returns-clause-absent g c = (done g (goal.at.returns-clause-absent g c).After-finish).absent
 
-pub returns-in-Ok-clause-too_large : goal.returns-in-Ok-clause-too_large
-returns-in-Ok-clause-too_large g c = (done g (goal.at.returns-in-Ok-clause-too_large g c).After-finish).too_large
+pub returns-clause-too_large : goal.returns-clause-too_large
+returns-clause-too_large g c = (done g (goal.at.returns-clause-too_large g c).After-finish).too_large
 
-pub returns-in-Ok-clause-answered : goal.returns-in-Ok-clause-answered
-returns-in-Ok-clause-answered g c =
+pub returns-clause-answered : goal.returns-clause-answered
+returns-clause-answered g c =
     let read = c.in-Ok.ensures.read in
     told g.L.Library.reads g.S.Sink.writes c.args.options c.args.library.now c.prepare.new.library c.args.sink.now c.write_lines-written.new.sink
     read.0 c.in-Ok.reply c.write_lines-written.result c.as_slice.result.now c.finish.result read.1 read.2

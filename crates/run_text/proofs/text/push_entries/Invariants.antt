@@ -1,6 +1,6 @@
 use Rattle.std.proofs.Common.{◌≡◌, ◌++◌, drop}
 use Rattle.std.specs.List.{flat_map}
-use Rattle.slicc_meaning.specs.Text.{entry_line}
+use Rattle.run_text.specs.Text.{entry_line}
 use Rattle.run_text.proofs.text.push_entries.Given as goal
 
 abbrev pub invariant-loop-entry : goal.invariant-loop-entry

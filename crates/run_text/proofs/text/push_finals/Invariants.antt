@@ -1,6 +1,6 @@
 use Rattle.std.proofs.Common.{◌≡◌, ◌++◌, drop}
 use Rattle.std.specs.List.{flat_map}
-use Rattle.slicc_meaning.specs.Text.{final_line}
+use Rattle.run_text.specs.Text.{final_line}
 use Rattle.run_text.proofs.text.push_finals.Given as goal
 
 abbrev pub invariant-loop-last : goal.invariant-loop-last

@@ -1,4 +1,4 @@
-use Rattle.slicc_meaning.proofs.Fronts.{front-is}
+use Rattle.slicc_meaning.proofs.Inboxes.{front-is}
 use Rattle.slicc_meaning.proofs.laws.front_comes_first.Goals as goal
 
 pub returns : goal.returns

@@ -1,5 +1,5 @@
-use Rattle.slicc_meaning.proofs.Ordered.{run-ordered}
+use Rattle.slicc_meaning.proofs.Sound.{world-ordered}
 use Rattle.slicc_meaning.proofs.laws.lists_ascend.Goals as goal
 
 pub returns : goal.returns
-returns c = run-ordered
+returns c = world-ordered

@@ -1,5 +1,5 @@
 use Rattle.std.proofs.Common.{◌≡◌, ◌+◌, drop}
-use Rattle.slicc_meaning.specs.World.{machine_of}
+use Rattle.slicc_meaning.specs.Topology.{machine_of}
 use Rattle.slicc_meaning.proofs.topology.machine_of.Given as goal
 
 abbrev pub invariant-loop-machine : goal.invariant-loop-machine

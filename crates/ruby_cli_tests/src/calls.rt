@@ -1,0 +1,365 @@
+// Whole calls over libraries and sinks in memory.
+ghost use Rattle.std.specs.Prelude.{◌≡◌, ◌≤◌, ◌^◌, IfOk, IsUtf8};
+
+use ruby_base::{NoMemory, Seq, Text};
+use ruby_cli::{Command, Options, ruby, ruby_alone};
+use ruby_outside::{Library, MemLibrary, MemSink, OpenGate, Sink, SureLibrary, SureSink};
+use std::alloc::Global;
+use std::sync::Wait;
+use std::test::Fail;
+use std::thread::Threads;
+
+/// The ticker up to where more states may be declared.
+const STATES: &str = "machine(MachineType:Node, \"ticker\")
+  : MessageBuffer * mandatoryQueue;
+{
+  state_declaration(State, desc=\"states\", default=\"Node_State_A\") {
+    A, AccessPermission:Invalid, desc=\"a\";
+    B, AccessPermission:Read_Write, desc=\"b\";
+";
+
+/// The ticker from there to its last transition.
+const REST: &str = "  }
+  enumeration(Event, desc=\"events\") { Go, desc=\"go\"; }
+  in_port(mandatory_in, RubyRequest, mandatoryQueue) {
+    if (mandatory_in.isReady(clockEdge())) {
+      peek(mandatory_in, RubyRequest) {
+        trigger(Event:Go, in_msg.LineAddress);
+      }
+    }
+  }
+  action(p_pop, \"p\", desc=\"pop\") { mandatory_in.dequeue(clockEdge()); }
+  transition(A, Go, B) { p_pop; }
+";
+
+const BACK: &str = "  transition(B, Go, A) { p_pop; }
+";
+
+const THREE: &str = "1 Node-0 0x0 A Go B
+2 Node-0 0x0 B Go A
+3 Node-0 0x0 A Go B
+final Node-0 0x0 B
+messages 3 consumed 3 queued 0 stalled 0 recycled 0
+verdict quiet 3
+";
+
+const NONE: &str = "messages 0 consumed 0 queued 0 stalled 0 recycled 0
+verdict quiet 0
+";
+
+const STOPPED: &str = "1 Node-0 0x0 A Go B
+stop 2 Node-0 0x0 B Go invalid
+final Node-0 0x0 B
+messages 2 consumed 1 queued 1 stalled 0 recycled 0
+verdict stop 2 Node-0
+";
+
+const ABSENT: &str = "absent gone.sm\n";
+
+const REFUSED: &str = "refused tick.sm:1:1 U1\n";
+
+const TOO_LARGE: &str = "too large tick.sm\n";
+
+const FAULT: &str = "library fault tick.sm\n";
+
+const USAGE: &str =
+    "usage: ruby run PROTOCOL TOPOLOGY, check PROTOCOL, table PROTOCOL, code PROTOCOL, gen N
+";
+
+/// What the file holds.
+#[derive(Clone, Copy)]
+enum File {
+    /// The ticker.
+    Ticker,
+    /// The ticker without its last transition.
+    WithoutBack,
+    /// The ticker and spaces after it, as long as a file may be.
+    Longest,
+    /// The ticker and spaces after it, one byte longer.
+    TooLong,
+    /// The ticker with so many states that it has 256.
+    MostStates,
+    /// One state more.
+    TooManyStates,
+    /// A text of another form.
+    Comment,
+}
+
+/// The ticker with `more` states beyond its two, and with this as its last transition.
+fn ticker(alloc: Global, more: u64, last: &str) -> Result<Text, NoMemory> {
+    let mut text = Text::copied(alloc, STATES.as_bytes())?;
+    for i in 0..more {
+        let state = format!(in alloc; "    S{i}, AccessPermission:Busy, desc=\"s\";\n")?;
+        text.append(state.as_bytes())?;
+    }
+    text.append(REST.as_bytes())?;
+    text.append(last.as_bytes())?;
+    text.append(b"}\n")?;
+    Ok(text)
+}
+
+/// The ticker with spaces after it, of `length` bytes.
+fn padded(alloc: Global, length: usize) -> Result<Text, NoMemory> {
+    let mut text = ticker(alloc, 0, BACK)?;
+    let room = length.saturating_sub(text.len());
+    let spaces = vec![in alloc; b' '; room]?;
+    text.append(&spaces)?;
+    Ok(text)
+}
+
+fn bytes_of(alloc: Global, file: File) -> Result<Text, NoMemory> {
+    match file {
+        File::Ticker => ticker(alloc, 0, BACK),
+        File::WithoutBack => ticker(alloc, 0, ""),
+        File::Longest => padded(alloc, 1_048_576),
+        File::TooLong => padded(alloc, 1_048_577),
+        File::MostStates => ticker(alloc, 254, BACK),
+        File::TooManyStates => ticker(alloc, 255, BACK),
+        File::Comment => Text::copied(alloc, b"// a comment"),
+    }
+}
+
+/// The one file `tick.sm`.
+fn files(alloc: Global, file: File) -> Result<Seq<(Text, Text)>, NoMemory> {
+    let mut files = Seq::new(alloc);
+    files.push((Text::copied(alloc, b"tick.sm")?, bytes_of(alloc, file)?))?;
+    Ok(files)
+}
+
+/// The status of a whole call, and whether a record is kept. The tests look at nothing else of what the call's contract
+/// says, so it says nothing.
+fn call<R: Threads + Wait + Sync, L: Library, S: Sink>(
+    rt: &R,
+    alloc: Global,
+    words: &[String],
+    library: &mut L,
+    sink: &mut S,
+) -> (u8, bool) {
+    let done = ruby(rt, alloc, words, library, sink, &OpenGate);
+    (done.status, done.kept.is_some())
+}
+
+/// The same over a library of this file and a sink that never fail. This sink tells nothing of what it takes.
+fn sure_call<R: Threads + Wait + Sync>(
+    rt: &R,
+    alloc: Global,
+    line: &str,
+    file: File,
+) -> Result<(u8, bool), NoMemory> {
+    let asked = words(alloc, line)?;
+    let mut library = SureLibrary::new(alloc, files(alloc, file)?);
+    let mut sink = SureSink::new();
+    Ok(call(rt, alloc, asked.as_slice(), &mut library, &mut sink))
+}
+
+/// The words of a command line, which stand between single spaces.
+fn words(alloc: Global, line: &str) -> Result<Vec<String>, NoMemory> {
+    let mut all = Vec::new(alloc);
+    for word in line.split(' ') {
+        all.push(String::from_str(alloc, word)?)?;
+    }
+    Ok(all)
+}
+
+/// The words, the file, the status, whether a record is kept, and what is written.
+type Row<'a> = (&'a str, File, u8, bool, &'a str);
+
+const ROWS: &[Row] = &[
+    ("run tick.sm 3", File::Ticker, 0, true, THREE),
+    ("run tick.sm 003", File::Ticker, 0, true, THREE),
+    ("run tick.sm 0", File::Ticker, 0, true, NONE),
+    ("run tick.sm 2", File::WithoutBack, 1, true, STOPPED),
+    ("run gone.sm 3", File::Ticker, 6, false, ABSENT),
+    ("run gone.sm 1000000", File::Ticker, 6, false, ABSENT),
+    ("run tick.sm 1000001", File::Ticker, 2, false, USAGE),
+    ("run tick.sm", File::Ticker, 2, false, USAGE),
+    ("walk tick.sm 3", File::Ticker, 2, false, USAGE),
+    ("run tick.sm 3a", File::Ticker, 2, false, USAGE),
+    ("run tick.sm 3 4", File::Ticker, 2, false, USAGE),
+    ("run tick.sm 2", File::Comment, 3, false, REFUSED),
+    ("run tick.sm 3", File::Longest, 0, true, THREE),
+    ("run tick.sm 3", File::TooLong, 9, false, TOO_LARGE),
+    ("run tick.sm 3", File::MostStates, 0, true, THREE),
+    ("run tick.sm 3", File::TooManyStates, 3, false, REFUSED),
+];
+
+/// The status, whether a record is kept, and whether this text is written.
+fn answered<R: Threads + Wait + Sync>(
+    rt: &R,
+    alloc: Global,
+    row: &Row,
+) -> Result<(u8, bool, bool), NoMemory> {
+    let asked = words(alloc, row.0)?;
+    let mut library = MemLibrary::new(alloc, files(alloc, row.1)?, Seq::new(alloc));
+    let mut sink = MemSink::new(alloc, Seq::new(alloc), 4096, 4096)?;
+    let (status, kept) = call(rt, alloc, asked.as_slice(), &mut library, &mut sink);
+    Ok((status, kept, sink.bytes() == row.4.as_bytes()))
+}
+
+#[test]
+fn answers_each_kind_of_call(rt: HostRuntime) -> Result<(), Fail> {
+    for row in ROWS {
+        let answer = answered(&rt, rt.alloc(), row)?;
+        assert_eq!(rt; answer, (row.2, row.3, true), "{}", row.0);
+        let answer = sure_call(&rt, rt.alloc(), row.0, row.1)?;
+        assert_eq!(rt; answer, (row.2, row.3), "{}", row.0);
+    }
+    Ok(())
+}
+
+/// The end of a run that is cut off since its journal is too long. Cycle 0 has one entry, its turn's; each later cycle
+/// has three, of the transition, of the wake-up's end and of the turn. So after cycle 333,333 the journal has 1,000,000
+/// entries, and after the next one 1 + 3 * 333,334. A request was issued at each turn, and the last one isn't seen yet.
+/// The states go from `A` to `B` and back, and the number of transitions is even.
+const LONG_END: &str = "
+333333 Node-0 0x0 A Go B
+333334 Node-0 0x0 B Go A
+final Node-0 0x0 A
+messages 333335 consumed 333334 queued 1 stalled 0 recycled 0
+verdict journal 333334 1000003
+";
+
+/// Whether the text ends so.
+fn ends_with(text: &[u8], end: &[u8]) -> bool {
+    match text.len().checked_sub(end.len()) {
+        None => false,
+        Some(start) => &text[start..] == end,
+    }
+}
+
+/// The status of a run of this file whose text is long, and whether its text ends so.
+fn long_run<R: Threads + Wait + Sync>(
+    rt: &R,
+    alloc: Global,
+    line: &str,
+    end: &str,
+) -> Result<(u8, bool), NoMemory> {
+    let asked = words(alloc, line)?;
+    let mut library = MemLibrary::new(alloc, files(alloc, File::Ticker)?, Seq::new(alloc));
+    let mut sink = MemSink::new(alloc, Seq::new(alloc), 4096, 16_777_216)?;
+    let (status, _) = call(rt, alloc, asked.as_slice(), &mut library, &mut sink);
+    Ok((status, ends_with(sink.bytes(), end.as_bytes())))
+}
+
+#[test]
+fn ends_a_run_whose_journal_is_too_long(rt: HostRuntime) -> Result<(), Fail> {
+    let answer = long_run(&rt, rt.alloc(), "run tick.sm 400000", LONG_END)?;
+    assert_eq!(rt; answer, (1, true));
+    Ok(())
+}
+
+/// The first `count` lines of a text.
+fn first_lines(text: &str, count: usize) -> &[u8] {
+    let bytes = text.as_bytes();
+    let mut left = count;
+    for (i, b) in bytes.iter().enumerate() {
+        if left == 0 {
+            return &bytes[..i];
+        }
+        if *b == b'\n' {
+            left -= 1;
+        }
+    }
+    bytes
+}
+
+fn one(alloc: Global, call: u64) -> Result<Seq<u64>, NoMemory> {
+    let mut calls = Seq::new(alloc);
+    calls.push(call)?;
+    Ok(calls)
+}
+
+/// The file, the failing write, the most bytes that a write takes, the failing read, the status, whether a record is
+/// kept, and of which text how many lines are written.
+type Fault<'a> = (File, u64, u64, u64, u8, bool, &'a str, usize);
+
+const FAULTS: &[Fault] = &[
+    (File::Ticker, 1, 4096, 9, 7, true, THREE, 0),
+    (File::Ticker, 2, 4096, 9, 7, true, THREE, 1),
+    (File::Ticker, 3, 4096, 9, 7, true, THREE, 2),
+    (File::Ticker, 4, 4096, 9, 7, true, THREE, 3),
+    (File::Ticker, 5, 4096, 9, 7, true, THREE, 4),
+    (File::Ticker, 6, 4096, 9, 7, true, THREE, 5),
+    (File::Ticker, 9999, 1, 9, 0, true, THREE, 6),
+    (File::Ticker, 9999, 0, 9, 7, true, THREE, 0),
+    (File::Ticker, 9999, 4096, 1, 5, false, FAULT, 1),
+    (File::Ticker, 1, 4096, 1, 7, false, FAULT, 0),
+    (File::Comment, 1, 4096, 9, 7, false, REFUSED, 0),
+];
+
+/// The status, whether a record is kept, and whether these lines are written.
+fn faulted<R: Threads + Wait + Sync>(
+    rt: &R,
+    alloc: Global,
+    row: &Fault,
+) -> Result<(u8, bool, bool), NoMemory> {
+    let asked = words(alloc, "run tick.sm 3")?;
+    let mut library = MemLibrary::new(alloc, files(alloc, row.0)?, one(alloc, row.3)?);
+    let mut sink = MemSink::new(alloc, one(alloc, row.1)?, row.2, 4096)?;
+    let (status, kept) = call(rt, alloc, asked.as_slice(), &mut library, &mut sink);
+    Ok((status, kept, sink.bytes() == first_lines(row.6, row.7)))
+}
+
+#[test]
+fn answers_each_kind_of_fault(rt: HostRuntime) -> Result<(), Fail> {
+    for row in FAULTS {
+        let answer = faulted(&rt, rt.alloc(), row)?;
+        assert_eq!(rt;
+            answer,
+            (row.4, row.5, true),
+            "write {}, read {}",
+            row.1,
+            row.3
+        );
+    }
+    Ok(())
+}
+
+const CUT: &str = "1 Node-0 0x0 A Go B
+2 Node-0 0x0 B Go A
+final Node-0 0x0 A
+messages 3 consumed 2 queued 1 stalled 0 recycled 0
+verdict cycles 2
+";
+
+const FULL: &str = "1 Node-0 0x0 A Go B
+2 Node-0 0x0 B Go A
+3 Node-0 0x0 A Go B
+final Node-0 0x0 B
+messages 3 consumed 3 queued 0 stalled 0 recycled 0
+verdict quiet 4
+";
+
+/// A plain run of three requests, with these bounds.
+fn options(alloc: Global, name: &str, cycles: u64, limit: u64) -> Result<Options, NoMemory>
+    ensures name { IfOk result (λ o. IsUtf8 o.protocol) }
+    ensures count { IfOk result (λ o. o.count ≡ 3) }
+    ensures bounds { IfOk result (λ o. (o.cycles ≡ cycles) × (o.limit ≡ limit)) }
+{
+    Ok(Options {
+        command: Command::Plain,
+        protocol: Text::copied(alloc, name.as_bytes())?,
+        count: 3,
+        cycles,
+        limit,
+    })
+}
+
+/// The status of a run with these bounds, and whether this text is written.
+fn bounded(alloc: Global, cycles: u64, limit: u64, text: &str) -> Result<(u8, bool), NoMemory>
+    requires cycles { (1 ≤ cycles) × (cycles ≤ 10 ^ 12) }
+    requires limit { (1 ≤ limit) × (limit ≤ 1000) }
+{
+    let mut library = MemLibrary::new(alloc, files(alloc, File::Ticker)?, Seq::new(alloc));
+    let mut sink = MemSink::new(alloc, Seq::new(alloc), 4096, 4096)?;
+    let options = options(alloc, "tick.sm", cycles, limit)?;
+    let done = ruby_alone(alloc, options, &mut library, &mut sink);
+    Ok((done.status, sink.bytes() == text.as_bytes()))
+}
+
+#[test]
+fn keeps_the_bound_on_cycles_and_the_limit(rt: HostRuntime) -> Result<(), Fail> {
+    assert_eq!(rt; bounded(rt.alloc(), 2, 32, CUT)?, (1, true));
+    assert_eq!(rt; bounded(rt.alloc(), 9, 1, FULL)?, (0, true));
+    Ok(())
+}

@@ -1,0 +1,12 @@
+pub mod Steps
+pub mod NextCycles
+pub mod Outcomes
+pub mod Runs
+pub mod Places
+pub mod Fitting
+pub mod Woken
+pub mod Invalid
+pub mod OneRun
+pub mod Tallies
+pub mod Accounting
+pub mod Accounted

@@ -1,0 +1,13 @@
+pub mod Rules
+pub mod World
+pub mod Verdict
+pub mod NextCycle
+pub mod Step
+pub mod Run
+pub mod WakesOnce
+pub mod Outcome
+pub mod Account
+pub mod InvalidExactly
+pub mod Alone
+pub mod Change
+pub mod Premises
