@@ -33,7 +33,7 @@ halted ctl = record ctl { stopped = true }
 abbrev pub outstanding_for : Ctl → ℕ → Option Asked
 outstanding_for ctl line = option_and_then (λ (r : Requests). map.get r.outstanding line) ctl.sequencer
 
--- a request goes under its line
+-- a request of a line that has none outstanding goes under its line
 abbrev pub with_request : Ctl → Asked → Ctl
 with_request ctl asked = record ctl {
   sequencer = option_map (λ (r : Requests). record r { outstanding = map.insert r.outstanding asked.line asked }) ctl.sequencer;

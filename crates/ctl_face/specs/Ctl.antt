@@ -1,6 +1,6 @@
 -- A controller as plain data: its tables, the states of its built-in map, its mail, its sequencer's requests and answers, and
 -- whether it has stopped. Its mail is the messages that were sent to it and not consumed, the cycles at which it must wake,
--- and the counts that its sends go by. Each list and map here has one value for what it stands for.
+-- and the counts that its sends go by.
 -- Numbers of messages, marks and counts are this project's own; tables and buffers are those of gem5's Ruby.
 use Rattle.std.specs.Prelude.{ℕ, Bool, List, Option}
 use Rattle.std.specs.Ordering.{nat_cmp}

@@ -113,7 +113,7 @@ pub record Fits (machine : MachineSetup) (me : ℕ) (ctl : Ctl) (now : ℕ) : Ty
 abbrev pub last_cycle : ℕ
 last_cycle = 10 ^ 12
 
--- what holds of each local that a run makes
+-- what holds of each local that a run makes; of the run's routes more holds, which `RoutesFit` says
 pub record IsLawful (v : LocalView) : Type 0 where
   pub machine : IsMachine v.machine
   pub routes : HasRoutes v.machine v.actor.me v.actor.routes

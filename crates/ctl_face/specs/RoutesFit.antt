@@ -1,10 +1,10 @@
 -- What it means that routes fit: of a whole run, with all machines of its protocol and where their controllers stand, and of
--- one controller, whose acts need no more. The path from each controller to itself takes no cycle. A network keeps order
--- where some buffer of the protocol is called ordered, as it may also where the topology says so. The buffer that takes a
--- network's messages at a controller is the one of its machine from that network, if there is one, and a number that is no
--- controller's takes none.
--- Paths and jitter are within their limits, which are this project's own.
-use Rattle.std.specs.Prelude.{◌≡◌, ◌<◌, ◌≤◌, ◌+◌, ℕ, true, List, Option, None, Some, length, slice_get, IsTrue, IfSome, IsSomeAnd}
+-- one controller, whose acts need no more. The controllers are numbered in the order of their machines, 64 of them at most.
+-- There is a path from each to each, and the one to itself takes no cycle. A network keeps order where some buffer of the
+-- protocol is called ordered, as it may also where the topology says so. The buffer that takes a network's messages at a
+-- controller is the one of its machine from that network, if there is one, and a number that is no controller's takes none.
+-- The numbering, and the limits of controllers, paths and jitter, are this project's own.
+use Rattle.std.specs.Prelude.{◌≡◌, ◌<◌, ◌≤◌, ◌+◌, ℕ, true, List, [], ◌∷◌, Option, None, Some, length, slice_get, IsTrue, IfSome, IsSomeAnd}
 use Rattle.std.specs.List.{All}
 use Rattle.std.specs.Option.{option_flatten}
 use Rattle.ruby_value.specs.declared.setup.BufferPlace.TheVariants as place
@@ -53,7 +53,28 @@ pub record HasRoutes (machine : MachineSetup) (me : ℕ) (routes : Routes) : Typ
 abbrev pub StandsAt : List (ℕ × ℕ) → ℕ → ℕ → Type 0
 StandsAt stand at controller = IsSomeAnd (slice_get stand at) (λ p. (p.0 ≤ controller) × (controller < p.0 + p.1))
 
+-- the controllers of a list of machines, by the first number and the count of each, have the numbers from the first given one
+-- on, and the second is the next number that is free
+abbrev pub AreNumbered : (first free : ℕ) → List (ℕ × ℕ) → Type 0
+AreNumbered first free [] = first ≡ free
+AreNumbered first free (p ∷ stand) = (p.0 ≡ first) × (1 ≤ p.1) × AreNumbered (first + p.1) free stand
+
+-- where the controllers of the machines stand, and how many there are in all
+pub record IsStand (machines : List MachineSetup) (stand : List (ℕ × ℕ)) (total : ℕ) : Type 0 where
+  pub each_machine : length stand ≡ length machines
+  pub numbered : AreNumbered 0 total stand
+  pub limit : total ≤ 64
+
+-- a table has so many rows, and each row so many items
+pub record HasShape {A : Type 0} (rows items : ℕ) (table : List (List A)) : Type 0 where
+  pub all_rows : length table ≡ rows
+  pub all_items : All (λ row. length row ≡ items) table
+
 pub record RoutesFit (machines : List MachineSetup) (stand : List (ℕ × ℕ)) (routes : Routes) : Type 0 where
+  pub total : ℕ
+  pub stands : IsStand machines stand total
+  pub paths : HasShape total total routes.paths
+  pub receiving : HasShape total network_count routes.receiving
   pub limits : AreWithinLimits routes
   pub own_paths : (controller : ℕ) → path_to routes controller controller ≡ 0
   pub order : All (λ (m : MachineSetup). All (KeepsOrder routes) m.buffers) machines

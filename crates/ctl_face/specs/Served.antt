@@ -1,9 +1,9 @@
 -- Which tables and buffers each call serves. A look-up and an allocation serve caches, directories and TBE tables; a
 -- deallocation serves caches and TBE tables; the calls on places and on the order of use serve caches, and the count of
 -- what is free serves TBE tables. Messages are taken from buffers that a port may stand on, and sent on those that an
--- out port may stand on, a network's where the message type names its receivers. Which calls a table has is this project's
--- profile of SLICC.
-use Rattle.std.specs.Prelude.{ℕ, Bool, true, false, Option, None, Some, List, IsTrue, IsSome, IsSomeAnd, is_some, slice_get}
+-- out port may stand on. On a network's buffer whose message type names no receivers nobody gets a copy. Which calls a table
+-- has is this project's profile of SLICC.
+use Rattle.std.specs.Prelude.{ℕ, Bool, true, false, Option, None, Some, List, IsTrue, IsSome, IsSomeAnd, slice_get}
 use Rattle.ruby_value.specs.declared.value.Value.{Value}
 use Rattle.ruby_value.specs.declared.setup.BufferPlace.TheVariants as place
 use Rattle.ruby_value.specs.declared.setup.BufferPlace.{BufferPlace}
@@ -42,7 +42,7 @@ receives None = false
 
 abbrev pub sends : Option BufferPlace → Bool
 sends (Some place.Local) = true
-sends (Some (place.To network destination)) = is_some destination
+sends (Some (place.To network destination)) = true
 sends (Some (place.From network)) = false
 sends None = false
 

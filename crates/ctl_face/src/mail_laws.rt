@@ -23,8 +23,8 @@ pub fn copies_arrive_later()
     ensures { (machine : MachineRecord) (actor : Actor) (mail : Mail) (buffer : ℕ) (latency : ℤ) (fields : List Value) (now : ℕ) (s : Sending) → send machine actor mail buffer latency fields now ≡ Ok s → All (λ (c : Copy). now < c.message.arrival) s.copies }
 {}
 
-/// Each cycle at which a controller must wake after an act is one at which it had to before, or comes after this cycle. The
-/// acts that aren't named here leave these cycles as they are.
+/// Each cycle at which a controller must wake after one of these acts is one at which it had to before, or comes after this
+/// cycle.
 pub fn marks_lie_ahead()
     ensures again { (v : LocalView) → MarksAhead v.ctl.mail.marks v.now (again v).ctl.mail.marks }
     ensures recycle { (v : LocalView) (buffer : ℕ) (latency : ℤ) (after : LocalView) → recycle v buffer latency ≡ Ok after → MarksAhead v.ctl.mail.marks v.now after.ctl.mail.marks }

@@ -96,8 +96,7 @@ pub fn sends(machine: &MachineSetup, buffer: u16) -> bool
     ensures { result ≡ sends_of (buffer_place machine.now buffer) }
 {
     match place_of(machine, buffer) {
-        Some(BufferPlace::Local) => true,
-        Some(BufferPlace::To { destination, .. }) => destination.is_some(),
+        Some(BufferPlace::Local | BufferPlace::To { .. }) => true,
         Some(BufferPlace::From { .. }) | None => false,
     }
 }
