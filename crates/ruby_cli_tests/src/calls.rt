@@ -219,6 +219,14 @@ messages 333335 consumed 333334 queued 1 stalled 0 recycled 0
 verdict journal 333334 1000003
 ";
 
+/// The end of a run of 100,000 requests, each of which is seen in the cycle after its turn.
+const QUIET_END: &str = "
+100000 Node-0 0x0 B Go A
+final Node-0 0x0 A
+messages 100000 consumed 100000 queued 0 stalled 0 recycled 0
+verdict quiet 100000
+";
+
 /// Whether the text ends so.
 fn ends_with(text: &[u8], end: &[u8]) -> bool {
     match text.len().checked_sub(end.len()) {
@@ -239,6 +247,13 @@ fn long_run<R: Threads + Wait + Sync>(
     let mut sink = MemSink::new(alloc, Seq::new(alloc), 4096, 16_777_216)?;
     let (status, _) = call(rt, alloc, asked.as_slice(), &mut library, &mut sink);
     Ok((status, ends_with(sink.bytes(), end.as_bytes())))
+}
+
+#[test]
+fn ends_a_long_run_quietly(rt: HostRuntime) -> Result<(), Fail> {
+    let answer = long_run(&rt, rt.alloc(), "run tick.sm 100000", QUIET_END)?;
+    assert_eq!(rt; answer, (0, true));
+    Ok(())
 }
 
 #[test]
