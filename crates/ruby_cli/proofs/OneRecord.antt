@@ -17,7 +17,7 @@ use Rattle.slicc_meaning.specs.declared.setting.Setting.{Setting}
 use Rattle.slicc_meaning.specs.Record.{IsWholeRun}
 use Rattle.slicc_meaning.specs.Rules.{rules}
 use Rattle.slicc_meaning.proofs.Lawful.{one_history, one_end}
-use Rattle.ruby_cli.specs.Top.{IsByOneWorker}
+use Rattle.ruby_cli.specs.Headline.{IsByOneWorker}
 
 record_same : (r q : RunRecord) → r.setting ≡ q.setting → r.history ≡ q.history → r.journal ≡ q.journal → r.finals ≡ q.finals → r.account ≡ q.account
     → r.verdict ≡ q.verdict → r.tallies ≡ q.tallies → r ≡ q

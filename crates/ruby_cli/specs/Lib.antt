@@ -1,7 +1,7 @@
 pub mod Answer
-pub mod Answered
-pub mod Answers
 pub mod Asked
-pub mod Reply
-pub mod Top
+pub mod Call
+pub mod Find
+pub mod Headline
+pub mod Right
 pub mod Words

@@ -1,15 +1,26 @@
-// What holds of the answers that the top call's contract speaks of. This function does nothing: its contract is the law.
-ghost use Rattle.std.specs.Prelude.{◌≡◌, ℕ, Option};
+// What holds of the answers that the top call's contract speaks of. These functions do nothing: their contracts are the laws.
+ghost use Rattle.std.specs.Prelude.{◌≡◌, List, Option};
 ghost use Rattle.ruby_outside.specs.Files.{Files};
-ghost use Rattle.ruby_outside.specs.declared.library.Got.{Got};
-ghost use Rattle.ruby_cli.specs.declared.options.Options.{Options};
-ghost use Rattle.slicc_meaning.specs.declared.record.RunRecord.{RunRecord};
-ghost use Rattle.ruby_cli.specs.Answer.{Answer, IsAnswer};
-ghost use Rattle.ruby_cli.specs.Answered.{IsRight};
+ghost use Rattle.ruby_outside.specs.Faults.{Rose};
+ghost use Rattle.ruby_cli.specs.declared.answer.Answer.{Answer as AnswerRecord};
+ghost use Rattle.ruby_cli.specs.declared.done.Done.{Done as DoneRecord};
+ghost use Rattle.ruby_cli.specs.declared.options.Options.{Options as OptionsRecord};
+ghost use Rattle.ruby_cli.specs.Call.{IsAnswered};
+ghost use Rattle.ruby_cli.specs.Find.{IsAloneAnswer};
+ghost use Rattle.ruby_cli.specs.Headline.{IsTheorem};
+ghost use Rattle.ruby_cli.specs.Right.{Read, IsRight, IsAnswer, IsSame};
 
-/// One answer is right to options over a map of files, and one status and record to what a read of the protocol's file
-/// has answered: where that is bytes, there is one record of a run of theirs by one worker at most.
+use ruby_outside::{Library, Sink};
+
+/// At most one answer is right to what was asked and what the reads gave, but that a run may go another way than another that
+/// begins with the same setting; of runs by one worker there is one. Over a map of files it is so too.
 pub fn answers_are_one()
-    ensures answer { (files : Files) (o : Options) (a b : Answer) → IsAnswer files o a → IsAnswer files o b → a ≡ b }
-    ensures right { (o : Options) (got : Got) (s t : ℕ) (kept other : Option RunRecord) → IsRight o got s kept → IsRight o got t other → (s ≡ t) × (kept ≡ other) }
+    ensures right { (asked : Option OptionsRecord) (reads : List Read) (a b : AnswerRecord) → IsRight asked reads a → IsRight asked reads b → IsSame a b }
+    ensures alone { (asked : Option OptionsRecord) (reads : List Read) (a b : AnswerRecord) → IsRight asked reads a → IsRight asked reads b → IsAloneAnswer a → IsAloneAnswer b → a ≡ b }
+    ensures over_files { (files : Files) (asked : Option OptionsRecord) (a b : AnswerRecord) → IsAnswer files asked a → IsAnswer files asked b → IsSame a b }
+{}
+
+/// The clauses of the top calls follow from what a call does, over any library and any sink.
+pub fn clauses_follow<L: Library, S: Sink>()
+    ensures { (asked : Option OptionsRecord) (library library' : L) (sink sink' : S) (done : DoneRecord) → IsAnswered L.reads S.writes asked library library' sink sink' done → IsTheorem (L.files library) asked (Rose (L.faults library) (L.faults library')) (Rose (S.faults sink) (S.faults sink')) (S.written sink) (S.written sink') done }
 {}

@@ -2,18 +2,18 @@
 //! makes the run and its text, and then writes them.
 #![tactic(auto)]
 
-mod answers;
-mod exit;
+mod answer;
+mod done;
+mod find;
 mod laws;
 mod options;
 mod program;
-mod reply;
 mod top;
 mod words;
 
-pub use answers::{absent_line, fault_line, refused_line, too_large_line, usage_line};
-pub use exit::exit_code;
-pub use laws::answers_are_one;
+pub use answer::{Answer, Refused};
+pub use done::{Done, exit_code};
+pub use laws::{answers_are_one, clauses_follow};
 pub use options::{Command, Options};
 pub use program::ruby;
-pub use top::{Done, ruby_alone};
+pub use top::ruby_alone;

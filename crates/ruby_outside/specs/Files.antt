@@ -4,9 +4,10 @@
 -- is missing, is not said here. The rules are this project's own.
 use Rattle.std.specs.Prelude.{◌≡◌, ◌≢◌, ◌↔◌, IsTrue, ℕ, ◌<◌, ◌≤◌, List, [], ◌∷◌, length, Option, Some, None, Result, Ok, Err, IfSome, IfOk, IfErr, bytes_eq, nat_lt, if◌then◌else◌}
 use Rattle.std.specs.IoError.{error_kind}
+use Rattle.std.specs.Option.{ForSome}
 use Rattle.std.specs.declared.io.Error.{Error}
 use Rattle.std.specs.declared.io.ErrorKind.TheVariants.{NotFound}
-use Rattle.ruby_outside.specs.Faults.{counted}
+use Rattle.ruby_outside.specs.Faults.{Rose, counted}
 use Rattle.ruby_outside.specs.Plan.{PlanState, after_call, is_planned}
 use Rattle.ruby_outside.specs.declared.library.Got.{Got}
 use Rattle.ruby_outside.specs.declared.library.Got.TheVariants.{Bytes, Absent, TooLarge, Failed, NoMemory}
@@ -27,6 +28,14 @@ Reads files name limit Absent = bytes_of files name ≡ None
 Reads files name limit TooLarge = (bytes : List ℕ) × (bytes_of files name ≡ Some bytes) × (limit < length bytes)
 Reads files name limit Failed = Unit {0}
 Reads files name limit NoMemory = Unit {0}
+
+-- What every read of a library keeps, by the files that it tells and its count of faults before and after: the files stay
+-- the same, the count never falls and rose where the answer is `Failed`, and the answer is right for the files.
+pub record IsLawfulRead (files : Option Files) (faults : ℕ) (name : List ℕ) (limit : ℕ) (got : Got) (files' : Option Files) (faults' : ℕ) : Type 0 where
+  pub same_files : files' ≡ files
+  pub counts : faults ≤ faults'
+  pub failed : got ≡ Failed → Rose faults faults'
+  pub answer : ForSome files (λ told. Reads told name limit got)
 
 -- there is a file of this name, with no more bytes than so many
 abbrev pub IsReadable : Files → List ℕ → ℕ → Type 0
@@ -77,11 +86,12 @@ pub record LibraryState : Type 0 where
   pub files : Files
   pub plan : PlanState
 
--- one read of such a library: it is a call by the plan, it fails exactly where the plan says so, and else its answer is
--- right for its files, which stay the same
+-- one read of such a library: it is a call by the plan, whose count never falls; it fails exactly where the plan says so, and
+-- else its answer is right for its files, which stay the same
 pub record IsPlannedRead (before : LibraryState) (name : List ℕ) (limit : ℕ) (got : Got) (after : LibraryState) : Type 0 where
   pub files : after.files ≡ before.files
   pub plan : after.plan ≡ after_call before.plan
+  pub counts : before.plan.faults ≤ after.plan.faults
   pub failed : (got ≡ Failed) ↔ IsTrue (is_planned before.plan)
   pub answer : Reads before.files name limit got
 
@@ -91,9 +101,10 @@ pub record IsSureRead (before : Files) (name : List ℕ) (limit : ℕ) (got : Go
   pub never_failed : got ≢ Failed
   pub answer : Reads before name limit got
 
--- one read of a library that tells none of its files and is its count of faults: its answer is right for some outcome of
--- opening a file, and that file's reader
+-- one read of a library that tells none of its files and is its count of faults, which never falls: its answer is right for
+-- some outcome of opening a file, and that file's reader
 pub record IsCountedRead {F : Type 0} (remaining : F → Option (List ℕ)) (before limit : ℕ) (got : Got) (after : ℕ) : Type 0 where
   pub faults : after ≡ count_after got before
+  pub counts : before ≤ after
   pub within : IsWithin limit got
   pub opened : (opened : Result F Error) × IsOpenedRead remaining opened limit got

@@ -1,5 +1,6 @@
 pub mod Faults
 pub mod Files
+pub mod Lawful
 pub mod Plan
 pub mod Put
 pub mod Sink

@@ -16,7 +16,4 @@ pub use memory_library::{MemLibrary, SureLibrary};
 pub use memory_sink::{MemSink, SureSink};
 pub use ruby_base::{NoMemory, Seq, Text};
 pub use sink::{Sink, Wrote, put};
-pub use system::{FileLibrary, StdSink};
-
-#[cfg(test)]
-mod tests;
+pub use system::{FileLibrary, StdSink, read_opened};

@@ -1,7 +1,5 @@
-ghost use Rattle.std.specs.Prelude.{◌≡◌, ◌≤◌, ℕ, List, Option};
-ghost use Rattle.std.specs.Option.{ForSome};
-ghost use Rattle.ruby_outside.specs.Faults.{Rose};
-ghost use Rattle.ruby_outside.specs.Files.{Reads};
+ghost use Rattle.std.specs.Prelude.{ℕ, List, Option};
+ghost use Rattle.ruby_outside.specs.Files.{IsLawfulRead};
 ghost use Rattle.ruby_outside.specs.declared.library.Got.{Got as GotRecord};
 
 use ruby_base::Text;
@@ -36,11 +34,11 @@ pub trait Library {
     ghost reads: { Self → List ℕ → ℕ → GotRecord → Self → Type 0 };
 
     /// Reads the file of a name whole, if it has no more than `limit` bytes. A fault or want of memory may come in
-    /// place of any other answer. The files that it tells stay the same.
+    /// place of any other answer. What each read keeps is the law `lawful`.
     fn read(&mut self, name: &str, limit: u64) -> Got
-        ensures step { reads self.old name.now limit result self.new }
-        ensures files { files self.new ≡ files self.old }
-        ensures counts { faults self.old ≤ faults self.new }
-        ensures failed { result ≡ Got.Failed → Rose (faults self.old) (faults self.new) }
-        ensures answer { ForSome (files self.old) (λ told. Reads told name.now limit result) };
+        ensures { reads self.old name.now limit result self.new };
+
+    /// What each read keeps: the files that the library tells, and their bytes in its answer; and that its count of faults
+    /// never falls, and rose where it failed.
+    ghost lawful: { (before : Self) (name : List ℕ) (limit : ℕ) (got : GotRecord) (after : Self) → reads before name limit got after → IsLawfulRead (files before) (faults before) name limit got (files after) (faults after) };
 }

@@ -1,6 +1,7 @@
-ghost use Rattle.std.specs.Prelude.{◌≡◌, ◌≢◌, ◌≤◌, ℕ, List, Option, Some};
+ghost use Rattle.std.specs.Prelude.{◌≡◌, ◌≢◌, ℕ, List, Option, Some};
 ghost use Rattle.std.specs.Option.{option_copied};
 ghost use Rattle.ruby_outside.specs.Plan.{begun, is_planned, after_call};
+ghost use Rattle.ruby_outside.specs.Lawful.{planned_read, sure_read};
 ghost use Rattle.ruby_outside.specs.Files.{IsPlannedRead, IsReadable, IsSureRead, Reads, bytes_of};
 
 use crate::plan::Plan;
@@ -49,7 +50,6 @@ impl Library for MemLibrary {
 
     fn read(&mut self, name: &str, limit: u64) -> Got
         ensures read { IsPlannedRead self.old name.now limit result self.new }
-        ensures counts { self.old.plan.faults ≤ self.new.plan.faults }
         ensures memory { result ≡ Got.NoMemory → IsReadable self.old.files name.now limit }
     {
         if self.plan.fails_next() {
@@ -57,6 +57,8 @@ impl Library for MemLibrary {
         }
         copy_of(self.alloc, self.files.as_slice(), name, limit)
     }
+
+    ghost lawful = { planned_read };
 }
 
 /// A library in memory that never fails, so its count of faults is 0 for good. It tells its files. A contract sees it
@@ -97,6 +99,8 @@ impl Library for SureLibrary {
     {
         copy_of(self.alloc, self.files.as_slice(), name, limit)
     }
+
+    ghost lawful = { sure_read };
 }
 
 /// The bytes of the first file with a name.

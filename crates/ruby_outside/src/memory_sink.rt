@@ -1,5 +1,6 @@
 ghost use Rattle.std.specs.Prelude.{◌≡◌, ◌≤◌, ◌-◌, [], ℕ, List, Option, Some, None, IfOk, length, min};
 ghost use Rattle.ruby_outside.specs.Plan.{begun};
+ghost use Rattle.ruby_outside.specs.Lawful.{planned_write, whole_write};
 ghost use Rattle.ruby_outside.specs.Sink.{IsPlannedWrite, share_of};
 ghost use Rattle.ruby_outside.specs.declared.sink.Wrote.TheVariants.{Took};
 
@@ -81,7 +82,6 @@ impl Sink for MemSink {
 
     fn write(&mut self, piece: &[u8]) -> Wrote
         ensures write { IsPlannedWrite self.old piece.now result self.new }
-        ensures counts { self.old.plan.faults ≤ self.new.plan.faults }
     {
         if self.plan.fails_next() {
             return Wrote::Failed;
@@ -95,6 +95,8 @@ impl Sink for MemSink {
         }
         Wrote::Took(count)
     }
+
+    ghost lawful = { planned_write };
 }
 
 /// A sink that takes each piece whole and keeps none of its bytes. It tells nothing and never fails, so its count of
@@ -124,4 +126,6 @@ impl Sink for SureSink {
     {
         Wrote::Took(piece.len() as u64)
     }
+
+    ghost lawful = { λ _ piece wrote _ all. whole_write piece wrote all };
 }

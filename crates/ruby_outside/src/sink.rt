@@ -1,8 +1,6 @@
-ghost use Rattle.std.specs.Prelude.{◌≡◌, ◌<◌, ◌≤◌, ℕ, List, Option, IsTrue, is_some, length, take};
-ghost use Rattle.std.specs.Bool.{OnTrue, OnFalse};
-ghost use Rattle.ruby_outside.specs.Faults.{Rose};
+ghost use Rattle.std.specs.Prelude.{ℕ, List, Option};
 ghost use Rattle.ruby_outside.specs.Put.{IsPut};
-ghost use Rattle.ruby_outside.specs.Sink.{bytes_taken, grown, IsCutOff};
+ghost use Rattle.ruby_outside.specs.Sink.{IsLawfulWrite, IsWritten};
 ghost use Rattle.ruby_outside.specs.declared.sink.Wrote.{Wrote as WroteRecord};
 
 /// What a sink answers to a write.
@@ -28,27 +26,21 @@ pub trait Sink {
     /// caller can promise which writes it made, and that it made no other.
     ghost writes: { Self → List ℕ → WroteRecord → Self → Type 0 };
 
-    /// Takes bytes from the start of the piece. To take none of a piece that isn't empty counts as a fault too.
+    /// Takes bytes from the start of the piece. To take none of a piece that isn't empty counts as a fault too. What each
+    /// write keeps is the law `lawful`.
     fn write(&mut self, piece: &[u8]) -> Wrote
-        ensures step { writes self.old piece.now result self.new }
-        ensures tells { is_some (written self.new) ≡ is_some (written self.old) }
-        ensures counts { faults self.old ≤ faults self.new }
-        ensures within { bytes_taken result ≤ length piece.now }
-        ensures grows { written self.new ≡ grown (written self.old) (take (bytes_taken result) piece.now) }
-        ensures failed { result ≡ Wrote.Failed → Rose (faults self.old) (faults self.new) }
-        ensures stuck { bytes_taken result ≡ 0 → 0 < length piece.now → Rose (faults self.old) (faults self.new) };
+        ensures { writes self.old piece.now result self.new };
+
+    /// What each write keeps: what it takes comes to the end of what the sink tells; and its count of faults never falls, and
+    /// rose where the write failed or took nothing.
+    ghost lawful: { (before : Self) (piece : List ℕ) (wrote : WroteRecord) (after : Self) → writes before piece wrote after → IsLawfulWrite (written before) (faults before) piece wrote (written after) (faults after) };
 }
 
 /// Writes the whole piece, by as many writes as that takes, and answers whether it did. It answers `false`, and
 /// writes nothing further, as soon as a write fails or takes nothing. It takes no memory of its own.
 pub fn put<S: Sink>(sink: &mut S, piece: &[u8]) -> bool
     ensures by_writes { IsPut S.writes sink.old piece.now result sink.new }
-    ensures tells { is_some (S.written sink.new) ≡ is_some (S.written sink.old) }
-    ensures counts { S.faults sink.old ≤ S.faults sink.new }
-    ensures whole { OnTrue result (S.written sink.new ≡ grown (S.written sink.old) piece.now) }
-    ensures cut_off { OnFalse result (IsCutOff (S.written sink.old) piece.now (S.written sink.new)) }
-    ensures cause { OnFalse result (Rose (S.faults sink.old) (S.faults sink.new)) }
-    ensures sure { ¬ Rose (S.faults sink.old) (S.faults sink.new) → IsTrue result }
+    ensures written { IsWritten (S.written sink.old) (S.faults sink.old) piece.now result (S.written sink.new) (S.faults sink.new) }
 {
     let mut done = 0;
     while done < piece.len() {

@@ -1,8 +1,8 @@
-ghost use Rattle.std.specs.Prelude.{◌≡◌, ◌≢◌, ◌<◌, ◌≤◌, ℕ, List, Option, None, IfSome, IfOk, IfErr, OnOk, length};
+ghost use Rattle.std.specs.Prelude.{◌≡◌, ◌≢◌, ◌≤◌, None, IfSome, IfOk, IfErr, OnOk, length};
 ghost use Rattle.std.specs.IoError.{error_kind};
-ghost use Rattle.ruby_outside.specs.Faults.{Rose};
 ghost use Rattle.ruby_outside.specs.Files.{IsCountedRead, IsOpenedRead, IsReadOf, IsWithin, got_of};
-ghost use Rattle.ruby_outside.specs.Sink.{IsCountedWrite, bytes_taken, wrote_of};
+ghost use Rattle.ruby_outside.specs.Lawful.{counted_read, counted_write};
+ghost use Rattle.ruby_outside.specs.Sink.{IsCountedWrite, wrote_of};
 
 use crate::{Got, Library, Sink, Wrote};
 use ruby_base::Seq;
@@ -50,9 +50,7 @@ impl<'a, R: Files> Library for FileLibrary<'a, R> {
     ghost reads = { λ before _ limit got after. IsCountedRead R.File.remaining before limit got after };
 
     fn read(&mut self, name: &str, limit: u64) -> Got
-        ensures counts { self.old ≤ self.new }
-        ensures read { IsCountedRead R.File.remaining self.old limit result self.new }
-        ensures failed { result ≡ Got.Failed → Rose self.old self.new }
+        ensures { IsCountedRead R.File.remaining self.old limit result self.new }
     {
         let got = read_opened(self.alloc, fs::open(self.runtime, name), limit);
         if let Got::Failed = got {
@@ -60,11 +58,13 @@ impl<'a, R: Files> Library for FileLibrary<'a, R> {
         }
         got
     }
+
+    ghost lawful = { λ before name limit got after read. counted_read R.File.remaining before name limit got after read };
 }
 
 /// The answer to a read of a file, by how its opening went. A name that isn't found is absent, and any other fault of
 /// opening is `Failed`. No opened file is absent.
-pub(crate) fn read_opened<F: Read + Drop>(alloc: Global, opened: io::Result<F>, limit: u64) -> Got
+pub fn read_opened<F: Read + Drop>(alloc: Global, opened: io::Result<F>, limit: u64) -> Got
     ensures within { IsWithin limit result }
     ensures opened { IsOpenedRead F.remaining opened limit result }
 {
@@ -130,7 +130,6 @@ impl<'a, R> StdSink<'a, R> {
         requires { IfOk answer (λ count. count ≤ length piece.now) }
         ensures answer { result ≡ wrote_of answer }
         ensures write { IsCountedWrite self.old piece.now result self.new }
-        ensures counts { self.old ≤ self.new }
     {
         let (wrote, is_fault) = match answer {
             Ok(count) => (Wrote::Took(count as u64), count == 0 && !piece.is_empty()),
@@ -151,12 +150,11 @@ impl<'a, R: Print> Sink for StdSink<'a, R> {
     ghost writes = { IsCountedWrite };
 
     fn write(&mut self, piece: &[u8]) -> Wrote
-        ensures write { IsCountedWrite self.old piece.now result self.new }
-        ensures counts { self.old ≤ self.new }
-        ensures failed { result ≡ Wrote.Failed → Rose self.old self.new }
-        ensures stuck { bytes_taken result ≡ 0 → 0 < length piece.now → Rose self.old self.new }
+        ensures { IsCountedWrite self.old piece.now result self.new }
     {
         let answer = self.runtime.write_some(piece);
         self.count(answer, piece)
     }
+
+    ghost lawful = { counted_write };
 }

@@ -1,3 +1,2 @@
 pub mod LineLemmas
-pub mod PieceLemmas
-mod PiecesLeft
+pub mod PiecesLeft

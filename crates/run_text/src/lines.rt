@@ -1,8 +1,6 @@
 // How a text goes to a sink.
-ghost use Rattle.std.specs.Prelude.{◌≡◌, ◌<◌, ◌≤◌, IsTrue, is_some, length};
-ghost use Rattle.std.specs.Bool.{OnTrue, OnFalse};
-ghost use Rattle.ruby_outside.specs.Faults.{Rose};
-ghost use Rattle.ruby_outside.specs.Sink.{grown, IsCutOff};
+ghost use Rattle.std.specs.Prelude.{◌≡◌, ◌<◌, ◌≤◌, length};
+ghost use Rattle.ruby_outside.specs.Sink.{IsWritten};
 ghost use Rattle.run_text.specs.Pieces.{IsPutInPieces, piece_length as piece_length_of};
 
 use ruby_outside::{Sink, put};
@@ -29,12 +27,7 @@ fn piece_length(text: &[u8]) -> usize
 /// isn't written whole. It takes no memory.
 pub fn write_lines<S: Sink>(sink: &mut S, text: &[u8]) -> bool
     ensures by_pieces { IsPutInPieces S.writes sink.old text.now result sink.new }
-    ensures tells { is_some (S.written sink.new) ≡ is_some (S.written sink.old) }
-    ensures counts { S.faults sink.old ≤ S.faults sink.new }
-    ensures whole { OnTrue result (S.written sink.new ≡ grown (S.written sink.old) text.now) }
-    ensures cut_off { OnFalse result (IsCutOff (S.written sink.old) text.now (S.written sink.new)) }
-    ensures cause { OnFalse result (Rose (S.faults sink.old) (S.faults sink.new)) }
-    ensures sure { ¬ Rose (S.faults sink.old) (S.faults sink.new) → IsTrue result }
+    ensures written { IsWritten (S.written sink.old) (S.faults sink.old) text.now result (S.written sink.new) (S.faults sink.new) }
 {
     let mut done = 0;
     while done < text.len() {

@@ -1,13 +1,38 @@
-use Rattle.std.proofs.Common.{◌≡◌, subst}
-use Rattle.ruby_outside.specs.Faults.{Rose}
-use Rattle.ruby_cli.specs.declared.options.Options.{Options}
-use Rattle.ruby_cli.specs.Top.{KeepsRun}
+use Rattle.ruby_cli.proofs.Clauses.{theorem_holds}
 use Rattle.ruby_cli.proofs.program.ruby.Goals as goal
 
-pub returns-in-Ok-Some-clause-keeps_run : goal.returns-in-Ok-Some-clause-keeps_run
-returns-in-Ok-Some-clause-keeps_run g c =
-    λ o is.
-    let same : c.in-Ok-Some.options ≡ o = cc (c.in-Ok-Some.ensures.asked, is) in
-    subst
-    (λ (x : Options). KeepsRun (g.L.Library.files c.args.library.now) x (Rose (g.L.Library.faults c.args.library.now) (g.L.Library.faults c.ruby_alone.new.library)) c.ruby_alone.result.kept c.ruby_alone.result.status)
-    same c.ruby_alone.ensures.keeps_run
+pub returns-clause-record_is_a_run : goal.returns-clause-record_is_a_run
+returns-clause-record_is_a_run g c =
+    (theorem_holds g.L.Library.files g.L.Library.faults g.L.Library.reads g.met.L.Library.lawful g.S.Sink.written g.S.Sink.faults g.S.Sink.writes g.met.S.Sink.lawful _ _ _ _ _ _ c.answer_words.ensures.answered).record_is_a_run
+
+pub returns-clause-as_asked : goal.returns-clause-as_asked
+returns-clause-as_asked g c =
+    (theorem_holds g.L.Library.files g.L.Library.faults g.L.Library.reads g.met.L.Library.lawful g.S.Sink.written g.S.Sink.faults g.S.Sink.writes g.met.S.Sink.lawful _ _ _ _ _ _ c.answer_words.ensures.answered).as_asked
+
+pub returns-clause-as_written : goal.returns-clause-as_written
+returns-clause-as_written g c =
+    (theorem_holds g.L.Library.files g.L.Library.faults g.L.Library.reads g.met.L.Library.lawful g.S.Sink.written g.S.Sink.faults g.S.Sink.writes g.met.S.Sink.lawful _ _ _ _ _ _ c.answer_words.ensures.answered).as_written
+
+pub returns-clause-woken_once : goal.returns-clause-woken_once
+returns-clause-woken_once g c =
+    (theorem_holds g.L.Library.files g.L.Library.faults g.L.Library.reads g.met.L.Library.lawful g.S.Sink.written g.S.Sink.faults g.S.Sink.writes g.met.S.Sink.lawful _ _ _ _ _ _ c.answer_words.ensures.answered).woken_once
+
+pub returns-clause-accounted : goal.returns-clause-accounted
+returns-clause-accounted g c =
+    (theorem_holds g.L.Library.files g.L.Library.faults g.L.Library.reads g.met.L.Library.lawful g.S.Sink.written g.S.Sink.faults g.S.Sink.writes g.met.S.Sink.lawful _ _ _ _ _ _ c.answer_words.ensures.answered).accounted
+
+pub returns-clause-invalid_exactly : goal.returns-clause-invalid_exactly
+returns-clause-invalid_exactly g c =
+    (theorem_holds g.L.Library.files g.L.Library.faults g.L.Library.reads g.met.L.Library.lawful g.S.Sink.written g.S.Sink.faults g.S.Sink.writes g.met.S.Sink.lawful _ _ _ _ _ _ c.answer_words.ensures.answered).invalid_exactly
+
+pub returns-clause-tallied : goal.returns-clause-tallied
+returns-clause-tallied g c =
+    (theorem_holds g.L.Library.files g.L.Library.faults g.L.Library.reads g.met.L.Library.lawful g.S.Sink.written g.S.Sink.faults g.S.Sink.writes g.met.S.Sink.lawful _ _ _ _ _ _ c.answer_words.ensures.answered).tallied
+
+pub returns-clause-causes : goal.returns-clause-causes
+returns-clause-causes g c =
+    (theorem_holds g.L.Library.files g.L.Library.faults g.L.Library.reads g.met.L.Library.lawful g.S.Sink.written g.S.Sink.faults g.S.Sink.writes g.met.S.Sink.lawful _ _ _ _ _ _ c.answer_words.ensures.answered).causes
+
+pub returns-clause-complete : goal.returns-clause-complete
+returns-clause-complete g c =
+    (theorem_holds g.L.Library.files g.L.Library.faults g.L.Library.reads g.met.L.Library.lawful g.S.Sink.written g.S.Sink.faults g.S.Sink.writes g.met.S.Sink.lawful _ _ _ _ _ _ c.answer_words.ensures.answered).complete

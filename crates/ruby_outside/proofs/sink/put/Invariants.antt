@@ -1,13 +1,10 @@
-use Rattle.std.proofs.Common.{◌≡◌, ◌-◌, ◌≤◌, Bool, length, take, drop}
+use Rattle.std.proofs.Common.{◌-◌, ◌≤◌, Bool, length, drop}
 use Rattle.ruby_outside.specs.Put.{IsPut}
-use Rattle.ruby_outside.specs.Sink.{grown}
 use Rattle.ruby_outside.proofs.sink.put.Given as goal
 
 abbrev pub invariant-loop-done : goal.invariant-loop-done
 invariant-loop-done g l = record {
   within : l.done ≤ length l.piece;
-  counts : g.S.Sink.faults l.initial.sink ≤ g.S.Sink.faults l.sink;
-  grows : g.S.Sink.written l.sink ≡ grown (g.S.Sink.written l.initial.sink) (take l.done l.piece);
   step : (whole : Bool) (after : _) → IsPut g.S.Sink.writes l.sink (drop l.done l.piece) whole after → IsPut g.S.Sink.writes l.initial.sink l.piece whole after;
 }
 

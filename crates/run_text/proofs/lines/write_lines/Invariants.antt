@@ -1,13 +1,10 @@
-use Rattle.std.proofs.Common.{◌≡◌, ◌-◌, ◌≤◌, Bool, length, take, drop}
-use Rattle.ruby_outside.specs.Sink.{grown}
+use Rattle.std.proofs.Common.{◌-◌, ◌≤◌, Bool, length, drop}
 use Rattle.run_text.specs.Pieces.{IsPutInPieces}
 use Rattle.run_text.proofs.lines.write_lines.Given as goal
 
 abbrev pub invariant-loop-done : goal.invariant-loop-done
 invariant-loop-done g l = record {
   within : l.done ≤ length l.text;
-  counts : g.S.Sink.faults l.initial.sink ≤ g.S.Sink.faults l.sink;
-  grows : g.S.Sink.written l.sink ≡ grown (g.S.Sink.written l.initial.sink) (take l.done l.text);
   step : (whole : Bool) (after : _) → IsPutInPieces g.S.Sink.writes l.sink (drop l.done l.text) whole after → IsPutInPieces g.S.Sink.writes l.initial.sink l.text whole after;
 }
 

@@ -1,20 +1,18 @@
-// What the program answers, found before anything is written.
-ghost use Rattle.std.specs.Prelude.{◌≡◌, ◌<◌, ◌^◌, ◌≤◌, IfOk, Option, IsUtf8};
-ghost use Rattle.ruby_outside.specs.Faults.{Rose};
+// The answer to options, found before anything is written.
+ghost use Rattle.std.specs.Prelude.{◌≡◌, ◌<◌, ◌^◌, IfOk, IsUtf8};
 ghost use Rattle.slicc_ast.specs.WellFormed.{IsWellFormed};
 ghost use Rattle.slicc_meaning.specs.Plan.{plan_of as plan_of_tree};
 ghost use Rattle.slicc_meaning.specs.Record.{IsWholeRun};
 ghost use Rattle.slicc_meaning.specs.Topology.{plain_of as plain_of_plan};
 ghost use Rattle.ruby_cli.specs.Asked.{setting_of as setting_of_plan};
-ghost use Rattle.ruby_cli.specs.Reply.{IsReplyBy, IsReplyTo, IsReadOnce, IsReply, reply_text as reply_text_of};
-ghost use Rattle.ruby_cli.specs.Top.{IsByOneWorker};
+ghost use Rattle.ruby_cli.specs.Find.{IsReadOnce, IsAloneAnswer};
+ghost use Rattle.ruby_cli.specs.Headline.{IsByOneWorker};
+ghost use Rattle.ruby_cli.specs.Right.{IsRightFor, IsRightTo, other_form as other_form_of};
 
-use crate::Options;
-use crate::answers::{absent_line, fault_line, refused_line, too_large_line};
+use crate::{Answer, Options, Refused};
 use plain_run::run_plain;
 use ruby_base::{NoMemory, Text};
 use ruby_outside::{Got, Library};
-use run_text::text_of;
 use slicc_ast::Machine;
 use slicc_meaning::{PlainDriver, Plan, RunRecord, Setting, plain_of, plan_of};
 use small_form::read_machine;
@@ -22,21 +20,6 @@ use std::alloc::Global;
 
 // The most bytes of a file.
 const FILE_LIMIT: u64 = 1_048_576;
-
-/// What the program has found to answer about the protocol's file.
-#[derive(Drop)]
-pub enum Reply {
-    /// A whole run.
-    Ran(RunRecord),
-    /// The file is of another form.
-    Refused,
-    /// There is no such file.
-    Absent,
-    /// The file is too long.
-    TooLarge,
-    /// The library met a fault.
-    Faulted,
-}
 
 // What the run begins with: the plan over its plain topology, as the options ask.
 fn setting_of(alloc: Global, plan: Plan, options: &Options) -> Result<Setting, NoMemory>
@@ -68,54 +51,54 @@ fn run_of(alloc: Global, m: &Machine, options: &Options) -> Result<RunRecord, No
     run_plain(alloc, setting)
 }
 
-// The reply to the bytes of the protocol.
-fn reply_to(alloc: Global, options: &Options, bytes: &[u8]) -> Result<Reply, NoMemory>
+// The refusal of a file of another form, which is told at its first byte.
+fn other_form(alloc: Global, name: &[u8]) -> Result<Answer, NoMemory>
+    ensures { IfOk result (λ a. a ≡ Answer.Refused (other_form_of name.now)) }
+{
+    let code = Text::copied(alloc, b"U1")?;
+    let file = Text::copied(alloc, name)?;
+    Ok(Answer::Refused(Refused {
+        file,
+        line: 1,
+        column: 1,
+        code,
+        other: None,
+    }))
+}
+
+// The answer to the bytes of the protocol.
+fn answer_to(alloc: Global, options: &Options, bytes: &[u8]) -> Result<Answer, NoMemory>
     requires cycles { options.now.cycles < 2 ^ 63 }
     requires limit { options.now.limit < 2 ^ 63 }
-    ensures { IfOk result (IsReplyTo bytes.now options.now) }
+    ensures right { IfOk result (IsRightFor bytes.now options.now) }
+    ensures alone { IfOk result IsAloneAnswer }
 {
     let Some(m) = read_machine(alloc, bytes)? else {
-        return Ok(Reply::Refused);
+        return other_form(alloc, options.protocol.as_slice());
     };
     let record = run_of(alloc, &m, options);
     drop(m);
-    Ok(Reply::Ran(record?))
+    Ok(Answer::Ran(record?))
 }
 
-/// The reply to the options over a library.
-pub fn find_reply<L: Library>(
+/// The answer to options over a library, from which the protocol's file is read once.
+pub fn find_answer<L: Library>(
     alloc: Global,
     options: &Options,
     library: &mut L,
-) -> Result<Reply, NoMemory>
+) -> Result<Answer, NoMemory>
     requires name { IsUtf8 options.now.protocol }
     requires cycles { options.now.cycles < 2 ^ 63 }
     requires limit { options.now.limit < 2 ^ 63 }
-    ensures read { IsReadOnce L.reads options.now library.old library.new (λ got. IfOk result (IsReplyBy options.now got)) }
-    ensures reply { IfOk result (IsReply (L.files library.old) (Rose (L.faults library.old) (L.faults library.new)) options.now) }
-    ensures files { L.files library.new ≡ L.files library.old }
-    ensures counts { L.faults library.old ≤ L.faults library.new }
+    ensures found { IsReadOnce L.reads options.now library.old library.new (λ got. IfOk result (IsRightTo options.now got)) }
+    ensures alone { IfOk result IsAloneAnswer }
 {
     let name = str::from_utf8(options.protocol.as_slice()).unwrap();
     match library.read(name, FILE_LIMIT) {
-        Got::Bytes(bytes) => reply_to(alloc, options, bytes.as_slice()),
-        Got::Absent => Ok(Reply::Absent),
-        Got::TooLarge => Ok(Reply::TooLarge),
-        Got::Failed => Ok(Reply::Faulted),
+        Got::Bytes(bytes) => answer_to(alloc, options, bytes.as_slice()),
+        Got::Absent => Ok(Answer::Absent(Text::copied(alloc, name.as_bytes())?)),
+        Got::TooLarge => Ok(Answer::TooLarge(Text::copied(alloc, name.as_bytes())?)),
+        Got::Failed => Ok(Answer::ReadFault(Text::copied(alloc, name.as_bytes())?)),
         Got::NoMemory => Err(NoMemory),
-    }
-}
-
-/// The whole text of a reply.
-pub fn text_of_reply(alloc: Global, options: &Options, reply: &Reply) -> Result<Text, NoMemory>
-    ensures { IfOk result (λ bytes. bytes ≡ reply_text_of options.now reply.now) }
-{
-    let name = options.protocol.as_slice();
-    match reply {
-        Reply::Ran(record) => text_of(alloc, record),
-        Reply::Refused => refused_line(alloc, name),
-        Reply::Absent => absent_line(alloc, name),
-        Reply::TooLarge => too_large_line(alloc, name),
-        Reply::Faulted => fault_line(alloc, name),
     }
 }

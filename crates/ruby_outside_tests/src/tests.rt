@@ -5,8 +5,10 @@ ghost use Rattle.ruby_outside.specs.Faults.{Rose};
 ghost use Rattle.ruby_outside.specs.Files.{bytes_of};
 ghost use Rattle.ruby_outside.specs.Sink.{grown, IsCutOff};
 
-use super::*;
-use crate::system::read_opened;
+use ruby_outside::{
+    FileLibrary, Gate, Got, Library, MemLibrary, MemSink, Moment, NoMemory, OpenGate, Seq, Sink,
+    StdSink, SureLibrary, SureSink, Text, Wrote, put, read_opened,
+};
 use std::alloc::Global;
 use std::cell::RefCell;
 use std::fmt::Display;

@@ -1,0 +1,114 @@
+-- The theorem about a call of the program. Each definition is one clause of the top calls; all of them follow from what the
+-- call does (`IsAnswered`). `asked` is what was asked for, if anything; `files` are the library's, where it tells them; a call
+-- ends with `done`, its status and the record that it kept. That a library's or a sink's count of faults rose in the call is
+-- `read_rose` and `write_rose`; `before` and `after` are what the sink tells as the call begins and ends.
+use Rattle.std.specs.Prelude.{◌≡◌, ◌+◌, ◌≢◌, ◌⊎◌, ℕ, Bool, Option, None, Some, List, [], ◌∷◌, ◌++◌, IfSome, IsSome}
+use Rattle.std.specs.Bool.{OnTrue, OnFalse}
+use Rattle.std.specs.Option.{ForSome}
+use Rattle.ruby_outside.specs.Files.{Files}
+use Rattle.ruby_outside.specs.Sink.{grown, IsCutOff}
+use Rattle.run_journal.specs.Tally.{tally}
+use Rattle.ruby_runs.specs.Account.{IsAccounted}
+use Rattle.ruby_runs.specs.Alone.{IsAlone}
+use Rattle.ruby_runs.specs.InvalidExactly.{InvalidExactly}
+use Rattle.ruby_runs.specs.WakesOnce.{WakesOnce}
+use Rattle.ruby_runs.specs.World.{World}
+use Rattle.slicc_meaning.specs.declared.controller.Controller.{Controller}
+use Rattle.slicc_meaning.specs.declared.record.RunRecord.{RunRecord}
+use Rattle.slicc_meaning.specs.declared.setting.PlainDriver.{PlainDriver}
+use Rattle.slicc_meaning.specs.declared.setting.Setting.{Setting}
+use Rattle.slicc_meaning.specs.Record.{IsRecordOf, IsWholeRun}
+use Rattle.slicc_meaning.specs.Rules.{rules}
+use Rattle.ruby_cli.specs.declared.answer.Answer.{Answer}
+use Rattle.ruby_cli.specs.declared.answer.Answer.TheVariants.{Ran}
+use Rattle.ruby_cli.specs.declared.done.Done.{Done}
+use Rattle.ruby_cli.specs.declared.options.Options.{Options}
+use Rattle.ruby_cli.specs.Answer.{text_of, status_of, done_of, out_of_memory, verdict_status}
+use Rattle.ruby_cli.specs.Asked.{setting_of}
+use Rattle.ruby_cli.specs.Right.{IsAnswer, MayAnswer, IsRunOver}
+
+-- each controller that must wake at a cycle of the record's run wakes in it once, and no other does
+abbrev pub IsWokenOnce : RunRecord → Type 0
+IsWokenOnce r = WakesOnce (rules r.setting) r.history
+
+-- each message number of the record's run was sent once and is in exactly one place: consumed by one entry, or in one
+-- inbox, as stalled, recycled or queued; and the account's four parts add up to its first number
+abbrev pub IsMessageAccount : RunRecord → Type 0
+IsMessageAccount r =
+    (w : World Controller PlainDriver) × IsRecordOf r w × IsAccounted (rules r.setting) r.journal w
+    × (r.account.sent ≡ r.account.consumed + r.account.queued + r.account.stalled + r.account.recycled)
+
+-- a wake-up ended as `invalid` exactly where its scan triggered a pair without a transition, and then with that pair
+abbrev pub IsInvalidExactly : RunRecord → Type 0
+IsInvalidExactly r = InvalidExactly (rules r.setting) r.history r.journal
+
+-- one tally, of the one worker, has the counts of its events
+abbrev pub IsTallied : RunRecord → Type 0
+IsTallied r = r.tallies ≡ tally 0 r.history ∷ []
+
+-- the record is of what was asked: its run begins as the options say, and where files are told, with their plan and topology
+pub record IsAsAsked (files : Option Files) (asked : Option Options) (r : RunRecord) : Type 0 where
+  pub options : Options
+  pub asked_is : asked ≡ Some options
+  pub setting : r.setting ≡ setting_of r.setting.plan r.setting.topology options
+  pub of_files : ForSome files (λ told. IsRunOver told asked r.setting)
+
+-- The text of an answer was written, or with 7 a beginning of it; the status and the record are that answer's. Where files
+-- are told, it is right over them, and a name that is printed after a fault is one that was to be read.
+pub record IsTextOf (files : Option Files) (asked : Option Options) (before after : Option (List ℕ)) (done : Done) : Type 0 where
+  pub answer : Answer
+  pub whole : Bool
+  pub done_is : done ≡ done_of answer whole
+  pub text : OnTrue whole (after ≡ grown before (text_of answer))
+  pub beginning : OnFalse whole (IsCutOff before (text_of answer) after)
+  pub right : ForSome files (λ told. MayAnswer told asked answer)
+
+abbrev pub IsAsWritten : Option Files → Option Options → Option (List ℕ) → Option (List ℕ) → Done → Type 0
+IsAsWritten files asked before after done = ((done ≡ out_of_memory) × (after ≡ before)) ⊎ IsTextOf files asked before after done
+
+abbrev pub IsOneOf : List ℕ → ℕ → Type 0
+IsOneOf [] n = ⊥
+IsOneOf (m ∷ ms) n = (n ≡ m) ⊎ IsOneOf ms n
+
+-- with 0 and 1 there is a record with such a verdict; with a record there is such a status, or 7
+abbrev pub IsVerdictStatus : Option RunRecord → ℕ → Type 0
+IsVerdictStatus None status = (status ≢ 0) × (status ≢ 1)
+IsVerdictStatus (Some r) status = (status ≡ verdict_status r.verdict) ⊎ (status ≡ 7)
+
+-- the statuses that an answer may have, as its run goes
+abbrev pub statuses_of : Answer → List ℕ
+statuses_of (Ran r) = 0 ∷ 1 ∷ []
+statuses_of a = status_of a ∷ []
+
+-- When each status comes. Where files are told, a status comes exactly where an answer with it is right over them, but that
+-- 5, 7 and 8 may come in its place; each of these has its cause.
+pub record IsCaused (files : Option Files) (asked : Option Options) (read_rose write_rose : Type 0) (done : Done) : Type 0 where
+  pub verdict : IsVerdictStatus done.kept done.status
+  pub usage : done.status ≡ 2 → asked ≡ None
+  pub no_usage : asked ≡ None → (done.kept ≡ None) × IsOneOf (2 ∷ 7 ∷ 8 ∷ []) done.status
+  pub only : ForSome files (λ told. IsOneOf (5 ∷ 7 ∷ 8 ∷ []) done.status ⊎ ((a : Answer) × IsAnswer told asked a × (done.status ≡ status_of a)))
+  pub always : ForSome files (λ told. (a : Answer) → IsAnswer told asked a → IsOneOf (statuses_of a ++ 5 ∷ 7 ∷ 8 ∷ []) done.status)
+  pub read_fault : done.status ≡ 5 → read_rose
+  pub write_fault : done.status ≡ 7 → write_rose
+
+-- Where files are told, a run is to be made over them and no read failed, 7 has a record; and where no write failed either,
+-- there is a run with 0 or 1, or memory ran out.
+pub record IsComplete (files : Option Files) (asked : Option Options) (read_rose write_rose : Type 0) (done : Done) : Type 0 where
+  pub keeps_run : ForSome files (λ told. (setting : Setting) → IsRunOver told asked setting → (read_rose → ⊥) → done.status ≡ 7 → IsSome done.kept)
+  pub runs : ForSome files (λ told. (setting : Setting) → IsRunOver told asked setting → (read_rose → ⊥) → (write_rose → ⊥) → (IsSome done.kept × IsOneOf (0 ∷ 1 ∷ []) done.status) ⊎ (done.status ≡ 8))
+
+-- one worker made the run, and took the controllers in the order of their numbers; this is so of a run on one thread
+abbrev pub IsByOneWorker : RunRecord → Type 0
+IsByOneWorker r = IsAlone (rules r.setting) r.history
+
+-- all of it that follows from what a call does
+pub record IsTheorem (files : Option Files) (asked : Option Options) (read_rose write_rose : Type 0) (before after : Option (List ℕ)) (done : Done) : Type 0 where
+  pub record_is_a_run : IfSome done.kept IsWholeRun
+  pub as_asked : IfSome done.kept (IsAsAsked files asked)
+  pub as_written : IsAsWritten files asked before after done
+  pub woken_once : IfSome done.kept IsWokenOnce
+  pub accounted : IfSome done.kept IsMessageAccount
+  pub invalid_exactly : IfSome done.kept IsInvalidExactly
+  pub tallied : IfSome done.kept IsTallied
+  pub causes : IsCaused files asked read_rose write_rose done
+  pub complete : IsComplete files asked read_rose write_rose done
