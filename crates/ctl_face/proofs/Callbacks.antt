@@ -1,5 +1,5 @@
 -- What holds of a lawful local holds after a callback and after a state is set.
-use Rattle.std.proofs.Common.{◌≡◌, ℕ, ◌≤◌, Bool, true, false, IfSome, refl, subst, arith, Option, None, Some, Ok, Err}
+use Rattle.std.proofs.Common.{◌≡◌, ℕ, ◌≤◌, Bool, true, false, IfNone, IfSome, IsSome, refl, subst, arith, Option, None, Some, Ok, Err}
 use Rattle.std.proofs.lemmas.Bool.{leb-true, ltb-true}
 use Rattle.std.specs.Bool.{nat_lt, nat_le}
 use Rattle.std.specs.FinMap as map
@@ -13,6 +13,7 @@ use Rattle.ctl_face.specs.Callback.{is_store, request_for, finished, with_finish
 use Rattle.ctl_face.specs.Ctl.{Requests}
 use Rattle.ctl_face.specs.Fits.{FitsRequests, FitsSequencer, IsLawful, IsLine, IsRequest}
 use Rattle.ctl_face.specs.LocalView.{LocalView}
+use Rattle.ctl_face.specs.Served.{HasStates}
 use Rattle.ctl_face.specs.State.{set_state}
 use Rattle.ctl_face.proofs.Cases.{Good, good_ok, good_err, good_cond}
 use Rattle.ctl_face.proofs.Maps.{insert_keeps, remove_keeps}
@@ -88,14 +89,19 @@ write_back_keeps v line block = write_keeps v line block (request_for v line) re
 abbrev StateOfLine : ℕ → ℕ → Type 0
 StateOfLine line state = IsLine line
 
-pub set_state_keeps : (v : LocalView) (line state : ℕ) → IsLine line → IsLawful v → IsLawful (set_state v line state)
-set_state_keeps v line state is lawful = record {
+-- a machine that has the built-in map
+with_states : (default : Option ℕ) (X : Type 0) → IsSome default → IfNone default X
+with_states None X has = absurd (cc has)
+with_states (Some state) X has = tt
+
+pub set_state_keeps : (v : LocalView) (line state : ℕ) → HasStates v → IsLine line → IsLawful v → IsLawful (set_state v line state)
+set_state_keeps v line state has is lawful = record {
   machine = lawful.machine;
   routes = lawful.routes;
   now = lawful.now;
   start = lawful.start;
   fits = record {
-    tables = record { each = lawful.fits.tables.each; lines = insert_keeps StateOfLine v.ctl.states line state lawful.fits.tables.lines is };
+    tables = record { each = lawful.fits.tables.each; lines = insert_keeps StateOfLine v.ctl.states line state lawful.fits.tables.lines is; no_states = with_states v.machine.default_state _ has };
     mail = lawful.fits.mail;
     sequencer = lawful.fits.sequencer;
   };

@@ -23,6 +23,7 @@ module _ (v : LocalView) (lawful : IsLawful v) (table : ℕ) where
           tables = record {
             each = holds_after_set At v.ctl.tables table t lawful.fits.tables.each (subst Q (sym is) here);
             lines = lawful.fits.tables.lines;
+            no_states = lawful.fits.tables.no_states;
           };
           mail = lawful.fits.mail;
           sequencer = lawful.fits.sequencer;

@@ -2,7 +2,7 @@
 -- the machine, with fields of the declared kinds; each line in them is below 2 ^ 58; its own messages have numbers that it has
 -- given; and its counts are at most what it may send in the cycles up to now. Each step of a controller keeps this.
 -- It doesn't say that the values of enumerations are members, nor that machine numbers are those of controllers.
-use Rattle.std.specs.Prelude.{◌≡◌, ◌<◌, ◌≤◌, ◌^◌, ◌+◌, ◌*◌, ℕ, Bool, true, false, Option, None, Some, List, length, slice_get, IsTrue, IfSome, IsSomeAnd}
+use Rattle.std.specs.Prelude.{◌≡◌, ◌<◌, ◌≤◌, ◌^◌, ◌+◌, ◌*◌, ℕ, Bool, true, false, Option, None, Some, List, length, slice_get, IsTrue, IfSome, IfNone, IsSomeAnd}
 use Rattle.std.specs.FinMap as map
 use Rattle.std.specs.Ordering.{nat_cmp}
 use Rattle.std.specs.List.{All, AllPairs}
@@ -89,10 +89,11 @@ FitsSequencer false None = Unit {0}
 FitsSequencer true (Some r) = FitsRequests r
 FitsSequencer _ _ = ⊥
 
--- the tables, by their numbers, and the lines whose states were set
+-- the tables, by their numbers, and the lines whose states were set, of which a machine without the built-in map has none
 pub record FitsTables (machine : MachineSetup) (tables : List Table) (states : map.FinMap nat_cmp ℕ) : Type 0 where
   pub each : (table : ℕ) → FitsTableAt (slice_get machine.tables table) (slice_get tables table)
   pub lines : (line : ℕ) → IfSome (map.get states line) (λ _. IsLine line)
+  pub no_states : IfNone machine.default_state (states ≡ map.empty)
 
 -- the mail of a controller with these buffers and this actor number
 pub record FitsMail (buffers : List BufferSetup) (me : ℕ) (mail : Mail) (now : ℕ) : Type 0 where

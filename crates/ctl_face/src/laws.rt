@@ -27,7 +27,7 @@ ghost use Rattle.ctl_face.specs.Ready.{required_front};
 ghost use Rattle.ctl_face.specs.Recycle.{recycle};
 ghost use Rattle.ctl_face.specs.RoutesFit.{HasRoutes, RoutesFit, StandsAt};
 ghost use Rattle.ctl_face.specs.Send.{copy_limit};
-ghost use Rattle.ctl_face.specs.Served.{TakesField, TakesMessage};
+ghost use Rattle.ctl_face.specs.Served.{HasStates, TakesField, TakesMessage};
 ghost use Rattle.ctl_face.specs.Set.{set};
 ghost use Rattle.ctl_face.specs.Stall.{stall};
 ghost use Rattle.ctl_face.specs.State.{set_state};
@@ -50,7 +50,7 @@ pub fn table_calls_keep_what_holds()
     ensures allocate { (v : LocalView) (table line : ℕ) (after : LocalView) → IsLine line → IsLawful v → allocate v table line ≡ Ok after → IsLawful after }
     ensures deallocate { (v : LocalView) (table line : ℕ) (after : LocalView) → IsLawful v → deallocate v table line ≡ Ok after → IsLawful after }
     ensures touch { (v : LocalView) (table line : ℕ) (after : LocalView) → IsLawful v → touch v table line ≡ Ok after → IsLawful after }
-    ensures set_state { (v : LocalView) (line state : ℕ) → IsLine line → IsLawful v → IsLawful (set_state v line state) }
+    ensures set_state { (v : LocalView) (line state : ℕ) → HasStates v → IsLine line → IsLawful v → IsLawful (set_state v line state) }
 {}
 
 /// What holds of each controller of a machine holds after each act on its messages and requests, and after a mark.
