@@ -30,6 +30,7 @@ pub mod Recycle
 pub mod RoutesFit
 pub mod Routing
 pub mod Send
+pub mod SendAdds
 pub mod Served
 pub mod Set
 pub mod Stall

@@ -20,6 +20,7 @@ pub use laws::{
 pub use local::Local;
 pub use mail_laws::{
     copies_arrive_later, edits_change_one_key, front_comes_first, marks_lie_ahead,
+    sends_add_their_copies,
 };
 pub use routes::Routes;
 pub use ruby_value::{
