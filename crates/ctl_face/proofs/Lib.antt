@@ -15,6 +15,7 @@ pub mod OneKey
 pub mod Opened
 pub mod OwnBuffers
 pub mod Reading
+pub mod Receivers
 pub mod SendAdds
 pub mod Sendings
 pub mod TableCalls

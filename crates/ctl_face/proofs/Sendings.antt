@@ -24,7 +24,7 @@ use Rattle.ctl_face.specs.Lasts.{Lasts, with_last}
 use Rattle.ctl_face.specs.Latency.{is_latency}
 use Rattle.ctl_face.specs.LocalView.{Actor, LocalView}
 use Rattle.ctl_face.specs.Mailing.{delivered, incoming}
-use Rattle.ctl_face.specs.OfMachine.{message_kinds}
+use Rattle.ctl_face.specs.OfMachine.{TakesFields, message_kinds}
 use Rattle.ctl_face.specs.RoutesFit.{IsFrom, ReceivesFrom}
 use Rattle.ctl_face.specs.Routing.{receiving_buffer, is_ordered}
 use Rattle.ctl_face.specs.Send.{Sending, send, sent_from, sent_on, copy_limit, receivers_of, counted, next_copy, no_copies, has_jitter, after_network_copy, network_arrival, with_network_copy, local_arrival, local_copy}
@@ -32,10 +32,6 @@ use Rattle.ctl_face.proofs.Cases.{Good, good_ok, good_err, good_cond}
 use Rattle.ctl_face.proofs.FieldKinds.{same_kinds_take}
 use Rattle.ctl_face.proofs.Lines.{All-found}
 use Rattle.ctl_face.proofs.MailKept.{arrived_fits, mail_lawful}
-
--- the buffer is there, and its messages have these fields
-abbrev pub TakesFields : List BufferSetup → ℕ → List Value → Type 0
-TakesFields buffers buffer fields = IsSomeAnd (slice_get buffers buffer) (λ (s : BufferSetup). IsTrue (has_kinds s.kinds fields))
 
 takes_fields : (buffers : List BufferSetup) (buffer : ℕ) (s : BufferSetup) (fields : List Value) → slice_get buffers buffer ≡ Some s → IsTrue (has_kinds s.kinds fields) → TakesFields buffers buffer fields
 takes_fields buffers buffer s fields is here = subst (λ (o : Option BufferSetup). IsSomeAnd o (λ (b : BufferSetup). IsTrue (has_kinds b.kinds fields))) (sym is) here
@@ -117,13 +113,14 @@ module _ (buffers : List BufferSetup) (actor : Actor) (now : ℕ) where
       (step_fits network latency fields s receiver room_here (mine receiver both.0) fits)
 
 -- two buffers on one network have one message type, so the one that takes the network's messages takes these fields
-module _ (machine : MachineSetup) (lawful : IsMachine machine) (actor : Actor) (own : ReceivesFrom machine actor.me actor.routes) (network buffer : ℕ) (fields : List Value) (s : BufferSetup) (is : slice_get machine.buffers buffer ≡ Some s) (on : network_of s.place ≡ Some network) (here : IsTrue (has_kinds s.kinds fields)) where
-  other_takes : (b : ℕ) (o : Option BufferSetup) → slice_get machine.buffers b ≡ o → option_map (λ (x : BufferSetup). x.place) o ≡ Some (place.From network) → IfSome o (AgreeOnType s) → TakesFields machine.buffers b fields
-  other_takes b None there from agree = absurd (cc from)
-  other_takes b (Some t) there from agree =
-      let at_place : t.place ≡ place.From network = cc in
-      takes_fields machine.buffers b t fields there (same_kinds_take s.kinds t.kinds fields (agree network on (ap network_of at_place)) here)
+pub other_takes : (network : ℕ) (fields : List Value) (s : BufferSetup) → network_of s.place ≡ Some network → IsTrue (has_kinds s.kinds fields)
+    → (buffers : List BufferSetup) (b : ℕ) (o : Option BufferSetup) → slice_get buffers b ≡ o → option_map (λ (x : BufferSetup). x.place) o ≡ Some (place.From network) → IfSome o (AgreeOnType s) → TakesFields buffers b fields
+other_takes network fields s on here buffers b None there from agree = absurd (cc from)
+other_takes network fields s on here buffers b (Some t) there from agree =
+    let at_place : t.place ≡ place.From network = cc in
+    takes_fields buffers b t fields there (same_kinds_take s.kinds t.kinds fields (agree network on (ap network_of at_place)) here)
 
+module _ (machine : MachineSetup) (lawful : IsMachine machine) (actor : Actor) (own : ReceivesFrom machine actor.me actor.routes) (network buffer : ℕ) (fields : List Value) (s : BufferSetup) (is : slice_get machine.buffers buffer ≡ Some s) (on : network_of s.place ≡ Some network) (here : IsTrue (has_kinds s.kinds fields)) where
   agrees : All (AgreeOnType s) machine.buffers
   agrees = subst (λ (o : Option BufferSetup). IfSome o (λ x. All (AgreeOnType x) machine.buffers)) is (All-found (λ x. All (AgreeOnType x) machine.buffers) machine.buffers buffer lawful.one_type.one_type)
 
@@ -131,7 +128,7 @@ module _ (machine : MachineSetup) (lawful : IsMachine machine) (actor : Actor) (
   own_buffer_takes None same there = absurd (cc there)
   own_buffer_takes (Some b) same there =
       let P : Option ℕ → Type 0 = IsFrom machine network in
-      other_takes b (slice_get machine.buffers b) refl (subst P same (own network)) (All-found (AgreeOnType s) machine.buffers b agrees)
+      other_takes network fields s on here machine.buffers b (slice_get machine.buffers b) refl (subst P same (own network)) (All-found (AgreeOnType s) machine.buffers b agrees)
 
   own_takes : (receiver : ℕ) → is_some (receiving_buffer actor.routes receiver network) ≡ true → receiver ≡ actor.me → TakesFields machine.buffers (unwrap_or (receiving_buffer actor.routes receiver network) 0) fields
   own_takes receiver there mine =

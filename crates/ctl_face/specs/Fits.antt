@@ -2,7 +2,7 @@
 -- the machine, with fields of the declared kinds; each line in them is below 2 ^ 58; its own messages have numbers that it has
 -- given; and its counts are at most what it may send in the cycles up to now. Each step of a controller keeps this.
 -- It doesn't say that the values of enumerations are members, nor that machine numbers are those of controllers.
-use Rattle.std.specs.Prelude.{◌≡◌, ◌<◌, ◌≤◌, ◌^◌, ◌+◌, ◌*◌, ℕ, Bool, true, false, Option, None, Some, List, length, slice_get, IsTrue, IfSome, IfNone, IsSomeAnd}
+use Rattle.std.specs.Prelude.{◌≡◌, ◌<◌, ◌≤◌, ◌^◌, ◌+◌, ◌*◌, ℕ, Bool, true, false, Option, None, Some, List, length, slice_get, IsTrue, IfSome, IfNone}
 use Rattle.std.specs.FinMap as map
 use Rattle.std.specs.Ordering.{nat_cmp}
 use Rattle.std.specs.List.{All, AllPairs}
@@ -17,6 +17,7 @@ use Rattle.ctl_face.specs.Ctl.{Ctl, InboxMessage, Mail, Requests}
 use Rattle.ruby_value.specs.HasKinds.{has_kinds}
 use Rattle.ruby_value.specs.NumberBefore.{number_before}
 use Rattle.ctl_face.specs.IsMachine.{IsMachine, network_count}
+use Rattle.ctl_face.specs.OfMachine.{TakesFields}
 use Rattle.ctl_face.specs.RoutesFit.{HasRoutes}
 use Rattle.ctl_face.specs.LocalView.{LocalView}
 use Rattle.ctl_face.specs.Send.{copy_limit}
@@ -65,7 +66,7 @@ FitsTableAt (Some s) (Some t) = FitsTable s t
 FitsTableAt _ _ = ⊥
 
 pub record FitsMessage (buffers : List BufferSetup) (me sent : ℕ) (m : InboxMessage) : Type 0 where
-  pub fields : IsSomeAnd (slice_get buffers m.message.buffer) (λ (s : BufferSetup). IsTrue (has_kinds s.kinds m.message.fields))
+  pub fields : TakesFields buffers m.message.buffer m.message.fields
   pub own_number : m.message.number.sender ≡ me → m.message.number.count < sent
   pub line : IfSome m.waiting IsLine
 

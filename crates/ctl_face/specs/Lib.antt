@@ -11,6 +11,7 @@ pub mod Does
 pub mod Enqueue
 pub mod FieldsIn
 pub mod Fits
+pub mod FitsReceiver
 pub mod Free
 pub mod Front
 pub mod Get
