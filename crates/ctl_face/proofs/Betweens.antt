@@ -12,7 +12,7 @@ use Rattle.ruby_value.specs.HasKinds.{has_kinds}
 use Rattle.ruby_value.proofs.Ordered.{AllPairs-tail}
 use Rattle.ctl_face.specs.Between.{begun, fired_once, halted, rest_of, with_arrival, with_request, with_wake_up, without_first_answer}
 use Rattle.ctl_face.specs.Ctl.{Ctl, Requests}
-use Rattle.ctl_face.specs.Fits.{Fits, FitsRequests, FitsSequencer, IsLawful, IsRequest}
+use Rattle.ctl_face.specs.Fits.{Fits, FitsRequests, FitsSequencer, ScanFits, IsRequest}
 use Rattle.ctl_face.specs.LocalView.{LocalView}
 use Rattle.ctl_face.specs.Send.{copy_limit}
 use Rattle.ctl_face.proofs.Callbacks.{Outstanding}
@@ -96,7 +96,7 @@ begun_keeps machine me old now ctl later fits = record {
 few : (n now copies : ℕ) → n ≤ copy_limit * now + copies → copies ≤ copy_limit → now ≤ 10 ^ 12 → n + copy_limit < 2 ^ 64
 few n now copies first second third = omega arith
 
-pub numbers_left : (v : LocalView) → IsLawful v → (v.ctl.mail.sent + copy_limit < 2 ^ 64) × (v.ctl.mail.drawn + copy_limit < 2 ^ 64)
+pub numbers_left : (v : LocalView) → ScanFits v → (v.ctl.mail.sent + copy_limit < 2 ^ 64) × (v.ctl.mail.drawn + copy_limit < 2 ^ 64)
 numbers_left v lawful =
     let mail = lawful.fits.mail in
     (few v.ctl.mail.sent v.now v.ctl.mail.copies mail.sent mail.copies lawful.now, few v.ctl.mail.drawn v.now v.ctl.mail.copies mail.drawn mail.copies lawful.now)

@@ -11,7 +11,7 @@ use Rattle.ruby_value.specs.declared.value.Block.{Block}
 use Rattle.ruby_value.proofs.Ordered.{All-insert, AllPairs-insert}
 use Rattle.ctl_face.specs.Callback.{is_store, request_for, finished, with_finished, after_answer, finish_read, read_back, stored_block, finish_write, write_back}
 use Rattle.ctl_face.specs.Ctl.{Requests}
-use Rattle.ctl_face.specs.Fits.{FitsRequests, FitsSequencer, IsLawful, IsLine, IsRequest}
+use Rattle.ctl_face.specs.Fits.{FitsRequests, FitsSequencer, ScanFits, IsLine, IsRequest}
 use Rattle.ctl_face.specs.LocalView.{LocalView}
 use Rattle.ctl_face.specs.Served.{HasStates}
 use Rattle.ctl_face.specs.State.{set_state}
@@ -47,7 +47,7 @@ is_request true r line asked is fits = (let Q : Option Asked → Type 0 = λ o. 
 is_request false r line asked is fits = absurd fits
 
 -- the sequencer with other requests
-pub with_requests_fits : (v : LocalView) (requests : Option Requests) → FitsSequencer v.machine.has_sequencer requests → IsLawful v → IsLawful (record v { ctl = record v.ctl { sequencer = requests } })
+pub with_requests_fits : (v : LocalView) (requests : Option Requests) → FitsSequencer v.machine.has_sequencer requests → ScanFits v → ScanFits (record v { ctl = record v.ctl { sequencer = requests } })
 with_requests_fits v requests here lawful = record {
   machine = lawful.machine;
   routes = lawful.routes;
@@ -57,33 +57,33 @@ with_requests_fits v requests here lawful = record {
 }
 
 answered : (v : LocalView) (line : ℕ) (asked : Asked) (block : Block) (requests : Option Requests) → option_and_then (λ (r : Requests). map.get r.outstanding line) requests ≡ Some asked
-    → FitsSequencer v.machine.has_sequencer requests → IsLawful v → IsLawful (with_finished v line (record { asked = asked; block = block }) requests)
+    → FitsSequencer v.machine.has_sequencer requests → ScanFits v → ScanFits (with_finished v line (record { asked = asked; block = block }) requests)
 answered v line asked block None is fits lawful = lawful
 answered v line asked block (Some r) is fits lawful =
     let a : Answer = record { asked = asked; block = block } in
     let has = v.machine.has_sequencer in
     with_requests_fits v (Some (finished r line a)) (sequencer_fits has r (finished r line a) (finished_fits r line a (is_request has r line asked is fits)) fits) lawful
 
-answer_keeps : (v : LocalView) (line : ℕ) (asked : Asked) (block : Block) → request_for v line ≡ Some asked → IsLawful v → IsLawful (after_answer v line asked block)
+answer_keeps : (v : LocalView) (line : ℕ) (asked : Asked) (block : Block) → request_for v line ≡ Some asked → ScanFits v → ScanFits (after_answer v line asked block)
 answer_keeps v line asked block is lawful = answered v line asked block v.ctl.sequencer is lawful.fits.sequencer lawful
 
-read_keeps : (v : LocalView) (line : ℕ) (block : Block) (asked : Option Asked) → request_for v line ≡ asked → IsLawful v → Good IsLawful (finish_read v line block asked)
-read_keeps v line block None is lawful = good_err IsLawful Callback
+read_keeps : (v : LocalView) (line : ℕ) (block : Block) (asked : Option Asked) → request_for v line ≡ asked → ScanFits v → Good ScanFits (finish_read v line block asked)
+read_keeps v line block None is lawful = good_err ScanFits Callback
 read_keeps v line block (Some asked) is lawful =
-    good_cond IsLawful (is_store asked.kind) (Err Callback) (Ok (after_answer v line asked block)) (λ _. good_err IsLawful Callback)
-    (λ _. good_ok IsLawful (after_answer v line asked block) (answer_keeps v line asked block is lawful))
+    good_cond ScanFits (is_store asked.kind) (Err Callback) (Ok (after_answer v line asked block)) (λ _. good_err ScanFits Callback)
+    (λ _. good_ok ScanFits (after_answer v line asked block) (answer_keeps v line asked block is lawful))
 
-pub read_back_keeps : (v : LocalView) (line : ℕ) (block : Block) → IsLawful v → Good IsLawful (read_back v line block)
+pub read_back_keeps : (v : LocalView) (line : ℕ) (block : Block) → ScanFits v → Good ScanFits (read_back v line block)
 read_back_keeps v line block = read_keeps v line block (request_for v line) refl
 
-write_keeps : (v : LocalView) (line : ℕ) (block : Block) (asked : Option Asked) → request_for v line ≡ asked → IsLawful v → Good IsLawful (finish_write v line block asked)
-write_keeps v line block None is lawful = good_err IsLawful Callback
+write_keeps : (v : LocalView) (line : ℕ) (block : Block) (asked : Option Asked) → request_for v line ≡ asked → ScanFits v → Good ScanFits (finish_write v line block asked)
+write_keeps v line block None is lawful = good_err ScanFits Callback
 write_keeps v line block (Some asked) is lawful =
     let stored = stored_block asked block in
-    good_cond IsLawful (is_store asked.kind) (Ok (after_answer v line asked stored)) (Err Callback)
-    (λ _. good_ok IsLawful (after_answer v line asked stored) (answer_keeps v line asked stored is lawful)) (λ _. good_err IsLawful Callback)
+    good_cond ScanFits (is_store asked.kind) (Ok (after_answer v line asked stored)) (Err Callback)
+    (λ _. good_ok ScanFits (after_answer v line asked stored) (answer_keeps v line asked stored is lawful)) (λ _. good_err ScanFits Callback)
 
-pub write_back_keeps : (v : LocalView) (line : ℕ) (block : Block) → IsLawful v → Good IsLawful (write_back v line block)
+pub write_back_keeps : (v : LocalView) (line : ℕ) (block : Block) → ScanFits v → Good ScanFits (write_back v line block)
 write_back_keeps v line block = write_keeps v line block (request_for v line) refl
 
 abbrev StateOfLine : ℕ → ℕ → Type 0
@@ -94,7 +94,7 @@ with_states : (default : Option ℕ) (X : Type 0) → IsSome default → IfNone 
 with_states None X has = absurd (cc has)
 with_states (Some state) X has = tt
 
-pub set_state_keeps : (v : LocalView) (line state : ℕ) → HasStates v → IsLine line → IsLawful v → IsLawful (set_state v line state)
+pub set_state_keeps : (v : LocalView) (line state : ℕ) → HasStates v → IsLine line → ScanFits v → ScanFits (set_state v line state)
 set_state_keeps v line state has is lawful = record {
   machine = lawful.machine;
   routes = lawful.routes;

@@ -1,3 +1,4 @@
+pub mod ActsKept
 pub mod Ahead
 pub mod Arrivals
 pub mod Betweens
@@ -7,6 +8,7 @@ pub mod FieldKinds
 pub mod Fronts
 pub mod Held
 pub mod Inboxes
+pub mod LawfulAfter
 pub mod Lines
 pub mod MailKept
 pub mod Maps

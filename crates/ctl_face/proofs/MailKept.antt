@@ -10,7 +10,7 @@ use Rattle.ctl_face.specs.Acts.{Acts}
 use Rattle.ctl_face.specs.Again.{again}
 use Rattle.ctl_face.specs.AtFront.{at_front, after_front}
 use Rattle.ctl_face.specs.Ctl.{InboxMessage, Mail}
-use Rattle.ctl_face.specs.Fits.{FitsMail, FitsMessage, NumbersAscend, IsLawful, IsLine}
+use Rattle.ctl_face.specs.Fits.{FitsMail, FitsMessage, NumbersAscend, ScanFits, IsLine}
 use Rattle.ctl_face.specs.Inbox.{with_message, without_message}
 use Rattle.ctl_face.specs.Latency.{is_latency}
 use Rattle.ctl_face.specs.LocalView.{LocalView}
@@ -90,7 +90,7 @@ module _ (buffers : List BufferSetup) (me now : ℕ) where
       (tested_fits mail (λ (o : InboxMessage). same_number o.message.number m.number) change (λ o. refl) (arrival_fits mail.sent arrival) fits)
 
 -- other mail of the same controller
-pub mail_lawful : (v : LocalView) (mail : Mail) (acts : Acts) → FitsMail v.machine.buffers v.actor.me mail v.now → IsLawful v → IsLawful (record v { ctl = record v.ctl { mail = mail }; acts = acts })
+pub mail_lawful : (v : LocalView) (mail : Mail) (acts : Acts) → FitsMail v.machine.buffers v.actor.me mail v.now → ScanFits v → ScanFits (record v { ctl = record v.ctl { mail = mail }; acts = acts })
 mail_lawful v mail acts here lawful = record {
   machine = lawful.machine;
   routes = lawful.routes;
@@ -99,34 +99,34 @@ mail_lawful v mail acts here lawful = record {
   fits = record { tables = lawful.fits.tables; mail = here; sequencer = lawful.fits.sequencer };
 }
 
-front_lawful : (v : LocalView) (told : MsgNo → Acts) (change : Message → Mail) (o : Option Message) → ((m : Message) → FitsMail v.machine.buffers v.actor.me (change m) v.now) → IsLawful v → Good IsLawful (after_front v told (at_front change o))
-front_lawful v told change None keeps lawful = good_err IsLawful Front
-front_lawful v told change (Some m) keeps lawful = good_ok IsLawful _ (mail_lawful v (change m) (told m.number) (keeps m) lawful)
+front_lawful : (v : LocalView) (told : MsgNo → Acts) (change : Message → Mail) (o : Option Message) → ((m : Message) → FitsMail v.machine.buffers v.actor.me (change m) v.now) → ScanFits v → Good ScanFits (after_front v told (at_front change o))
+front_lawful v told change None keeps lawful = good_err ScanFits Front
+front_lawful v told change (Some m) keeps lawful = good_ok ScanFits _ (mail_lawful v (change m) (told m.number) (keeps m) lawful)
 
-pub pop_keeps : (v : LocalView) (buffer : ℕ) → IsLawful v → Good IsLawful (pop v buffer)
+pub pop_keeps : (v : LocalView) (buffer : ℕ) → ScanFits v → Good ScanFits (pop v buffer)
 pop_keeps v buffer lawful =
     front_lawful v _ (consumed v.ctl.mail) (front_now v buffer) (λ m. consumed_fits v.machine.buffers v.actor.me v.now v.ctl.mail m lawful.fits.mail) lawful
 
-pub stall_keeps : (v : LocalView) (buffer line : ℕ) → IsLine line → IsLawful v → Good IsLawful (stall v buffer line)
+pub stall_keeps : (v : LocalView) (buffer line : ℕ) → IsLine line → ScanFits v → Good ScanFits (stall v buffer line)
 stall_keeps v buffer line is lawful =
     front_lawful v _ (set_aside v.ctl.mail line) (front_now v buffer) (λ m. aside_fits v.machine.buffers v.actor.me v.now v.ctl.mail line m is lawful.fits.mail) lawful
 
-woken_keeps : (v : LocalView) (test : InboxMessage → Bool) → IsLawful v → IsLawful (woken_where v test)
+woken_keeps : (v : LocalView) (test : InboxMessage → Bool) → ScanFits v → ScanFits (woken_where v test)
 woken_keeps v test lawful = mail_lawful v (woken_mail v.ctl.mail test) _ (woken_fits v.machine.buffers v.actor.me v.now v.ctl.mail test lawful.fits.mail) lawful
 
-pub wake_keeps : (v : LocalView) (line : ℕ) → IsLawful v → IsLawful (wake v line)
+pub wake_keeps : (v : LocalView) (line : ℕ) → ScanFits v → ScanFits (wake v line)
 wake_keeps v line = woken_keeps v (λ (o : InboxMessage). is_under line o.waiting)
 
-pub wake_all_keeps : (v : LocalView) → IsLawful v → IsLawful (wake_all v)
+pub wake_all_keeps : (v : LocalView) → ScanFits v → ScanFits (wake_all v)
 wake_all_keeps v = woken_keeps v (λ (o : InboxMessage). is_some o.waiting)
 
-recycled_keeps : (v : LocalView) (told : MsgNo → Acts) (b : Bool) (buffer arrival : ℕ) → IsLawful v → Good IsLawful (after_front v told (cond b (at_front (put_off v.ctl.mail arrival) (front_now v buffer)) (Err Latency)))
+recycled_keeps : (v : LocalView) (told : MsgNo → Acts) (b : Bool) (buffer arrival : ℕ) → ScanFits v → Good ScanFits (after_front v told (cond b (at_front (put_off v.ctl.mail arrival) (front_now v buffer)) (Err Latency)))
 recycled_keeps v told true buffer arrival lawful =
     front_lawful v told (put_off v.ctl.mail arrival) (front_now v buffer) (λ m. put_off_fits v.machine.buffers v.actor.me v.now v.ctl.mail arrival m lawful.fits.mail) lawful
-recycled_keeps v told false buffer arrival lawful = good_err IsLawful Latency
+recycled_keeps v told false buffer arrival lawful = good_err ScanFits Latency
 
-pub recycle_keeps : (v : LocalView) (buffer : ℕ) (latency : ℤ) → IsLawful v → Good IsLawful (recycle v buffer latency)
+pub recycle_keeps : (v : LocalView) (buffer : ℕ) (latency : ℤ) → ScanFits v → Good ScanFits (recycle v buffer latency)
 recycle_keeps v buffer latency lawful = recycled_keeps v _ (is_latency latency) buffer (v.now + nat_abs latency) lawful
 
-pub again_keeps : (v : LocalView) → IsLawful v → IsLawful (again v)
+pub again_keeps : (v : LocalView) → ScanFits v → ScanFits (again v)
 again_keeps v lawful = mail_lawful v (marked v.ctl.mail (v.now + 1)) _ (mark_fits v.machine.buffers v.actor.me v.now v.ctl.mail (v.now + 1) lawful.fits.mail) lawful

@@ -10,10 +10,12 @@ use Rattle.ruby_value.specs.declared.setup.MachineSetup.{MachineSetup}
 use Rattle.ruby_value.specs.declared.value.Value.{Value}
 use Rattle.ruby_value.specs.HasKinds.{has_kinds}
 use Rattle.ctl_face.specs.Acts.{Copy}
+use Rattle.ctl_face.specs.ActsFit.{IsRouted}
 use Rattle.ctl_face.specs.Ctl.{Mail}
+use Rattle.ctl_face.specs.Fits.{IsLawful}
 use Rattle.ctl_face.specs.FitsReceiver.{FitsReceiver}
 use Rattle.ctl_face.specs.IsMachine.{AgreeOnType, network_of}
-use Rattle.ctl_face.specs.LocalView.{Actor}
+use Rattle.ctl_face.specs.LocalView.{Actor, LocalView}
 use Rattle.ctl_face.specs.OfMachine.{TakesFields}
 use Rattle.ctl_face.specs.RoutesFit.{AgreeOnTypes, AreNumbered, IsFrom, ReceivesFrom, RoutesFit, StandsAt}
 use Rattle.ctl_face.specs.Routing.{receiving_buffer}
@@ -63,17 +65,17 @@ module _ (machines : List MachineSetup) (stand : List (ℕ × ℕ)) (actor : Act
       let agrees = found (λ (a : BufferSetup). All (AgreeOnType a) other.buffers) m.buffers buffer s there agree in
       other_takes network fields s on takes other.buffers b (slice_get other.buffers b) refl from_network (All-found (AgreeOnType s) other.buffers b agrees)
 
-  network_copy_fits : (network latency now : ℕ) (mail : Mail) → network_of s.place ≡ Some network → (c : Copy) → IsNetworkCopy actor mail network latency fields now c → FitsReceiver machines stand c
-  network_copy_fits network latency now mail on c copy =
-      let within = routed_within actor.routes.receiving c.receiver network c.message.buffer copy.buffer in
+  routed_fits : (network : ℕ) (c : Copy) → network_of s.place ≡ Some network → receiving_buffer actor.routes c.receiver network ≡ Some c.message.buffer → c.message.fields ≡ fields → FitsReceiver machines stand c
+  routed_fits network c on receives fields_sent =
+      let within = routed_within actor.routes.receiving c.receiver network c.message.buffer receives in
       let rows = fit.receiving.all_rows in
       let stands_there = somewhere stand 0 fit.total c.receiver fit.stands.numbered (omega arith) (omega arith) in
       let other = beside _ stand machines stands_there.0 fit.stands.each_machine stands_there.1 in
-      let takes_there = at_other network c.receiver c.message.buffer stands_there.0 other.0 on copy.buffer stands_there.1 other.1 in
+      let takes_there = at_other network c.receiver c.message.buffer stands_there.0 other.0 on receives stands_there.1 other.1 in
       record {
         at = stands_there.0;
         stands = stands_there.1;
-        takes = rw (other.1, copy.fields_sent) takes_there;
+        takes = rw (other.1, fields_sent) takes_there;
       }
 
   own_copy_fits : (ordered : Bool) (latency now : ℕ) (mail : Mail) (c : Copy) → c.receiver ≡ actor.me → IsOwnCopy ordered mail buffer latency fields now c → FitsReceiver machines stand c
@@ -87,7 +89,7 @@ module _ (machines : List MachineSetup) (stand : List (ℕ × ℕ)) (actor : Act
   each_fits place.Local latency now mail sending at_place adds =
       all_for (IsOwnCopy s.ordered mail buffer latency fields now) (FitsReceiver machines stand) actor.me (own_copy_fits s.ordered latency now mail) sending.copies adds.to adds.each
   each_fits (place.To network destination) latency now mail sending at_place adds =
-      All-weaker (IsNetworkCopy actor mail network latency fields now) (FitsReceiver machines stand) (network_copy_fits network latency now mail (ap network_of at_place)) sending.copies adds.each
+      All-weaker (IsNetworkCopy actor mail network latency fields now) (FitsReceiver machines stand) (λ c copy. routed_fits network c (ap network_of at_place) copy.buffer copy.fields_sent) sending.copies adds.each
   each_fits (place.From network) latency now mail sending at_place adds =
       All-weaker (λ (c : Copy). ⊥) (FitsReceiver machines stand) (λ c no. absurd no) sending.copies adds.each
 
@@ -101,3 +103,12 @@ sends_fit machines stand actor at m mail buffer latency fields now sending fit s
     from (Some s) there here =
         each_fits machines stand actor at m fit stands is buffer fields s there here s.place (nat_abs latency) now mail sending refl
         (send_adds m actor mail buffer latency fields now s sending there sent)
+
+pub posted_fit : (machines : List MachineSetup) (stand : List (ℕ × ℕ)) (v : LocalView) (at : ℕ) → RoutesFit machines stand v.actor.routes → StandsAt stand at v.actor.me → slice_get machines at ≡ Some v.machine → IsLawful v → All (FitsReceiver machines stand) v.acts.posted
+posted_fit machines stand v at fit stands is lawful =
+    All-weaker (IsRouted v.machine v.actor.routes) (FitsReceiver machines stand) (λ c routed. one c routed (slice_get v.machine.buffers routed.on) refl routed.sends) v.acts.posted lawful.acts.routed
+  where
+    one : (c : Copy) (routed : IsRouted v.machine v.actor.routes c) (o : Option BufferSetup) → slice_get v.machine.buffers routed.on ≡ o
+        → IsSomeAnd o (λ (s : BufferSetup). (network_of s.place ≡ Some routed.network) × IsTrue (has_kinds s.kinds c.message.fields)) → FitsReceiver machines stand c
+    one c routed None there none = absurd none
+    one c routed (Some s) there sends = routed_fits machines stand v.actor at v.machine fit stands is routed.on c.message.fields s there sends.1 routed.network c sends.0 routed.receives refl

@@ -114,8 +114,8 @@ module _ (actor : Actor) (start : Mail) (network latency : ℕ) (fields : List V
       record {
         to = map-append _ s.copies (copy ∷ []) ∙ ap (λ (rs : List ℕ). rs ++ receiver ∷ []) before.to;
         numbers = map-append _ s.copies (copy ∷ []) ∙ ap (λ (ns : List MsgNo). ns ++ record { sender = actor.me; count = s.mail.sent } ∷ []) before.numbers
-        ∙ ap (λ (k : ℕ). numbers_from actor.me start.sent (length done) ++ record { sender = actor.me; count = k } ∷ []) before.sent
-        ∙ numbers_push actor.me start.sent (length done) ∙ ap (numbers_from actor.me start.sent) (sym longer);
+            ∙ ap (λ (k : ℕ). numbers_from actor.me start.sent (length done) ++ record { sender = actor.me; count = k } ∷ []) before.sent
+            ∙ numbers_push actor.me start.sent (length done) ∙ ap (numbers_from actor.me start.sent) (sym longer);
         each = All-push IsCopy s.copies copy before.each (record {
           buffer = named (receiving_buffer actor.routes receiver network) routed;
           fields_sent = refl;
@@ -156,7 +156,7 @@ module _ (actor : Actor) (start : Mail) (network latency : ℕ) (fields : List V
       let done = all_done members [] (no_copies start) routed none_done in
       record { to = done.to; numbers = done.numbers; each = done.each; sent = done.sent; copies_counted = done.copies_counted; drawn = done.drawn }
 
-nothing_added : (actor : Actor) (mail : Mail) → AddsCopies actor mail [] 0 (λ c. ⊥) (no_copies mail)
+pub nothing_added : (actor : Actor) (mail : Mail) → AddsCopies actor mail [] 0 (λ c. ⊥) (no_copies mail)
 nothing_added actor mail = record { to = refl; numbers = refl; each = All-nil (λ c. ⊥); sent = omega arith; copies_counted = omega arith; drawn = omega arith }
 
 own_added : (actor : Actor) (ordered : Bool) (mail : Mail) (buffer latency : ℕ) (fields : List Value) (now : ℕ) → AddsCopies actor mail (actor.me ∷ []) 0 (IsOwnCopy ordered mail buffer latency fields now) (local_copy actor ordered mail buffer latency fields now)

@@ -18,7 +18,7 @@ use Rattle.ruby_value.specs.declared.value.Value.{Value}
 use Rattle.ruby_value.specs.HasKinds.{has_kinds}
 use Rattle.ctl_face.specs.Ctl.{InboxMessage, Mail}
 use Rattle.ctl_face.specs.Enqueue.{enqueue, after_sending}
-use Rattle.ctl_face.specs.Fits.{FitsMail, FitsMessage, IsLawful}
+use Rattle.ctl_face.specs.Fits.{FitsMail, FitsMessage, ScanFits}
 use Rattle.ctl_face.specs.IsMachine.{AgreeOnType, IsMachine, network_count, network_of}
 use Rattle.ctl_face.specs.Lasts.{Lasts, with_last}
 use Rattle.ctl_face.specs.Latency.{is_latency}
@@ -170,11 +170,11 @@ module _ (machine : MachineSetup) (lawful : IsMachine machine) (actor : Actor) (
   from_fits None mail buffer latency fields is here fits = good_ok SendingFits (no_copies mail) fits
   from_fits (Some s) mail buffer latency fields is here fits = on_fits s s.place mail buffer latency fields refl is here fits
 
-after_keeps : (v : LocalView) (r : Result Sending Fault) → Good (λ (s : Sending). FitsMail v.machine.buffers v.actor.me s.mail v.now) r → IsLawful v → Good IsLawful (after_sending v r)
-after_keeps v (Ok s) fits lawful = good_ok IsLawful _ (mail_lawful v s.mail _ (fits.good s refl) lawful)
-after_keeps v (Err e) fits lawful = good_err IsLawful e
+after_keeps : (v : LocalView) (r : Result Sending Fault) → Good (λ (s : Sending). FitsMail v.machine.buffers v.actor.me s.mail v.now) r → ScanFits v → Good ScanFits (after_sending v r)
+after_keeps v (Ok s) fits lawful = good_ok ScanFits _ (mail_lawful v s.mail _ (fits.good s refl) lawful)
+after_keeps v (Err e) fits lawful = good_err ScanFits e
 
-pub enqueue_keeps : (v : LocalView) (buffer : ℕ) (latency : ℤ) (fields : List Value) → IsTrue (has_kinds (message_kinds v.machine buffer) fields) → IsLawful v → Good IsLawful (enqueue v buffer latency fields)
+pub enqueue_keeps : (v : LocalView) (buffer : ℕ) (latency : ℤ) (fields : List Value) → IsTrue (has_kinds (message_kinds v.machine buffer) fields) → ScanFits v → Good ScanFits (enqueue v buffer latency fields)
 enqueue_keeps v buffer latency fields here lawful =
     let o = slice_get v.machine.buffers buffer in
     let P : Sending → Type 0 = λ s. FitsMail v.machine.buffers v.actor.me s.mail v.now in

@@ -13,6 +13,7 @@ use Rattle.ruby_value.specs.declared.value.Value.{Value}
 use Rattle.ruby_value.specs.declared.kind.Kind.{Kind}
 use Rattle.ruby_value.specs.Cache.{Line}
 use Rattle.ruby_value.specs.IsCache.{IsCache}
+use Rattle.ctl_face.specs.ActsFit.{ActsFit}
 use Rattle.ctl_face.specs.Ctl.{Ctl, InboxMessage, Mail, Requests}
 use Rattle.ruby_value.specs.HasKinds.{has_kinds}
 use Rattle.ruby_value.specs.NumberBefore.{number_before}
@@ -115,10 +116,16 @@ pub record Fits (machine : MachineSetup) (me : ℕ) (ctl : Ctl) (now : ℕ) : Ty
 abbrev pub last_cycle : ℕ
 last_cycle = 10 ^ 12
 
--- what holds of each local that a run makes; of the run's routes more holds, which `RoutesFit` says
-pub record IsLawful (v : LocalView) : Type 0 where
+-- what holds of the setup, and of the controller as the scan began and as it is; of the run's routes more holds, which
+-- `RoutesFit` says
+pub record ScanFits (v : LocalView) : Type 0 where
   pub machine : IsMachine v.machine
   pub routes : HasRoutes v.machine v.actor.me v.actor.routes
   pub now : v.now ≤ last_cycle
   pub start : Fits v.machine v.actor.me v.start v.now
   pub fits : Fits v.machine v.actor.me v.ctl v.now
+
+-- what holds of each local that a run makes
+pub record IsLawful (v : LocalView) : Type 0 where
+  pub scan : ScanFits v
+  pub acts : ActsFit v

@@ -1,4 +1,5 @@
 pub mod Acts
+pub mod ActsFit
 pub mod Again
 pub mod Allocate
 pub mod AtFront
@@ -30,6 +31,7 @@ pub mod Ready
 pub mod Recycle
 pub mod RoutesFit
 pub mod Routing
+pub mod ScanView
 pub mod Send
 pub mod SendAdds
 pub mod Served
