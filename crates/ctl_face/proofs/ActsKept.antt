@@ -1,7 +1,7 @@
 -- What holds of the copies that a scan has sent holds after each act.
-use Rattle.std.proofs.Common.{◌≡◌, ℕ, ℤ, zero, suc, ◌+◌, ◌<◌, Bool, true, false, cond, eqb, not, List, [], ◌∷◌, ◌++◌, map, filter, length, All, IsTrue, IsSomeAnd, refl, sym, ap, subst, ◌∙◌, arith, length-append, Option, None, Some, Result, Ok, Err, nat_abs, slice_get, unwrap_or}
-use Rattle.std.proofs.lemmas.List.{append-nil, length-map, map-append}
-use Rattle.std.proofs.lemmas.List.Elements.{All-append, All-filter, All-head, All-map, All-nil, All-weaker, filter-append}
+use Rattle.std.proofs.Common.{◌≡◌, ℕ, ℤ, zero, suc, ◌+◌, ◌<◌, Bool, true, false, cond, eqb, not, List, [], ◌∷◌, ◌++◌, map, filter, length, All, IsTrue, refl, sym, ap, subst, ◌∙◌, arith, length-append, Option, None, Some, Result, Ok, Err, nat_abs, slice_get, unwrap_or}
+use Rattle.std.proofs.lemmas.List.{length-map, map-append}
+use Rattle.std.proofs.lemmas.List.Elements.{All-append, All-filter, All-map, All-nil, All-weaker, filter-append}
 use Rattle.std.proofs.lemmas.Bool.{eq-eqb}
 use Rattle.std.specs.Option.{option_map}
 use Rattle.ruby_value.specs.declared.asked.Asked.{Asked}
@@ -14,7 +14,6 @@ use Rattle.ruby_value.specs.declared.setup.BufferPlace.TheVariants as place
 use Rattle.ruby_value.specs.declared.setup.BufferSetup.{BufferSetup}
 use Rattle.ruby_value.specs.declared.setup.MachineSetup.{MachineSetup}
 use Rattle.ruby_value.specs.declared.value.Block.{Block}
-use Rattle.ruby_value.specs.declared.value.Ref.{Ref}
 use Rattle.ruby_value.specs.declared.value.Value.{Value}
 use Rattle.ruby_value.specs.HasKinds.{has_kinds}
 use Rattle.ctl_face.specs.Acts.{Acts, Copy, Note, note_of}
@@ -27,12 +26,12 @@ use Rattle.ctl_face.specs.IsMachine.{network_of}
 use Rattle.ctl_face.specs.Latency.{is_latency}
 use Rattle.ctl_face.specs.LocalView.{Actor, LocalView}
 use Rattle.ctl_face.specs.OfMachine.{message_kinds}
-use Rattle.ctl_face.specs.Pop.{consumed, pop}
+use Rattle.ctl_face.specs.Pop.{mail_without, pop}
 use Rattle.ctl_face.specs.Ready.{front_now}
-use Rattle.ctl_face.specs.Recycle.{put_off, recycle}
-use Rattle.ctl_face.specs.Send.{Sending, no_copies, send, sent_from}
-use Rattle.ctl_face.specs.SendAdds.{AddsCopies, IsNetworkCopy, IsOwnCopy, SendAdds, numbers_from}
-use Rattle.ctl_face.specs.Stall.{set_aside, stall}
+use Rattle.ctl_face.specs.Recycle.{mail_with_recycled, recycle}
+use Rattle.ctl_face.specs.Send.{Sending, no_copies, send}
+use Rattle.ctl_face.specs.SendAdds.{AddsCopies, IsNetworkCopy, SendAdds, numbers_from}
+use Rattle.ctl_face.specs.Stall.{mail_with_waiting, stall}
 use Rattle.ctl_face.specs.Table.{Table}
 use Rattle.ctl_face.specs.Tables.{after_change, change_if_there, changed_table, table_at}
 use Rattle.ctl_face.proofs.Arrivals.{arrives_later}
@@ -56,17 +55,17 @@ module _ (v : LocalView) (acts : ActsFit v) where
   at_front_acts told change (Some m) fits = good_ok ActsFit _ (fits m)
 
   pub pop_acts : (buffer : ℕ) → Good ActsFit (pop v buffer)
-  pop_acts buffer = at_front_acts _ (consumed v.ctl.mail) (front_now v buffer) (λ m. acts)
+  pop_acts buffer = at_front_acts _ (mail_without v.ctl.mail) (front_now v buffer) (λ m. acts)
 
   pub stall_acts : (buffer line : ℕ) → Good ActsFit (stall v buffer line)
-  stall_acts buffer line = at_front_acts _ (set_aside v.ctl.mail line) (front_now v buffer) (λ m. acts)
+  stall_acts buffer line = at_front_acts _ (mail_with_waiting v.ctl.mail line) (front_now v buffer) (λ m. acts)
 
   pub recycle_acts : (buffer : ℕ) (latency : ℤ) → Good ActsFit (recycle v buffer latency)
   recycle_acts buffer latency = go (is_latency latency) (λ (number : MsgNo). record v.acts { recycled = v.acts.recycled ++ number ∷ [] }) (v.now + nat_abs latency) (λ m. acts)
     where
-      go : (b : Bool) (told : MsgNo → Acts) (arrival : ℕ) → ((m : Message) → ActsFit (record v { ctl = record v.ctl { mail = put_off v.ctl.mail arrival m }; acts = told m.number }))
-          → Good ActsFit (after_front v told (cond b (at_front (put_off v.ctl.mail arrival) (front_now v buffer)) (Err Latency)))
-      go true told arrival fits = at_front_acts told (put_off v.ctl.mail arrival) (front_now v buffer) fits
+      go : (b : Bool) (told : MsgNo → Acts) (arrival : ℕ) → ((m : Message) → ActsFit (record v { ctl = record v.ctl { mail = mail_with_recycled v.ctl.mail arrival m }; acts = told m.number }))
+          → Good ActsFit (after_front v told (cond b (at_front (mail_with_recycled v.ctl.mail arrival) (front_now v buffer)) (Err Latency)))
+      go true told arrival fits = at_front_acts told (mail_with_recycled v.ctl.mail arrival) (front_now v buffer) fits
       go false told arrival fits = good_err ActsFit Latency
 
   finished_acts : (line : ℕ) (asked : Asked) (block : Block) → ActsFit (after_answer v line asked block)
@@ -125,9 +124,9 @@ more_sent v acts s receivers words P adds later routed =
     record {
       numbers = map-append (λ (m : Note). m.number) v.acts.sent (map note_of s.copies)
           ∙ ap (λ (ns : List MsgNo). ns ++ map (λ (m : Note). m.number) (map note_of s.copies)) acts.numbers
-          ∙ ap (λ (ns : List MsgNo). numbers_from me v.start.mail.sent n ++ ns) (numbers_of_notes s.copies ∙ adds.numbers ∙ ap (λ (from : ℕ). numbers_from me from k) acts.counted)
+          ∙ ap (λ (ns : List MsgNo). numbers_from me v.start.mail.sent n ++ ns) (numbers_of_notes s.copies ∙ adds.numbers ∙ ap (λ (from : ℕ). numbers_from me from k) acts.count)
           ∙ numbers_append me v.start.mail.sent n k ∙ ap (numbers_from me v.start.mail.sent) (sym longer);
-      counted = (let here = adds.sent in let before = acts.counted in omega arith);
+      count = (let here = adds.sent in let before = acts.count in omega arith);
       arrivals = All-append (λ (m : Note). v.now < m.arrival) v.acts.sent (map note_of s.copies) acts.arrivals (All-map (λ (m : Note). v.now < m.arrival) note_of s.copies later);
       for_others = map-append note_of v.acts.posted (for_others me s.copies)
           ∙ ap (λ (ns : List Note). ns ++ map note_of (for_others me s.copies)) acts.for_others

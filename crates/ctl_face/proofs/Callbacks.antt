@@ -9,7 +9,7 @@ use Rattle.ruby_value.specs.declared.asked.Asked.{Asked}
 use Rattle.ruby_value.specs.declared.fault.Fault.TheVariants.{Callback}
 use Rattle.ruby_value.specs.declared.value.Block.{Block}
 use Rattle.ruby_value.proofs.Ordered.{All-insert, AllPairs-insert}
-use Rattle.ctl_face.specs.Callback.{is_store, request_for, finished, with_finished, after_answer, finish_read, read_back, stored_block, finish_write, write_back}
+use Rattle.ctl_face.specs.Callback.{is_store, request_for, requests_with_answer, with_finished, after_answer, finish_read, read_back, stored_block, finish_write, write_back}
 use Rattle.ctl_face.specs.Ctl.{Requests}
 use Rattle.ctl_face.specs.Fits.{FitsRequests, FitsSequencer, ScanFits, IsLine, IsRequest}
 use Rattle.ctl_face.specs.LocalView.{LocalView}
@@ -28,7 +28,7 @@ Answers a = IsRequest a.asked
 abbrev pub Outstanding : ℕ → Asked → Type 0
 Outstanding line a = (a.line ≡ line) × IsRequest a
 
-finished_fits : (r : Requests) (line : ℕ) (a : Answer) → IsRequest a.asked → FitsRequests r → FitsRequests (finished r line a)
+finished_fits : (r : Requests) (line : ℕ) (a : Answer) → IsRequest a.asked → FitsRequests r → FitsRequests (requests_with_answer r line a)
 finished_fits r line a is fits =
     let before = λ (o : Answer). nat_le o.asked.line a.asked.line in
     let after = λ (o : Answer). nat_lt a.asked.line o.asked.line in
@@ -62,7 +62,7 @@ answered v line asked block None is fits lawful = lawful
 answered v line asked block (Some r) is fits lawful =
     let a : Answer = record { asked = asked; block = block } in
     let has = v.machine.has_sequencer in
-    with_requests_fits v (Some (finished r line a)) (sequencer_fits has r (finished r line a) (finished_fits r line a (is_request has r line asked is fits)) fits) lawful
+    with_requests_fits v (Some (requests_with_answer r line a)) (sequencer_fits has r (requests_with_answer r line a) (finished_fits r line a (is_request has r line asked is fits)) fits) lawful
 
 answer_keeps : (v : LocalView) (line : ℕ) (asked : Asked) (block : Block) → request_for v line ≡ Some asked → ScanFits v → ScanFits (after_answer v line asked block)
 answer_keeps v line asked block is lawful = answered v line asked block v.ctl.sequencer is lawful.fits.sequencer lawful

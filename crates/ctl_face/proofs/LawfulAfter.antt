@@ -21,7 +21,7 @@ scan_begins machine actor now ctl lawful routes in_run fits = record {
   scan = record { machine = lawful; routes = routes; now = in_run; start = fits; fits = fits };
   acts = record {
     numbers = refl;
-    counted = omega arith;
+    count = omega arith;
     arrivals = All-nil (λ (n : Note). now < n.arrival);
     for_others = refl;
     routed = All-nil (IsRouted machine actor.routes);

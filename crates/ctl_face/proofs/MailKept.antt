@@ -14,12 +14,12 @@ use Rattle.ctl_face.specs.Fits.{FitsMail, FitsMessage, NumbersAscend, ScanFits, 
 use Rattle.ctl_face.specs.Inbox.{with_message, without_message}
 use Rattle.ctl_face.specs.Latency.{is_latency}
 use Rattle.ctl_face.specs.LocalView.{LocalView}
-use Rattle.ctl_face.specs.Mailing.{arrived, incoming, marked}
-use Rattle.ctl_face.specs.Pop.{consumed, pop}
+use Rattle.ctl_face.specs.Mailing.{mail_with_message, incoming_message, mail_with_mark}
+use Rattle.ctl_face.specs.Pop.{mail_without, pop}
 use Rattle.ctl_face.specs.Ready.{front_now}
-use Rattle.ctl_face.specs.Recycle.{arriving_again, put_off, recycle}
-use Rattle.ctl_face.specs.Stall.{set_aside, stall, waiting_under}
-use Rattle.ctl_face.specs.Wake.{is_under, waiting_no_longer, wake, wake_all, woken_mail, woken_where}
+use Rattle.ctl_face.specs.Recycle.{message_arriving_again, mail_with_recycled, recycle}
+use Rattle.ctl_face.specs.Stall.{mail_with_waiting, stall, message_waiting_under}
+use Rattle.ctl_face.specs.Wake.{is_under, message_waiting_no_longer, wake, wake_all, woken_mail, with_woken}
 use Rattle.ctl_face.proofs.Cases.{Good, good_ok, good_err}
 use Rattle.ctl_face.proofs.Inboxes.{ascend-with, all-with, ascend-without, all-without, ascend-map, all-map}
 use Rattle.ctl_face.proofs.Marks.{IsStrictlyIncreasing-with_mark}
@@ -37,7 +37,7 @@ module _ (buffers : List BufferSetup) (me now : ℕ) where
     drawn = fits.drawn;
   }
 
-  pub mark_fits : (mail : Mail) (cycle : ℕ) → FitsMail buffers me mail now → FitsMail buffers me (marked mail cycle) now
+  pub mark_fits : (mail : Mail) (cycle : ℕ) → FitsMail buffers me mail now → FitsMail buffers me (mail_with_mark mail cycle) now
   mark_fits mail cycle fits = record {
     inbox_ascends = fits.inbox_ascends;
     messages = fits.messages;
@@ -49,13 +49,13 @@ module _ (buffers : List BufferSetup) (me now : ℕ) where
   }
 
   -- a message comes in, and the controller is to look at it when it arrives
-  pub arrived_fits : (mail : Mail) (m : Message) → FitsMessage buffers me mail.sent (incoming m) → FitsMail buffers me mail now → FitsMail buffers me (arrived mail m) now
+  pub arrived_fits : (mail : Mail) (m : Message) → FitsMessage buffers me mail.sent (incoming_message m) → FitsMail buffers me mail now → FitsMail buffers me (mail_with_message mail m) now
   arrived_fits mail m fits_new fits =
-      let inbox = with_message mail.inbox (incoming m) in
+      let inbox = with_message mail.inbox (incoming_message m) in
       mark_fits (record mail { inbox = inbox }) m.arrival
-      (inbox_fits mail inbox (ascend-with mail.inbox (incoming m) fits.inbox_ascends) (all-with (FitsMessage buffers me mail.sent) mail.inbox (incoming m) fits.messages fits_new) fits)
+      (inbox_fits mail inbox (ascend-with mail.inbox (incoming_message m) fits.inbox_ascends) (all-with (FitsMessage buffers me mail.sent) mail.inbox (incoming_message m) fits.messages fits_new) fits)
 
-  pub consumed_fits : (mail : Mail) (m : Message) → FitsMail buffers me mail now → FitsMail buffers me (consumed mail m) now
+  pub consumed_fits : (mail : Mail) (m : Message) → FitsMail buffers me mail now → FitsMail buffers me (mail_without mail m) now
   consumed_fits mail m fits =
       inbox_fits mail (without_message mail.inbox m.number) (ascend-without mail.inbox m.number fits.inbox_ascends) (all-without (FitsMessage buffers me mail.sent) mail.inbox m.number fits.messages) fits
 
@@ -73,19 +73,19 @@ module _ (buffers : List BufferSetup) (me now : ℕ) where
   waiting_fits : (sent : ℕ) (line : Option ℕ) → IfSome line IsLine → (o : InboxMessage) → FitsMessage buffers me sent o → FitsMessage buffers me sent (record o { waiting = line })
   waiting_fits sent line is o fits = record { fields = fits.fields; own_number = fits.own_number; line = is }
 
-  arrival_fits : (sent arrival : ℕ) (o : InboxMessage) → FitsMessage buffers me sent o → FitsMessage buffers me sent (arriving_again arrival o)
+  arrival_fits : (sent arrival : ℕ) (o : InboxMessage) → FitsMessage buffers me sent o → FitsMessage buffers me sent (message_arriving_again arrival o)
   arrival_fits sent arrival o fits = record { fields = fits.fields; own_number = fits.own_number; line = fits.line }
 
-  pub aside_fits : (mail : Mail) (line : ℕ) (m : Message) → IsLine line → FitsMail buffers me mail now → FitsMail buffers me (set_aside mail line m) now
+  pub aside_fits : (mail : Mail) (line : ℕ) (m : Message) → IsLine line → FitsMail buffers me mail now → FitsMail buffers me (mail_with_waiting mail line m) now
   aside_fits mail line m is fits =
-      tested_fits mail (λ (o : InboxMessage). same_number o.message.number m.number) (waiting_under line) (λ o. refl) (waiting_fits mail.sent (Some line) is) fits
+      tested_fits mail (λ (o : InboxMessage). same_number o.message.number m.number) (message_waiting_under line) (λ o. refl) (waiting_fits mail.sent (Some line) is) fits
 
   pub woken_fits : (mail : Mail) (test : InboxMessage → Bool) → FitsMail buffers me mail now → FitsMail buffers me (woken_mail mail test) now
-  woken_fits mail test fits = tested_fits mail test waiting_no_longer (λ o. refl) (waiting_fits mail.sent None tt) fits
+  woken_fits mail test fits = tested_fits mail test message_waiting_no_longer (λ o. refl) (waiting_fits mail.sent None tt) fits
 
-  pub put_off_fits : (mail : Mail) (arrival : ℕ) (m : Message) → FitsMail buffers me mail now → FitsMail buffers me (put_off mail arrival m) now
+  pub put_off_fits : (mail : Mail) (arrival : ℕ) (m : Message) → FitsMail buffers me mail now → FitsMail buffers me (mail_with_recycled mail arrival m) now
   put_off_fits mail arrival m fits =
-      let change : InboxMessage → InboxMessage = arriving_again arrival in
+      let change : InboxMessage → InboxMessage = message_arriving_again arrival in
       mark_fits (record mail { inbox = map (λ (o : InboxMessage). cond (same_number o.message.number m.number) (change o) o) mail.inbox }) arrival
       (tested_fits mail (λ (o : InboxMessage). same_number o.message.number m.number) change (λ o. refl) (arrival_fits mail.sent arrival) fits)
 
@@ -105,13 +105,13 @@ front_lawful v told change (Some m) keeps lawful = good_ok ScanFits _ (mail_lawf
 
 pub pop_keeps : (v : LocalView) (buffer : ℕ) → ScanFits v → Good ScanFits (pop v buffer)
 pop_keeps v buffer lawful =
-    front_lawful v _ (consumed v.ctl.mail) (front_now v buffer) (λ m. consumed_fits v.machine.buffers v.actor.me v.now v.ctl.mail m lawful.fits.mail) lawful
+    front_lawful v _ (mail_without v.ctl.mail) (front_now v buffer) (λ m. consumed_fits v.machine.buffers v.actor.me v.now v.ctl.mail m lawful.fits.mail) lawful
 
 pub stall_keeps : (v : LocalView) (buffer line : ℕ) → IsLine line → ScanFits v → Good ScanFits (stall v buffer line)
 stall_keeps v buffer line is lawful =
-    front_lawful v _ (set_aside v.ctl.mail line) (front_now v buffer) (λ m. aside_fits v.machine.buffers v.actor.me v.now v.ctl.mail line m is lawful.fits.mail) lawful
+    front_lawful v _ (mail_with_waiting v.ctl.mail line) (front_now v buffer) (λ m. aside_fits v.machine.buffers v.actor.me v.now v.ctl.mail line m is lawful.fits.mail) lawful
 
-woken_keeps : (v : LocalView) (test : InboxMessage → Bool) → ScanFits v → ScanFits (woken_where v test)
+woken_keeps : (v : LocalView) (test : InboxMessage → Bool) → ScanFits v → ScanFits (with_woken v test)
 woken_keeps v test lawful = mail_lawful v (woken_mail v.ctl.mail test) _ (woken_fits v.machine.buffers v.actor.me v.now v.ctl.mail test lawful.fits.mail) lawful
 
 pub wake_keeps : (v : LocalView) (line : ℕ) → ScanFits v → ScanFits (wake v line)
@@ -120,13 +120,13 @@ wake_keeps v line = woken_keeps v (λ (o : InboxMessage). is_under line o.waitin
 pub wake_all_keeps : (v : LocalView) → ScanFits v → ScanFits (wake_all v)
 wake_all_keeps v = woken_keeps v (λ (o : InboxMessage). is_some o.waiting)
 
-recycled_keeps : (v : LocalView) (told : MsgNo → Acts) (b : Bool) (buffer arrival : ℕ) → ScanFits v → Good ScanFits (after_front v told (cond b (at_front (put_off v.ctl.mail arrival) (front_now v buffer)) (Err Latency)))
+recycled_keeps : (v : LocalView) (told : MsgNo → Acts) (b : Bool) (buffer arrival : ℕ) → ScanFits v → Good ScanFits (after_front v told (cond b (at_front (mail_with_recycled v.ctl.mail arrival) (front_now v buffer)) (Err Latency)))
 recycled_keeps v told true buffer arrival lawful =
-    front_lawful v told (put_off v.ctl.mail arrival) (front_now v buffer) (λ m. put_off_fits v.machine.buffers v.actor.me v.now v.ctl.mail arrival m lawful.fits.mail) lawful
+    front_lawful v told (mail_with_recycled v.ctl.mail arrival) (front_now v buffer) (λ m. put_off_fits v.machine.buffers v.actor.me v.now v.ctl.mail arrival m lawful.fits.mail) lawful
 recycled_keeps v told false buffer arrival lawful = good_err ScanFits Latency
 
 pub recycle_keeps : (v : LocalView) (buffer : ℕ) (latency : ℤ) → ScanFits v → Good ScanFits (recycle v buffer latency)
 recycle_keeps v buffer latency lawful = recycled_keeps v _ (is_latency latency) buffer (v.now + nat_abs latency) lawful
 
 pub again_keeps : (v : LocalView) → ScanFits v → ScanFits (again v)
-again_keeps v lawful = mail_lawful v (marked v.ctl.mail (v.now + 1)) _ (mark_fits v.machine.buffers v.actor.me v.now v.ctl.mail (v.now + 1) lawful.fits.mail) lawful
+again_keeps v lawful = mail_lawful v (mail_with_mark v.ctl.mail (v.now + 1)) _ (mark_fits v.machine.buffers v.actor.me v.now v.ctl.mail (v.now + 1) lawful.fits.mail) lawful

@@ -21,7 +21,7 @@ use Rattle.ctl_face.specs.Get.{get, fields_behind}
 use Rattle.ruby_value.specs.HasKinds.{has_kinds}
 use Rattle.ruby_value.specs.HasKind.{has_kind}
 use Rattle.ctl_face.specs.LocalView.{LocalView}
-use Rattle.ctl_face.specs.Mailing.{incoming}
+use Rattle.ctl_face.specs.Mailing.{incoming_message}
 use Rattle.ctl_face.specs.Ready.{required_front, front_now}
 use Rattle.ctl_face.specs.Served.{TakesField, TakesMessage}
 use Rattle.ctl_face.specs.Table.{Table, CacheTable, DirectoryTable, TbeTable, ParameterTable}
@@ -74,7 +74,7 @@ peeked-is v buffer m is =
 pub peek_kinds : (v : LocalView) (buffer : ℕ) (m : Message) → ScanFits v → required_front v buffer ≡ Ok m → TakesMessage v m.buffer m.fields
 peek_kinds v buffer m lawful is =
     let front = peeked-is v buffer m is in
-    let fits = All-contains (FitsMessage v.machine.buffers v.actor.me v.ctl.mail.sent) v.ctl.mail.inbox (incoming m) lawful.fits.mail.messages front.held in
+    let fits = All-contains (FitsMessage v.machine.buffers v.actor.me v.ctl.mail.sent) v.ctl.mail.inbox (incoming_message m) lawful.fits.mail.messages front.held in
     message_kinds_fit (slice_get v.machine.buffers m.buffer) m.fields fits.fields
 
 pub peek_buffer : (v : LocalView) (buffer : ℕ) (m : Message) → required_front v buffer ≡ Ok m → m.buffer ≡ buffer

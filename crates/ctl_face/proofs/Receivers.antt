@@ -1,8 +1,8 @@
 -- Each copy that a controller of a run sends fits its receiver.
-use Rattle.std.proofs.Common.{◌≡◌, Bool, ℕ, ℤ, zero, suc, ◌+◌, ◌<◌, ◌≤◌, List, [], ◌∷◌, map, length, All, IsTrue, IfSome, IsSomeAnd, refl, sym, ap, subst, ◌∙◌, arith, Option, None, Some, Ok, nat_abs, slice_get, inl, inr}
+use Rattle.std.proofs.Common.{◌≡◌, Bool, ℕ, ℤ, zero, suc, ◌+◌, ◌<◌, ◌≤◌, List, [], ◌∷◌, map, length, All, IsTrue, IfSome, IsSomeAnd, refl, ap, subst, arith, Option, None, Some, Ok, nat_abs, slice_get, inl, inr}
 use Rattle.std.proofs.lemmas.Bool.{cases_lt}
 use Rattle.std.proofs.lemmas.List.Elements.{All-cons, All-head, All-nil, All-weaker}
-use Rattle.std.specs.Option.{option_and_then, option_flatten, option_map}
+use Rattle.std.specs.Option.{option_and_then, option_flatten}
 use Rattle.ruby_value.specs.declared.setup.BufferPlace.{BufferPlace}
 use Rattle.ruby_value.specs.declared.setup.BufferPlace.TheVariants as place
 use Rattle.ruby_value.specs.declared.setup.BufferSetup.{BufferSetup}

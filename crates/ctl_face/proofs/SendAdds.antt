@@ -20,10 +20,10 @@ use Rattle.ctl_face.specs.Ctl.{Mail}
 use Rattle.ctl_face.specs.Lasts.{Lasts, last_at, lasts_on, with_last}
 use Rattle.ctl_face.specs.Latency.{is_latency}
 use Rattle.ctl_face.specs.LocalView.{Actor}
-use Rattle.ctl_face.specs.Mailing.{delivered}
+use Rattle.ctl_face.specs.Mailing.{mail_with_delivery}
 use Rattle.ctl_face.specs.Routing.{is_ordered, path_to, receiving_buffer}
-use Rattle.ctl_face.specs.Send.{Sending, copy_limit, counted, has_jitter, local_arrival, local_copy, network_arrival, next_copy, no_copies, receivers_of, send, sent_from, sent_on, with_network_copy}
-use Rattle.ctl_face.specs.SendAdds.{AddsCopies, IsNetworkCopy, IsOwnCopy, IsTimely, SendAdds, jitter_of, numbers_from}
+use Rattle.ctl_face.specs.Send.{Sending, copy_limit, has_jitter, local_arrival, local_copy, network_arrival, next_copy, no_copies, receivers_of, send, sending_from, sending_on, with_network_copy}
+use Rattle.ctl_face.specs.SendAdds.{AddsCopies, IsNetworkCopy, IsOwnCopy, IsTimely, SendAdds, numbers_from}
 use Rattle.ctl_face.proofs.Cases.{Good, good_ok, good_err, good_cond}
 use Rattle.pcg_words.specs.Below.{below}
 
@@ -53,11 +53,11 @@ no_less networks network receiver arrival q behind =
     let before = lasts_on networks network in
     at_written (λ (l : Lasts). last_at before q ≤ last_at l q) networks network (finite.insert before receiver arrival) (omega arith) (inserted_last before receiver arrival q behind)
 
-delivered_drawn : (mine : Bool) (mail : Mail) (m : Message) → (delivered mine mail m).drawn ≡ mail.drawn
+delivered_drawn : (mine : Bool) (mail : Mail) (m : Message) → (mail_with_delivery mine mail m).drawn ≡ mail.drawn
 delivered_drawn true mail m = refl
 delivered_drawn false mail m = refl
 
-delivered_lasts : (mine : Bool) (mail : Mail) (m : Message) → (delivered mine mail m).network_last ≡ mail.network_last
+delivered_lasts : (mine : Bool) (mail : Mail) (m : Message) → (mail_with_delivery mine mail m).network_last ≡ mail.network_last
 delivered_lasts true mail m = refl
 delivered_lasts false mail m = refl
 
@@ -171,7 +171,7 @@ own_added actor ordered mail buffer latency fields now =
     let same = delivered_drawn (eqb actor.me actor.me) mail copy.message in
     record { to = refl; numbers = refl; each = All-cons P copy [] is (All-nil P); sent = refl; copies_counted = refl; drawn = same ∙ (omega arith) }
 
-on_adds : (p : BufferPlace) (ordered : Bool) (actor : Actor) (mail : Mail) (buffer latency : ℕ) (fields : List Value) (now : ℕ) → Good (SendAdds p ordered actor mail buffer latency fields now) (sent_on p ordered actor mail buffer latency fields now)
+on_adds : (p : BufferPlace) (ordered : Bool) (actor : Actor) (mail : Mail) (buffer latency : ℕ) (fields : List Value) (now : ℕ) → Good (SendAdds p ordered actor mail buffer latency fields now) (sending_on p ordered actor mail buffer latency fields now)
 on_adds place.Local ordered actor mail buffer latency fields now =
     let P = SendAdds place.Local ordered actor mail buffer latency fields now in
     let sending = local_copy actor ordered mail buffer latency fields now in
@@ -193,6 +193,6 @@ pub send_adds : (machine : MachineSetup) (actor : Actor) (mail : Mail) (buffer :
     → send machine actor mail buffer latency fields now ≡ Ok s → SendAdds on.place on.ordered actor mail buffer (nat_abs latency) fields now s
 send_adds machine actor mail buffer latency fields now on s is =
     let P = SendAdds on.place on.ordered actor mail buffer (nat_abs latency) fields now in
-    let From : Option BufferSetup → Type 0 = λ o. Good P (sent_from o actor mail buffer (nat_abs latency) fields now) in
+    let From : Option BufferSetup → Type 0 = λ o. Good P (sending_from o actor mail buffer (nat_abs latency) fields now) in
     let from = subst From (sym is) (on_adds on.place on.ordered actor mail buffer (nat_abs latency) fields now) in
-    (good_cond P (is_latency latency) (sent_from (slice_get machine.buffers buffer) actor mail buffer (nat_abs latency) fields now) (Err Latency) (λ _. from) (λ _. good_err P Latency)).good s
+    (good_cond P (is_latency latency) (sending_from (slice_get machine.buffers buffer) actor mail buffer (nat_abs latency) fields now) (Err Latency) (λ _. from) (λ _. good_err P Latency)).good s

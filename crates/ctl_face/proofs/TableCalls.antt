@@ -36,7 +36,7 @@ use Rattle.ruby_value.specs.HasKinds.{has_kinds}
 use Rattle.ruby_value.specs.HasKind.{has_kind}
 use Rattle.ctl_face.specs.LocalView.{LocalView}
 use Rattle.ctl_face.specs.OfMachine.{initial_fields, field_kinds}
-use Rattle.ctl_face.specs.Set.{written, set as set_field}
+use Rattle.ctl_face.specs.Set.{table_with_field, set as set_field}
 use Rattle.ctl_face.specs.Table.{Table, CacheTable, DirectoryTable, TbeTable, ParameterTable}
 use Rattle.ctl_face.specs.Touch.{touch, used_line}
 use Rattle.ctl_face.proofs.Cases.{Good, good_ok, good_err, good_cond}
@@ -175,7 +175,7 @@ with_fields_fits s (ParameterTable values) line old fields is there here fits = 
   lines = here;
 }
 
-set_in_table : (s : TableSetup) (t : Table) (line field : ℕ) (value : Value) → IsSomeAnd (slice_get s.kinds field) (λ k. IsTrue (has_kind k value)) → IsLine line → FitsTable s t → (o : Option (List Value)) → fields_in t line ≡ o → Good (FitsTable s) (written t line field value o)
+set_in_table : (s : TableSetup) (t : Table) (line field : ℕ) (value : Value) → IsSomeAnd (slice_get s.kinds field) (λ k. IsTrue (has_kind k value)) → IsLine line → FitsTable s t → (o : Option (List Value)) → fields_in t line ≡ o → Good (FitsTable s) (table_with_field t line field value o)
 set_in_table s t line field value takes is fits None there = good_err (FitsTable s) Reference
 set_in_table s t line field value takes is fits (Some old) there =
     let Q : Option (List Value) → Type 0 = λ o. IfSome o (KindsAre s.kinds) in
@@ -185,7 +185,7 @@ set_in_table s t line field value takes is fits (Some old) there =
 
 pub set_keeps : (v : LocalView) (r : Ref) (field : ℕ) (value : Value) → IsSomeAnd (slice_get (field_kinds v.machine r.table) field) (λ k. IsTrue (has_kind k value)) → IsLine r.line → ScanFits v → Good ScanFits (set_field v r field value)
 set_keeps v r field value takes is lawful =
-    changed_keeps v lawful r.table (λ t. written t r.line field value (fields_in t r.line))
+    changed_keeps v lawful r.table (λ t. table_with_field t r.line field value (fields_in t r.line))
     (λ s t there fits.
     let Q : Option TableSetup → Type 0 = λ o. IsSomeAnd (slice_get (unwrap_or (option_map (λ (u : TableSetup). u.kinds) o) []) field) (λ k. IsTrue (has_kind k value)) in
     set_in_table s t r.line field value (subst Q there takes) is fits (fields_in t r.line) refl)

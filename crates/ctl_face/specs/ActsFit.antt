@@ -24,7 +24,7 @@ pub record IsRouted (machine : MachineSetup) (routes : Routes) (c : Copy) : Type
 -- of a controller that had sent so many messages as the scan began, and has sent so many now
 pub record SentFits (machine : MachineSetup) (actor : Actor) (now before after : ℕ) (notes : List Note) (posted : List Copy) : Type 0 where
   pub numbers : map (λ (n : Note). n.number) notes ≡ numbers_from actor.me before (length notes)
-  pub counted : after ≡ before + length notes
+  pub count : after ≡ before + length notes
   pub arrivals : All (λ (n : Note). now < n.arrival) notes
   pub for_others : map note_of posted ≡ filter (λ (n : Note). not (n.receiver == actor.me)) notes
   pub routed : All (IsRouted machine actor.routes) posted

@@ -11,7 +11,7 @@ ghost use Rattle.ctl_face.specs.declared.routes.Routes.{Routes as RoutesRecord};
 ghost use Rattle.ctl_face.specs.Again.{again};
 ghost use Rattle.ctl_face.specs.Allocate.{allocate};
 ghost use Rattle.ctl_face.specs.Avail.{probe};
-ghost use Rattle.ctl_face.specs.Between.{begun, fired_once, halted, with_arrival, with_request, with_wake_up, without_first_answer};
+ghost use Rattle.ctl_face.specs.Between.{at_cycle, with_one_fired, with_stop, with_arrival, with_request, with_wake_up, without_first_answer};
 ghost use Rattle.ctl_face.specs.Callback.{read_back, write_back};
 ghost use Rattle.ctl_face.specs.Ctl.{Ctl, Mail};
 ghost use Rattle.ctl_face.specs.Deallocate.{deallocate};
@@ -85,9 +85,9 @@ pub fn message_calls_keep_what_holds()
 pub fn acts_between_scans_keep_what_holds()
     ensures arrival { (machine : MachineRecord) (me now : ℕ) (ctl : Ctl) (m : MessageRecord) → TakesFields machine.buffers m.buffer m.fields → ¬ (m.number.sender ≡ me) → Fits machine me ctl now → Fits machine me (with_arrival ctl m) now }
     ensures wake_up { (machine : MachineRecord) (me now : ℕ) (ctl : Ctl) (cycle : ℕ) → Fits machine me ctl now → Fits machine me (with_wake_up ctl cycle) now }
-    ensures begun { (machine : MachineRecord) (me old now : ℕ) (ctl : Ctl) → old < now → Fits machine me ctl old → Fits machine me (begun ctl now) now }
-    ensures fired { (machine : MachineRecord) (me now : ℕ) (ctl : Ctl) → Fits machine me ctl now → Fits machine me (fired_once ctl) now }
-    ensures halted { (machine : MachineRecord) (me now : ℕ) (ctl : Ctl) → Fits machine me ctl now → Fits machine me (halted ctl) now }
+    ensures begun { (machine : MachineRecord) (me old now : ℕ) (ctl : Ctl) → old < now → Fits machine me ctl old → Fits machine me (at_cycle ctl now) now }
+    ensures fired { (machine : MachineRecord) (me now : ℕ) (ctl : Ctl) → Fits machine me ctl now → Fits machine me (with_one_fired ctl) now }
+    ensures halted { (machine : MachineRecord) (me now : ℕ) (ctl : Ctl) → Fits machine me ctl now → Fits machine me (with_stop ctl) now }
     ensures request { (machine : MachineRecord) (me now : ℕ) (ctl : Ctl) (asked : AskedRecord) → IsRequest asked → Fits machine me ctl now → Fits machine me (with_request ctl asked) now }
     ensures answer { (machine : MachineRecord) (me now : ℕ) (ctl : Ctl) → Fits machine me ctl now → Fits machine me (without_first_answer ctl) now }
 {}
