@@ -13,6 +13,7 @@ pub mod Lines
 pub mod MailKept
 pub mod Maps
 pub mod Marks
+pub mod Moved
 pub mod OneKey
 pub mod Opened
 pub mod OwnBuffers

@@ -106,7 +106,7 @@ sends_fit machines stand actor at m mail buffer latency fields now sending fit s
 
 pub posted_fit : (machines : List MachineSetup) (stand : List (ℕ × ℕ)) (v : LocalView) (at : ℕ) → RoutesFit machines stand v.actor.routes → StandsAt stand at v.actor.me → slice_get machines at ≡ Some v.machine → IsLawful v → All (FitsReceiver machines stand) v.acts.posted
 posted_fit machines stand v at fit stands is lawful =
-    All-weaker (IsRouted v.machine v.actor.routes) (FitsReceiver machines stand) (λ c routed. one c routed (slice_get v.machine.buffers routed.on) refl routed.sends) v.acts.posted lawful.acts.routed
+    All-weaker (IsRouted v.machine v.actor.routes) (FitsReceiver machines stand) (λ c routed. one c routed (slice_get v.machine.buffers routed.on) refl routed.sends) v.acts.posted lawful.acts.0.routed
   where
     one : (c : Copy) (routed : IsRouted v.machine v.actor.routes c) (o : Option BufferSetup) → slice_get v.machine.buffers routed.on ≡ o
         → IsSomeAnd o (λ (s : BufferSetup). (network_of s.place ≡ Some routed.network) × IsTrue (has_kinds s.kinds c.message.fields)) → FitsReceiver machines stand c
