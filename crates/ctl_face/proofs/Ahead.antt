@@ -21,12 +21,12 @@ use Rattle.ctl_face.specs.Enqueue.{after_sending, enqueue}
 use Rattle.ctl_face.specs.Lasts.{last_at}
 use Rattle.ctl_face.specs.Latency.{is_latency}
 use Rattle.ctl_face.specs.LocalView.{Actor, LocalView}
-use Rattle.ctl_face.specs.Mailing.{delivered}
+use Rattle.ctl_face.specs.Mailing.{mail_with_delivery}
 use Rattle.ctl_face.specs.MarksAhead.{MarksAhead}
 use Rattle.ctl_face.specs.Ready.{front_now}
-use Rattle.ctl_face.specs.Recycle.{put_off, recycle}
+use Rattle.ctl_face.specs.Recycle.{mail_with_recycled, recycle}
 use Rattle.ctl_face.specs.Routing.{receiving_buffer}
-use Rattle.ctl_face.specs.Send.{Sending, copy_limit, no_copies, sent_on, local_arrival, local_copy, network_arrival, next_copy, receivers_of, send, sent_from, with_network_copy}
+use Rattle.ctl_face.specs.Send.{Sending, copy_limit, no_copies, sending_on, local_arrival, local_copy, network_arrival, next_copy, receivers_of, send, sending_from, with_network_copy}
 use Rattle.ctl_face.proofs.Arrivals.{copy_later, positive, raised}
 use Rattle.ctl_face.proofs.Cases.{Good, good_ok, good_err, good_cond, good_unless}
 
@@ -36,7 +36,7 @@ module _ (before : List ℕ) (now : ℕ) where
       let P : ℕ → Type 0 = λ m. (now < m) ⊎ Contains before m in
       All-insert P (λ m. nat_lt m mark) (λ m. nat_lt mark m) mark marks ahead (inl later)
 
-  ahead_delivered : (b : Bool) (mail : Mail) (m : Message) → now < m.arrival → MarksAhead before now mail.marks → MarksAhead before now (delivered b mail m).marks
+  ahead_delivered : (b : Bool) (mail : Mail) (m : Message) → now < m.arrival → MarksAhead before now mail.marks → MarksAhead before now (mail_with_delivery b mail m).marks
   ahead_delivered false mail m later ahead = ahead
   ahead_delivered true mail m later ahead = ahead_with mail.marks m.arrival later ahead
 
@@ -51,7 +51,7 @@ module _ (before : List ℕ) (now : ℕ) where
       ahead_each actor network latency fields some members (with_network_copy actor network latency fields now s receiver)
       (ahead_delivered _ s.mail copy.message (copy_later actor s.mail network latency now receiver some) ahead)
 
-  ahead_on : (p : BufferPlace) (ordered : Bool) (actor : Actor) (mail : Mail) (buffer latency : ℕ) (fields : List Value) → 0 < latency → MarksAhead before now mail.marks → Good MailAhead (sent_on p ordered actor mail buffer latency fields now)
+  ahead_on : (p : BufferPlace) (ordered : Bool) (actor : Actor) (mail : Mail) (buffer latency : ℕ) (fields : List Value) → 0 < latency → MarksAhead before now mail.marks → Good MailAhead (sending_on p ordered actor mail buffer latency fields now)
   ahead_on place.Local ordered actor mail buffer latency fields some ahead =
       let sending = local_copy actor ordered mail buffer latency fields now in
       let copy = next_copy actor mail actor.me buffer (local_arrival ordered mail buffer latency now) fields in
@@ -67,7 +67,7 @@ module _ (before : List ℕ) (now : ℕ) where
       (good_ok MailAhead sending (ahead_each actor network latency fields some members (no_copies mail) ahead)))
   ahead_on (place.From network) ordered actor mail buffer latency fields some ahead = good_ok MailAhead (no_copies mail) ahead
 
-  ahead_sent : (o : Option BufferSetup) (actor : Actor) (mail : Mail) (buffer latency : ℕ) (fields : List Value) → 0 < latency → MarksAhead before now mail.marks → Good MailAhead (sent_from o actor mail buffer latency fields now)
+  ahead_sent : (o : Option BufferSetup) (actor : Actor) (mail : Mail) (buffer latency : ℕ) (fields : List Value) → 0 < latency → MarksAhead before now mail.marks → Good MailAhead (sending_from o actor mail buffer latency fields now)
   ahead_sent None actor mail buffer latency fields some ahead = good_ok MailAhead (no_copies mail) ahead
   ahead_sent (Some s) actor mail buffer latency fields some ahead = ahead_on s.place s.ordered actor mail buffer latency fields some ahead
 
@@ -81,11 +81,11 @@ ViewAhead v after = MarksAhead v.ctl.mail.marks v.now after.ctl.mail.marks
 pub ahead_again : (v : LocalView) → MarksAhead v.ctl.mail.marks v.now (again v).ctl.mail.marks
 ahead_again v = ahead_with v.ctl.mail.marks v.now v.ctl.mail.marks (v.now + 1) (omega arith) (all_old v.ctl.mail.marks v.now)
 
-put_off_ahead : (v : LocalView) (told : MsgNo → Acts) (arrival : ℕ) → v.now < arrival → (o : Option Message) → Good (ViewAhead v) (after_front v told (at_front (put_off v.ctl.mail arrival) o))
+put_off_ahead : (v : LocalView) (told : MsgNo → Acts) (arrival : ℕ) → v.now < arrival → (o : Option Message) → Good (ViewAhead v) (after_front v told (at_front (mail_with_recycled v.ctl.mail arrival) o))
 put_off_ahead v told arrival later None = good_err (ViewAhead v) Front
 put_off_ahead v told arrival later (Some m) = good_ok (ViewAhead v) _ (ahead_with v.ctl.mail.marks v.now v.ctl.mail.marks arrival later (all_old v.ctl.mail.marks v.now))
 
-recycled_ahead : (v : LocalView) (told : MsgNo → Acts) (latency : ℤ) (b : Bool) → is_latency latency ≡ b → (o : Option Message) → Good (ViewAhead v) (after_front v told (cond b (at_front (put_off v.ctl.mail (v.now + nat_abs latency)) o) (Err Latency)))
+recycled_ahead : (v : LocalView) (told : MsgNo → Acts) (latency : ℤ) (b : Bool) → is_latency latency ≡ b → (o : Option Message) → Good (ViewAhead v) (after_front v told (cond b (at_front (mail_with_recycled v.ctl.mail (v.now + nat_abs latency)) o) (Err Latency)))
 recycled_ahead v told latency true is o = let some = positive latency is in put_off_ahead v told (v.now + nat_abs latency) (omega arith) o
 recycled_ahead v told latency false is o = good_err (ViewAhead v) Latency
 
@@ -100,6 +100,6 @@ pub ahead_enqueue : (v : LocalView) (buffer : ℕ) (latency : ℤ) (fields : Lis
 ahead_enqueue v buffer latency fields after =
     let o = slice_get v.machine.buffers buffer in
     (sending_ahead v (send v.machine v.actor v.ctl.mail buffer latency fields v.now)
-    (good_cond (MailAhead v.ctl.mail.marks v.now) (is_latency latency) (sent_from o v.actor v.ctl.mail buffer (nat_abs latency) fields v.now) (Err Latency)
+    (good_cond (MailAhead v.ctl.mail.marks v.now) (is_latency latency) (sending_from o v.actor v.ctl.mail buffer (nat_abs latency) fields v.now) (Err Latency)
     (λ is. ahead_sent v.ctl.mail.marks v.now o v.actor v.ctl.mail buffer (nat_abs latency) fields (positive latency is) (all_old v.ctl.mail.marks v.now))
     (λ _. good_err (MailAhead v.ctl.mail.marks v.now) Latency))).good after

@@ -16,7 +16,7 @@ use Rattle.ctl_face.specs.LocalView.{Actor}
 use Rattle.ctl_face.specs.Lasts.{last_at, lasts_on}
 use Rattle.ctl_face.specs.Latency.{is_latency}
 use Rattle.ctl_face.specs.Routing.{receiving_buffer, path_to, is_ordered}
-use Rattle.ctl_face.specs.Send.{Sending, next_copy, next_jitter, copy_limit, receivers_of, send, sent_from, sent_on, no_copies, with_network_copy, network_arrival, local_arrival, local_copy}
+use Rattle.ctl_face.specs.Send.{Sending, next_copy, next_jitter, copy_limit, receivers_of, send, sending_from, sending_on, no_copies, with_network_copy, network_arrival, local_arrival, local_copy}
 use Rattle.ctl_face.proofs.Cases.{Good, good_ok, good_err, good_cond, good_unless}
 
 pub raised : (ordered : Bool) (arrival last now : ℕ) → now < arrival → now < cond ordered (max arrival last) arrival
@@ -51,7 +51,7 @@ each_later actor network latency now fields some (receiver ∷ members) s later 
 nothing_sent : (mail : Mail) (now : ℕ) → Later now (no_copies mail)
 nothing_sent mail now = All-nil (IsLater now)
 
-on_later : (p : BufferPlace) (ordered : Bool) (actor : Actor) (mail : Mail) (buffer latency : ℕ) (fields : List Value) (now : ℕ) → 0 < latency → Good (Later now) (sent_on p ordered actor mail buffer latency fields now)
+on_later : (p : BufferPlace) (ordered : Bool) (actor : Actor) (mail : Mail) (buffer latency : ℕ) (fields : List Value) (now : ℕ) → 0 < latency → Good (Later now) (sending_on p ordered actor mail buffer latency fields now)
 on_later place.Local ordered actor mail buffer latency fields now some =
     let sending = local_copy actor ordered mail buffer latency fields now in
     let copy = next_copy actor mail actor.me buffer (local_arrival ordered mail buffer latency now) fields in
@@ -67,12 +67,12 @@ on_later (place.To network destination) ordered actor mail buffer latency fields
     (good_ok (Later now) sending (each_later actor network latency now fields some members (no_copies mail) (nothing_sent mail now))))
 on_later (place.From network) ordered actor mail buffer latency fields now some = good_ok (Later now) (no_copies mail) (nothing_sent mail now)
 
-from_later : (o : Option BufferSetup) (actor : Actor) (mail : Mail) (buffer latency : ℕ) (fields : List Value) (now : ℕ) → 0 < latency → Good (Later now) (sent_from o actor mail buffer latency fields now)
+from_later : (o : Option BufferSetup) (actor : Actor) (mail : Mail) (buffer latency : ℕ) (fields : List Value) (now : ℕ) → 0 < latency → Good (Later now) (sending_from o actor mail buffer latency fields now)
 from_later None actor mail buffer latency fields now some = good_ok (Later now) (no_copies mail) (nothing_sent mail now)
 from_later (Some s) actor mail buffer latency fields now some = on_later s.place s.ordered actor mail buffer latency fields now some
 
 pub arrives_later : (machine : MachineSetup) (actor : Actor) (mail : Mail) (buffer : ℕ) (latency : ℤ) (fields : List Value) (now : ℕ) (s : Sending) → send machine actor mail buffer latency fields now ≡ Ok s → All (λ (c : Copy). now < c.message.arrival) s.copies
 arrives_later machine actor mail buffer latency fields now s =
     let o = slice_get machine.buffers buffer in
-    (good_cond (Later now) (is_latency latency) (sent_from o actor mail buffer (nat_abs latency) fields now) (Err Latency)
+    (good_cond (Later now) (is_latency latency) (sending_from o actor mail buffer (nat_abs latency) fields now) (Err Latency)
     (λ is. from_later o actor mail buffer (nat_abs latency) fields now (positive latency is)) (λ _. good_err (Later now) Latency)).good s

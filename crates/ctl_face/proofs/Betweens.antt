@@ -10,9 +10,9 @@ use Rattle.ruby_value.specs.declared.setup.BufferSetup.{BufferSetup}
 use Rattle.ruby_value.specs.declared.setup.MachineSetup.{MachineSetup}
 use Rattle.ruby_value.specs.HasKinds.{has_kinds}
 use Rattle.ruby_value.proofs.Ordered.{AllPairs-tail}
-use Rattle.ctl_face.specs.Between.{begun, fired_once, halted, rest_of, with_arrival, with_request, with_wake_up, without_first_answer}
+use Rattle.ctl_face.specs.Between.{at_cycle, with_one_fired, with_stop, rest_of, with_arrival, with_request, with_wake_up, without_first_answer}
 use Rattle.ctl_face.specs.Ctl.{Ctl, Requests}
-use Rattle.ctl_face.specs.Fits.{Fits, FitsRequests, FitsSequencer, IsLawful, IsRequest}
+use Rattle.ctl_face.specs.Fits.{Fits, FitsRequests, FitsSequencer, ScanFits, IsRequest}
 use Rattle.ctl_face.specs.LocalView.{LocalView}
 use Rattle.ctl_face.specs.Send.{copy_limit}
 use Rattle.ctl_face.proofs.Callbacks.{Outstanding}
@@ -35,10 +35,10 @@ module _ (machine : MachineSetup) (me now : ℕ) where
     sequencer = fits.sequencer;
   }
 
-  pub fired_keeps : (ctl : Ctl) → Fits machine me ctl now → Fits machine me (fired_once ctl) now
+  pub fired_keeps : (ctl : Ctl) → Fits machine me ctl now → Fits machine me (with_one_fired ctl) now
   fired_keeps ctl fits = record { tables = fits.tables; mail = fits.mail; sequencer = fits.sequencer }
 
-  pub halted_keeps : (ctl : Ctl) → Fits machine me ctl now → Fits machine me (halted ctl) now
+  pub halted_keeps : (ctl : Ctl) → Fits machine me ctl now → Fits machine me (with_stop ctl) now
   halted_keeps ctl fits = record { tables = fits.tables; mail = fits.mail; sequencer = fits.sequencer }
 
   with_sequencer : (ctl : Ctl) (requests : Option Requests) → FitsSequencer machine.has_sequencer requests → Fits machine me ctl now → Fits machine me (record ctl { sequencer = requests }) now
@@ -78,7 +78,7 @@ module _ (machine : MachineSetup) (me now : ℕ) where
 more : (n old new copies : ℕ) → n ≤ copy_limit * old + copies → copies ≤ copy_limit → old < new → n ≤ copy_limit * new + 0
 more n old new copies first second third = omega arith
 
-pub begun_keeps : (machine : MachineSetup) (me old now : ℕ) (ctl : Ctl) → old < now → Fits machine me ctl old → Fits machine me (begun ctl now) now
+pub begun_keeps : (machine : MachineSetup) (me old now : ℕ) (ctl : Ctl) → old < now → Fits machine me ctl old → Fits machine me (at_cycle ctl now) now
 begun_keeps machine me old now ctl later fits = record {
   tables = fits.tables;
   mail = record {
@@ -96,7 +96,7 @@ begun_keeps machine me old now ctl later fits = record {
 few : (n now copies : ℕ) → n ≤ copy_limit * now + copies → copies ≤ copy_limit → now ≤ 10 ^ 12 → n + copy_limit < 2 ^ 64
 few n now copies first second third = omega arith
 
-pub numbers_left : (v : LocalView) → IsLawful v → (v.ctl.mail.sent + copy_limit < 2 ^ 64) × (v.ctl.mail.drawn + copy_limit < 2 ^ 64)
+pub numbers_left : (v : LocalView) → ScanFits v → (v.ctl.mail.sent + copy_limit < 2 ^ 64) × (v.ctl.mail.drawn + copy_limit < 2 ^ 64)
 numbers_left v lawful =
     let mail = lawful.fits.mail in
     (few v.ctl.mail.sent v.now v.ctl.mail.copies mail.sent mail.copies lawful.now, few v.ctl.mail.drawn v.now v.ctl.mail.copies mail.drawn mail.copies lawful.now)

@@ -6,14 +6,14 @@ use Rattle.ruby_value.specs.Front as general
 use Rattle.ruby_value.proofs.Fronts.{front-is}
 use Rattle.ctl_face.specs.Ctl.{InboxMessage, Mail}
 use Rattle.ctl_face.specs.Front.{is_ready, front, IsFront}
-use Rattle.ctl_face.specs.Mailing.{incoming}
+use Rattle.ctl_face.specs.Mailing.{incoming_message}
 
 none_is : {X : Type 0} (o : Option X) → is_none o ≡ true → o ≡ None
 none_is None is = refl
 none_is (Some x) is = absurd (cc is)
 
 -- a ready message isn't stalled, so it is as it came in
-as_incoming : (buffer now : ℕ) (m : InboxMessage) → IsTrue (is_ready buffer now m) → m ≡ incoming m.message
+as_incoming : (buffer now : ℕ) (m : InboxMessage) → IsTrue (is_ready buffer now m) → m ≡ incoming_message m.message
 as_incoming buffer now m ready =
     let free = none_is m.waiting (and_parts (m.message.buffer == buffer && nat_le m.message.arrival now) (is_none m.waiting) ready).1 in
     λ i. record { message = m.message; waiting = free i }

@@ -1,3 +1,4 @@
+pub mod ActsKept
 pub mod Ahead
 pub mod Arrivals
 pub mod Betweens
@@ -7,14 +8,18 @@ pub mod FieldKinds
 pub mod Fronts
 pub mod Held
 pub mod Inboxes
+pub mod LawfulAfter
 pub mod Lines
 pub mod MailKept
 pub mod Maps
 pub mod Marks
+pub mod Moved
 pub mod OneKey
 pub mod Opened
 pub mod OwnBuffers
 pub mod Reading
+pub mod Receivers
+pub mod SendAdds
 pub mod Sendings
 pub mod TableCalls
 pub mod Tables

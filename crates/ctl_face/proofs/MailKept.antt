@@ -10,16 +10,16 @@ use Rattle.ctl_face.specs.Acts.{Acts}
 use Rattle.ctl_face.specs.Again.{again}
 use Rattle.ctl_face.specs.AtFront.{at_front, after_front}
 use Rattle.ctl_face.specs.Ctl.{InboxMessage, Mail}
-use Rattle.ctl_face.specs.Fits.{FitsMail, FitsMessage, NumbersAscend, IsLawful, IsLine}
+use Rattle.ctl_face.specs.Fits.{FitsMail, FitsMessage, NumbersAscend, ScanFits, IsLine}
 use Rattle.ctl_face.specs.Inbox.{with_message, without_message}
 use Rattle.ctl_face.specs.Latency.{is_latency}
 use Rattle.ctl_face.specs.LocalView.{LocalView}
-use Rattle.ctl_face.specs.Mailing.{arrived, incoming, marked}
-use Rattle.ctl_face.specs.Pop.{consumed, pop}
+use Rattle.ctl_face.specs.Mailing.{mail_with_message, incoming_message, mail_with_mark}
+use Rattle.ctl_face.specs.Pop.{mail_without, pop}
 use Rattle.ctl_face.specs.Ready.{front_now}
-use Rattle.ctl_face.specs.Recycle.{arriving_again, put_off, recycle}
-use Rattle.ctl_face.specs.Stall.{set_aside, stall, waiting_under}
-use Rattle.ctl_face.specs.Wake.{is_under, waiting_no_longer, wake, wake_all, woken_mail, woken_where}
+use Rattle.ctl_face.specs.Recycle.{message_arriving_again, mail_with_recycled, recycle}
+use Rattle.ctl_face.specs.Stall.{mail_with_waiting, stall, message_waiting_under}
+use Rattle.ctl_face.specs.Wake.{is_under, message_waiting_no_longer, wake, wake_all, woken_mail, with_woken}
 use Rattle.ctl_face.proofs.Cases.{Good, good_ok, good_err}
 use Rattle.ctl_face.proofs.Inboxes.{ascend-with, all-with, ascend-without, all-without, ascend-map, all-map}
 use Rattle.ctl_face.proofs.Marks.{IsStrictlyIncreasing-with_mark}
@@ -37,7 +37,7 @@ module _ (buffers : List BufferSetup) (me now : ℕ) where
     drawn = fits.drawn;
   }
 
-  pub mark_fits : (mail : Mail) (cycle : ℕ) → FitsMail buffers me mail now → FitsMail buffers me (marked mail cycle) now
+  pub mark_fits : (mail : Mail) (cycle : ℕ) → FitsMail buffers me mail now → FitsMail buffers me (mail_with_mark mail cycle) now
   mark_fits mail cycle fits = record {
     inbox_ascends = fits.inbox_ascends;
     messages = fits.messages;
@@ -49,13 +49,13 @@ module _ (buffers : List BufferSetup) (me now : ℕ) where
   }
 
   -- a message comes in, and the controller is to look at it when it arrives
-  pub arrived_fits : (mail : Mail) (m : Message) → FitsMessage buffers me mail.sent (incoming m) → FitsMail buffers me mail now → FitsMail buffers me (arrived mail m) now
+  pub arrived_fits : (mail : Mail) (m : Message) → FitsMessage buffers me mail.sent (incoming_message m) → FitsMail buffers me mail now → FitsMail buffers me (mail_with_message mail m) now
   arrived_fits mail m fits_new fits =
-      let inbox = with_message mail.inbox (incoming m) in
+      let inbox = with_message mail.inbox (incoming_message m) in
       mark_fits (record mail { inbox = inbox }) m.arrival
-      (inbox_fits mail inbox (ascend-with mail.inbox (incoming m) fits.inbox_ascends) (all-with (FitsMessage buffers me mail.sent) mail.inbox (incoming m) fits.messages fits_new) fits)
+      (inbox_fits mail inbox (ascend-with mail.inbox (incoming_message m) fits.inbox_ascends) (all-with (FitsMessage buffers me mail.sent) mail.inbox (incoming_message m) fits.messages fits_new) fits)
 
-  pub consumed_fits : (mail : Mail) (m : Message) → FitsMail buffers me mail now → FitsMail buffers me (consumed mail m) now
+  pub consumed_fits : (mail : Mail) (m : Message) → FitsMail buffers me mail now → FitsMail buffers me (mail_without mail m) now
   consumed_fits mail m fits =
       inbox_fits mail (without_message mail.inbox m.number) (ascend-without mail.inbox m.number fits.inbox_ascends) (all-without (FitsMessage buffers me mail.sent) mail.inbox m.number fits.messages) fits
 
@@ -73,24 +73,24 @@ module _ (buffers : List BufferSetup) (me now : ℕ) where
   waiting_fits : (sent : ℕ) (line : Option ℕ) → IfSome line IsLine → (o : InboxMessage) → FitsMessage buffers me sent o → FitsMessage buffers me sent (record o { waiting = line })
   waiting_fits sent line is o fits = record { fields = fits.fields; own_number = fits.own_number; line = is }
 
-  arrival_fits : (sent arrival : ℕ) (o : InboxMessage) → FitsMessage buffers me sent o → FitsMessage buffers me sent (arriving_again arrival o)
+  arrival_fits : (sent arrival : ℕ) (o : InboxMessage) → FitsMessage buffers me sent o → FitsMessage buffers me sent (message_arriving_again arrival o)
   arrival_fits sent arrival o fits = record { fields = fits.fields; own_number = fits.own_number; line = fits.line }
 
-  pub aside_fits : (mail : Mail) (line : ℕ) (m : Message) → IsLine line → FitsMail buffers me mail now → FitsMail buffers me (set_aside mail line m) now
+  pub aside_fits : (mail : Mail) (line : ℕ) (m : Message) → IsLine line → FitsMail buffers me mail now → FitsMail buffers me (mail_with_waiting mail line m) now
   aside_fits mail line m is fits =
-      tested_fits mail (λ (o : InboxMessage). same_number o.message.number m.number) (waiting_under line) (λ o. refl) (waiting_fits mail.sent (Some line) is) fits
+      tested_fits mail (λ (o : InboxMessage). same_number o.message.number m.number) (message_waiting_under line) (λ o. refl) (waiting_fits mail.sent (Some line) is) fits
 
   pub woken_fits : (mail : Mail) (test : InboxMessage → Bool) → FitsMail buffers me mail now → FitsMail buffers me (woken_mail mail test) now
-  woken_fits mail test fits = tested_fits mail test waiting_no_longer (λ o. refl) (waiting_fits mail.sent None tt) fits
+  woken_fits mail test fits = tested_fits mail test message_waiting_no_longer (λ o. refl) (waiting_fits mail.sent None tt) fits
 
-  pub put_off_fits : (mail : Mail) (arrival : ℕ) (m : Message) → FitsMail buffers me mail now → FitsMail buffers me (put_off mail arrival m) now
+  pub put_off_fits : (mail : Mail) (arrival : ℕ) (m : Message) → FitsMail buffers me mail now → FitsMail buffers me (mail_with_recycled mail arrival m) now
   put_off_fits mail arrival m fits =
-      let change : InboxMessage → InboxMessage = arriving_again arrival in
+      let change : InboxMessage → InboxMessage = message_arriving_again arrival in
       mark_fits (record mail { inbox = map (λ (o : InboxMessage). cond (same_number o.message.number m.number) (change o) o) mail.inbox }) arrival
       (tested_fits mail (λ (o : InboxMessage). same_number o.message.number m.number) change (λ o. refl) (arrival_fits mail.sent arrival) fits)
 
 -- other mail of the same controller
-pub mail_lawful : (v : LocalView) (mail : Mail) (acts : Acts) → FitsMail v.machine.buffers v.actor.me mail v.now → IsLawful v → IsLawful (record v { ctl = record v.ctl { mail = mail }; acts = acts })
+pub mail_lawful : (v : LocalView) (mail : Mail) (acts : Acts) → FitsMail v.machine.buffers v.actor.me mail v.now → ScanFits v → ScanFits (record v { ctl = record v.ctl { mail = mail }; acts = acts })
 mail_lawful v mail acts here lawful = record {
   machine = lawful.machine;
   routes = lawful.routes;
@@ -99,34 +99,34 @@ mail_lawful v mail acts here lawful = record {
   fits = record { tables = lawful.fits.tables; mail = here; sequencer = lawful.fits.sequencer };
 }
 
-front_lawful : (v : LocalView) (told : MsgNo → Acts) (change : Message → Mail) (o : Option Message) → ((m : Message) → FitsMail v.machine.buffers v.actor.me (change m) v.now) → IsLawful v → Good IsLawful (after_front v told (at_front change o))
-front_lawful v told change None keeps lawful = good_err IsLawful Front
-front_lawful v told change (Some m) keeps lawful = good_ok IsLawful _ (mail_lawful v (change m) (told m.number) (keeps m) lawful)
+front_lawful : (v : LocalView) (told : MsgNo → Acts) (change : Message → Mail) (o : Option Message) → ((m : Message) → FitsMail v.machine.buffers v.actor.me (change m) v.now) → ScanFits v → Good ScanFits (after_front v told (at_front change o))
+front_lawful v told change None keeps lawful = good_err ScanFits Front
+front_lawful v told change (Some m) keeps lawful = good_ok ScanFits _ (mail_lawful v (change m) (told m.number) (keeps m) lawful)
 
-pub pop_keeps : (v : LocalView) (buffer : ℕ) → IsLawful v → Good IsLawful (pop v buffer)
+pub pop_keeps : (v : LocalView) (buffer : ℕ) → ScanFits v → Good ScanFits (pop v buffer)
 pop_keeps v buffer lawful =
-    front_lawful v _ (consumed v.ctl.mail) (front_now v buffer) (λ m. consumed_fits v.machine.buffers v.actor.me v.now v.ctl.mail m lawful.fits.mail) lawful
+    front_lawful v _ (mail_without v.ctl.mail) (front_now v buffer) (λ m. consumed_fits v.machine.buffers v.actor.me v.now v.ctl.mail m lawful.fits.mail) lawful
 
-pub stall_keeps : (v : LocalView) (buffer line : ℕ) → IsLine line → IsLawful v → Good IsLawful (stall v buffer line)
+pub stall_keeps : (v : LocalView) (buffer line : ℕ) → IsLine line → ScanFits v → Good ScanFits (stall v buffer line)
 stall_keeps v buffer line is lawful =
-    front_lawful v _ (set_aside v.ctl.mail line) (front_now v buffer) (λ m. aside_fits v.machine.buffers v.actor.me v.now v.ctl.mail line m is lawful.fits.mail) lawful
+    front_lawful v _ (mail_with_waiting v.ctl.mail line) (front_now v buffer) (λ m. aside_fits v.machine.buffers v.actor.me v.now v.ctl.mail line m is lawful.fits.mail) lawful
 
-woken_keeps : (v : LocalView) (test : InboxMessage → Bool) → IsLawful v → IsLawful (woken_where v test)
+woken_keeps : (v : LocalView) (test : InboxMessage → Bool) → ScanFits v → ScanFits (with_woken v test)
 woken_keeps v test lawful = mail_lawful v (woken_mail v.ctl.mail test) _ (woken_fits v.machine.buffers v.actor.me v.now v.ctl.mail test lawful.fits.mail) lawful
 
-pub wake_keeps : (v : LocalView) (line : ℕ) → IsLawful v → IsLawful (wake v line)
+pub wake_keeps : (v : LocalView) (line : ℕ) → ScanFits v → ScanFits (wake v line)
 wake_keeps v line = woken_keeps v (λ (o : InboxMessage). is_under line o.waiting)
 
-pub wake_all_keeps : (v : LocalView) → IsLawful v → IsLawful (wake_all v)
+pub wake_all_keeps : (v : LocalView) → ScanFits v → ScanFits (wake_all v)
 wake_all_keeps v = woken_keeps v (λ (o : InboxMessage). is_some o.waiting)
 
-recycled_keeps : (v : LocalView) (told : MsgNo → Acts) (b : Bool) (buffer arrival : ℕ) → IsLawful v → Good IsLawful (after_front v told (cond b (at_front (put_off v.ctl.mail arrival) (front_now v buffer)) (Err Latency)))
+recycled_keeps : (v : LocalView) (told : MsgNo → Acts) (b : Bool) (buffer arrival : ℕ) → ScanFits v → Good ScanFits (after_front v told (cond b (at_front (mail_with_recycled v.ctl.mail arrival) (front_now v buffer)) (Err Latency)))
 recycled_keeps v told true buffer arrival lawful =
-    front_lawful v told (put_off v.ctl.mail arrival) (front_now v buffer) (λ m. put_off_fits v.machine.buffers v.actor.me v.now v.ctl.mail arrival m lawful.fits.mail) lawful
-recycled_keeps v told false buffer arrival lawful = good_err IsLawful Latency
+    front_lawful v told (mail_with_recycled v.ctl.mail arrival) (front_now v buffer) (λ m. put_off_fits v.machine.buffers v.actor.me v.now v.ctl.mail arrival m lawful.fits.mail) lawful
+recycled_keeps v told false buffer arrival lawful = good_err ScanFits Latency
 
-pub recycle_keeps : (v : LocalView) (buffer : ℕ) (latency : ℤ) → IsLawful v → Good IsLawful (recycle v buffer latency)
+pub recycle_keeps : (v : LocalView) (buffer : ℕ) (latency : ℤ) → ScanFits v → Good ScanFits (recycle v buffer latency)
 recycle_keeps v buffer latency lawful = recycled_keeps v _ (is_latency latency) buffer (v.now + nat_abs latency) lawful
 
-pub again_keeps : (v : LocalView) → IsLawful v → IsLawful (again v)
-again_keeps v lawful = mail_lawful v (marked v.ctl.mail (v.now + 1)) _ (mark_fits v.machine.buffers v.actor.me v.now v.ctl.mail (v.now + 1) lawful.fits.mail) lawful
+pub again_keeps : (v : LocalView) → ScanFits v → ScanFits (again v)
+again_keeps v lawful = mail_lawful v (mail_with_mark v.ctl.mail (v.now + 1)) _ (mark_fits v.machine.buffers v.actor.me v.now v.ctl.mail (v.now + 1) lawful.fits.mail) lawful

@@ -1,5 +1,5 @@
 -- A controller as a run begins fits its machine.
-use Rattle.std.proofs.Common.{ℕ, zero, suc, ◌≤◌, Bool, true, false, List, [], ◌∷◌, map, All, IsTrue, IfSome, refl, arith, slice_get}
+use Rattle.std.proofs.Common.{◌≡◌, ℕ, zero, suc, ◌≤◌, Bool, true, false, List, [], ◌∷◌, map, All, IsTrue, IfNone, IfSome, Option, None, Some, refl, arith, slice_get}
 use Rattle.std.proofs.lemmas.List.{length-replicate}
 use Rattle.std.proofs.lemmas.List.Elements.{All-nil, All-head, All-tail, All-replicate}
 use Rattle.std.specs.FinMap.{empty, get, get-empty, len-empty}
@@ -51,9 +51,13 @@ no_requests_fit true = record {
   finished_ascend = AllPairs-nil (λ (a b : Answer). a.asked.line ≤ b.asked.line);
 }
 
+opened_states : (default : Option ℕ) → IfNone default (empty {X = ℕ} {R = nat_cmp} ≡ empty)
+opened_states None = refl
+opened_states (Some state) = tt
+
 pub opening_fits : (machine : MachineSetup) (me now : ℕ) → IsMachine machine → Fits machine me (opening_ctl machine) now
 opening_fits machine me now lawful = record {
-  tables = record { each = opened_fits machine.tables lawful.tables; lines = none_kept (λ line state. IsLine line) };
+  tables = record { each = opened_fits machine.tables lawful.tables; lines = none_kept (λ line state. IsLine line); no_states = opened_states machine.default_state };
   mail = record {
     inbox_ascends = AllPairs-nil (λ (a b : InboxMessage). IsTrue (number_before a.message.number b.message.number));
     messages = All-nil (FitsMessage machine.buffers me 0);

@@ -4,7 +4,7 @@ use Rattle.std.proofs.Common.{◌≡◌, ◌↔◌, ℕ, Bool, List, All, IsTrue
 use Rattle.std.specs.Option.{option_and_then, option_flatten}
 use Rattle.ruby_value.specs.declared.setup.MachineSetup.{MachineSetup}
 use Rattle.ctl_face.specs.declared.routes.Routes.{Routes}
-use Rattle.ctl_face.specs.RoutesFit.{AreFrom, HasRoutes, IsFrom, KeepsOrder, ReceivesFrom, RoutesFit, StandsAt}
+use Rattle.ctl_face.specs.RoutesFit.{AreFrom, HasRoutes, IsFrom, KeepsOrder, NamesBuffers, ReceivesFrom, RoutesFit, StandsAt}
 use Rattle.ctl_face.proofs.Lines.{All-found}
 
 pub own_from : (machine : MachineSetup) (routes : Routes) (me : ℕ) (buffers : List (Option ℕ)) → slice_get routes.receiving me ≡ Some buffers → (b : Bool) → (IsTrue b ↔ AreFrom machine buffers) → IsTrue b ↔ ReceivesFrom machine me routes
@@ -17,5 +17,6 @@ fit_each machines stand routes place controller m fit stands is = record {
   limits = fit.limits;
   own_path = fit.own_paths controller;
   order = subst (λ (o : Option MachineSetup). IfSome o (λ (x : MachineSetup). All (KeepsOrder routes) x.buffers)) is (All-found (λ (x : MachineSetup). All (KeepsOrder routes) x.buffers) machines place fit.order);
+  own_named = subst (λ (o : Option MachineSetup). IfSome o (λ x. NamesBuffers x.buffers controller routes)) is (fit.named place controller stands);
   own_buffers = subst (λ (o : Option MachineSetup). IfSome o (λ x. ReceivesFrom x controller routes)) is (fit.receivers place controller stands);
 }

@@ -15,13 +15,13 @@ use Rattle.ctl_face.specs.FieldsIn.{fields_in}
 use Rattle.ruby_value.specs.Cache.{Line}
 use Rattle.ruby_value.specs.SetOf.{set_of}
 use Rattle.ctl_face.specs.Avail.{avail, least_used_in, probe}
-use Rattle.ctl_face.specs.Fits.{FitsLine, FitsMessage, FitsTableAt, IsLawful, IsLine}
+use Rattle.ctl_face.specs.Fits.{FitsLine, FitsMessage, FitsTableAt, ScanFits, IsLine}
 use Rattle.ctl_face.specs.Front.{IsFront}
 use Rattle.ctl_face.specs.Get.{get, fields_behind}
 use Rattle.ruby_value.specs.HasKinds.{has_kinds}
 use Rattle.ruby_value.specs.HasKind.{has_kind}
 use Rattle.ctl_face.specs.LocalView.{LocalView}
-use Rattle.ctl_face.specs.Mailing.{incoming}
+use Rattle.ctl_face.specs.Mailing.{incoming_message}
 use Rattle.ctl_face.specs.Ready.{required_front, front_now}
 use Rattle.ctl_face.specs.Served.{TakesField, TakesMessage}
 use Rattle.ctl_face.specs.Table.{Table, CacheTable, DirectoryTable, TbeTable, ParameterTable}
@@ -53,7 +53,7 @@ fields_fit line s None fits = tt
 fields_fit line None (Some t) fits = absurd fits
 fields_fit line (Some s) (Some t) fits = kinds_in s.kinds t line fits.lines
 
-pub get_kind : (v : LocalView) (r : Ref) (field : ℕ) (value : Value) → IsLawful v → get v r field ≡ Ok value → TakesField v r.table field value
+pub get_kind : (v : LocalView) (r : Ref) (field : ℕ) (value : Value) → ScanFits v → get v r field ≡ Ok value → TakesField v r.table field value
 get_kind v r field value lawful is =
     read_kind (slice_get v.machine.tables r.table) (fields_behind v r) field value
     (fields_fit r.line (slice_get v.machine.tables r.table) (slice_get v.ctl.tables r.table) (lawful.fits.tables.each r.table)) is
@@ -71,10 +71,10 @@ peeked-is : (v : LocalView) (buffer : ℕ) (m : Message) → required_front v bu
 peeked-is v buffer m is =
     subst (IsFront v.ctl.mail.inbox buffer v.now) (peeked (front_now v buffer) m is) (front_first v.ctl.mail buffer v.now)
 
-pub peek_kinds : (v : LocalView) (buffer : ℕ) (m : Message) → IsLawful v → required_front v buffer ≡ Ok m → TakesMessage v m.buffer m.fields
+pub peek_kinds : (v : LocalView) (buffer : ℕ) (m : Message) → ScanFits v → required_front v buffer ≡ Ok m → TakesMessage v m.buffer m.fields
 peek_kinds v buffer m lawful is =
     let front = peeked-is v buffer m is in
-    let fits = All-contains (FitsMessage v.machine.buffers v.actor.me v.ctl.mail.sent) v.ctl.mail.inbox (incoming m) lawful.fits.mail.messages front.held in
+    let fits = All-contains (FitsMessage v.machine.buffers v.actor.me v.ctl.mail.sent) v.ctl.mail.inbox (incoming_message m) lawful.fits.mail.messages front.held in
     message_kinds_fit (slice_get v.machine.buffers m.buffer) m.fields fits.fields
 
 pub peek_buffer : (v : LocalView) (buffer : ℕ) (m : Message) → required_front v buffer ≡ Ok m → m.buffer ≡ buffer
@@ -105,7 +105,7 @@ probed true o l is = cc
 probed false None l is = cc
 probed false (Some x) l is = cc
 
-pub probe_line : (v : LocalView) (table line l : ℕ) → IsLawful v → probe v table line ≡ Ok l → IsLine l
+pub probe_line : (v : LocalView) (table line l : ℕ) → ScanFits v → probe v table line ≡ Ok l → IsLine l
 probe_line v table line l lawful is =
     least_used_line (slice_get v.machine.tables table) (slice_get v.ctl.tables table) line l (lawful.fits.tables.each table)
     (probed (avail v table line) (least_used_in (slice_get v.ctl.tables table) line) l is)

@@ -18,24 +18,20 @@ use Rattle.ruby_value.specs.declared.value.Value.{Value}
 use Rattle.ruby_value.specs.HasKinds.{has_kinds}
 use Rattle.ctl_face.specs.Ctl.{InboxMessage, Mail}
 use Rattle.ctl_face.specs.Enqueue.{enqueue, after_sending}
-use Rattle.ctl_face.specs.Fits.{FitsMail, FitsMessage, IsLawful}
+use Rattle.ctl_face.specs.Fits.{FitsMail, FitsMessage, ScanFits}
 use Rattle.ctl_face.specs.IsMachine.{AgreeOnType, IsMachine, network_count, network_of}
 use Rattle.ctl_face.specs.Lasts.{Lasts, with_last}
 use Rattle.ctl_face.specs.Latency.{is_latency}
 use Rattle.ctl_face.specs.LocalView.{Actor, LocalView}
-use Rattle.ctl_face.specs.Mailing.{delivered, incoming}
-use Rattle.ctl_face.specs.OfMachine.{message_kinds}
+use Rattle.ctl_face.specs.Mailing.{mail_with_delivery, incoming_message}
+use Rattle.ctl_face.specs.OfMachine.{TakesFields, message_kinds}
 use Rattle.ctl_face.specs.RoutesFit.{IsFrom, ReceivesFrom}
 use Rattle.ctl_face.specs.Routing.{receiving_buffer, is_ordered}
-use Rattle.ctl_face.specs.Send.{Sending, send, sent_from, sent_on, copy_limit, receivers_of, counted, next_copy, no_copies, has_jitter, after_network_copy, network_arrival, with_network_copy, local_arrival, local_copy}
+use Rattle.ctl_face.specs.Send.{Sending, send, sending_from, sending_on, copy_limit, receivers_of, mail_with_copy, next_copy, no_copies, has_jitter, after_network_copy, network_arrival, with_network_copy, local_arrival, local_copy}
 use Rattle.ctl_face.proofs.Cases.{Good, good_ok, good_err, good_cond}
 use Rattle.ctl_face.proofs.FieldKinds.{same_kinds_take}
 use Rattle.ctl_face.proofs.Lines.{All-found}
 use Rattle.ctl_face.proofs.MailKept.{arrived_fits, mail_lawful}
-
--- the buffer is there, and its messages have these fields
-abbrev pub TakesFields : List BufferSetup → ℕ → List Value → Type 0
-TakesFields buffers buffer fields = IsSomeAnd (slice_get buffers buffer) (λ (s : BufferSetup). IsTrue (has_kinds s.kinds fields))
 
 takes_fields : (buffers : List BufferSetup) (buffer : ℕ) (s : BufferSetup) (fields : List Value) → slice_get buffers buffer ≡ Some s → IsTrue (has_kinds s.kinds fields) → TakesFields buffers buffer fields
 takes_fields buffers buffer s fields is here = subst (λ (o : Option BufferSetup). IsSomeAnd o (λ (b : BufferSetup). IsTrue (has_kinds b.kinds fields))) (sym is) here
@@ -60,12 +56,12 @@ module _ (buffers : List BufferSetup) (actor : Actor) (now : ℕ) where
     drawn = (let before = fits.drawn in omega arith);
   }
 
-  counted_fits : (mail : Mail) (mine : Bool) (m : Message) → mail.copies + 1 ≤ copy_limit → (mine ≡ true → FitsMessage buffers actor.me (mail.sent + 1) (incoming m)) → FitsMail buffers actor.me mail now
-      → FitsMail buffers actor.me (record (delivered mine mail m) { sent = mail.sent + 1; copies = mail.copies + 1 }) now
+  counted_fits : (mail : Mail) (mine : Bool) (m : Message) → mail.copies + 1 ≤ copy_limit → (mine ≡ true → FitsMessage buffers actor.me (mail.sent + 1) (incoming_message m)) → FitsMail buffers actor.me mail now
+      → FitsMail buffers actor.me (record (mail_with_delivery mine mail m) { sent = mail.sent + 1; copies = mail.copies + 1 }) now
   counted_fits mail true m room own fits = arrived_fits buffers actor.me now (record mail { sent = mail.sent + 1; copies = mail.copies + 1 }) m (own refl) (numbered_fits mail room fits)
   counted_fits mail false m room own fits = numbered_fits mail room fits
 
-  delivered_drawn : (mine : Bool) (mail : Mail) (m : Message) → (delivered mine mail m).drawn ≡ mail.drawn
+  delivered_drawn : (mine : Bool) (mail : Mail) (m : Message) → (mail_with_delivery mine mail m).drawn ≡ mail.drawn
   delivered_drawn true mail m = refl
   delivered_drawn false mail m = refl
 
@@ -102,7 +98,7 @@ module _ (buffers : List BufferSetup) (actor : Actor) (now : ℕ) where
       let once_more = counted_fits s.mail is_mine copy.message room (λ is. own_fits s.mail.sent buffer arrival fields (mine (eqb-true receiver actor.me is))) fits in
       let before = fits.drawn in
       let same = delivered_drawn is_mine s.mail copy.message in
-      drawn_fits (counted actor s.mail copy) network receiver arrival (omega arith) once_more
+      drawn_fits (mail_with_copy actor s.mail copy) network receiver arrival (omega arith) once_more
 
   each_fits : (network latency : ℕ) (fields : List Value) (members : List ℕ) (s : Sending) → length members + s.mail.copies ≤ copy_limit
       → list_all (λ receiver. is_some (receiving_buffer actor.routes receiver network)) members ≡ true
@@ -117,13 +113,14 @@ module _ (buffers : List BufferSetup) (actor : Actor) (now : ℕ) where
       (step_fits network latency fields s receiver room_here (mine receiver both.0) fits)
 
 -- two buffers on one network have one message type, so the one that takes the network's messages takes these fields
-module _ (machine : MachineSetup) (lawful : IsMachine machine) (actor : Actor) (own : ReceivesFrom machine actor.me actor.routes) (network buffer : ℕ) (fields : List Value) (s : BufferSetup) (is : slice_get machine.buffers buffer ≡ Some s) (on : network_of s.place ≡ Some network) (here : IsTrue (has_kinds s.kinds fields)) where
-  other_takes : (b : ℕ) (o : Option BufferSetup) → slice_get machine.buffers b ≡ o → option_map (λ (x : BufferSetup). x.place) o ≡ Some (place.From network) → IfSome o (AgreeOnType s) → TakesFields machine.buffers b fields
-  other_takes b None there from agree = absurd (cc from)
-  other_takes b (Some t) there from agree =
-      let at_place : t.place ≡ place.From network = cc in
-      takes_fields machine.buffers b t fields there (same_kinds_take s.kinds t.kinds fields (agree network on (ap network_of at_place)) here)
+pub other_takes : (network : ℕ) (fields : List Value) (s : BufferSetup) → network_of s.place ≡ Some network → IsTrue (has_kinds s.kinds fields)
+    → (buffers : List BufferSetup) (b : ℕ) (o : Option BufferSetup) → slice_get buffers b ≡ o → option_map (λ (x : BufferSetup). x.place) o ≡ Some (place.From network) → IfSome o (AgreeOnType s) → TakesFields buffers b fields
+other_takes network fields s on here buffers b None there from agree = absurd (cc from)
+other_takes network fields s on here buffers b (Some t) there from agree =
+    let at_place : t.place ≡ place.From network = cc in
+    takes_fields buffers b t fields there (same_kinds_take s.kinds t.kinds fields (agree network on (ap network_of at_place)) here)
 
+module _ (machine : MachineSetup) (lawful : IsMachine machine) (actor : Actor) (own : ReceivesFrom machine actor.me actor.routes) (network buffer : ℕ) (fields : List Value) (s : BufferSetup) (is : slice_get machine.buffers buffer ≡ Some s) (on : network_of s.place ≡ Some network) (here : IsTrue (has_kinds s.kinds fields)) where
   agrees : All (AgreeOnType s) machine.buffers
   agrees = subst (λ (o : Option BufferSetup). IfSome o (λ x. All (AgreeOnType x) machine.buffers)) is (All-found (λ x. All (AgreeOnType x) machine.buffers) machine.buffers buffer lawful.one_type.one_type)
 
@@ -131,7 +128,7 @@ module _ (machine : MachineSetup) (lawful : IsMachine machine) (actor : Actor) (
   own_buffer_takes None same there = absurd (cc there)
   own_buffer_takes (Some b) same there =
       let P : Option ℕ → Type 0 = IsFrom machine network in
-      other_takes b (slice_get machine.buffers b) refl (subst P same (own network)) (All-found (AgreeOnType s) machine.buffers b agrees)
+      other_takes network fields s on here machine.buffers b (slice_get machine.buffers b) refl (subst P same (own network)) (All-found (AgreeOnType s) machine.buffers b agrees)
 
   own_takes : (receiver : ℕ) → is_some (receiving_buffer actor.routes receiver network) ≡ true → receiver ≡ actor.me → TakesFields machine.buffers (unwrap_or (receiving_buffer actor.routes receiver network) 0) fields
   own_takes receiver there mine =
@@ -143,7 +140,7 @@ module _ (machine : MachineSetup) (lawful : IsMachine machine) (actor : Actor) (
   SendingFits s = FitsMail machine.buffers actor.me s.mail now
 
   on_fits : (s : BufferSetup) (p : BufferPlace) (mail : Mail) (buffer latency : ℕ) (fields : List Value) → s.place ≡ p → slice_get machine.buffers buffer ≡ Some s → IsTrue (has_kinds s.kinds fields) → FitsMail machine.buffers actor.me mail now
-      → Good SendingFits (sent_on p s.ordered actor mail buffer latency fields now)
+      → Good SendingFits (sending_on p s.ordered actor mail buffer latency fields now)
   on_fits s (place.From network) mail buffer latency fields at_place is here fits = good_ok SendingFits (no_copies mail) fits
   on_fits s place.Local mail buffer latency fields at_place is here fits =
       let sending = local_copy actor s.ordered mail buffer latency fields now in
@@ -154,7 +151,7 @@ module _ (machine : MachineSetup) (lawful : IsMachine machine) (actor : Actor) (
       let once_more = λ (few : b ≡ false). counted_fits machine.buffers actor now mail (eqb actor.me actor.me) copy.message (ltb-false copy_limit (mail.copies + 1) few) (λ _. own_fits machine.buffers actor now mail.sent buffer arrival fields takes) fits in
       good_cond SendingFits b (Err Copies) (Ok sending) (λ _. good_err SendingFits Copies)
       (λ few. good_ok SendingFits sending
-      (kept_fits machine.buffers actor now (counted actor mail copy) (cond s.ordered (map.insert mail.local_last buffer arrival) mail.local_last) (counted actor mail copy).network_last (counted actor mail copy).drawn
+      (kept_fits machine.buffers actor now (mail_with_copy actor mail copy) (cond s.ordered (map.insert mail.local_last buffer arrival) mail.local_last) (mail_with_copy actor mail copy).network_last (mail_with_copy actor mail copy).drawn
       (once_more few).networks (once_more few).drawn (once_more few)))
   on_fits s (place.To network destination) mail buffer latency fields at_place is here fits =
       let members = receivers_of destination fields in
@@ -169,19 +166,19 @@ module _ (machine : MachineSetup) (lawful : IsMachine machine) (actor : Actor) (
       (each_fits machine.buffers actor now network latency fields members (no_copies mail) total (not-false routed are_routed) (own_takes machine lawful actor own network buffer fields s is (ap network_of at_place) here) fits)))
 
   from_fits : (o : Option BufferSetup) (mail : Mail) (buffer latency : ℕ) (fields : List Value) → slice_get machine.buffers buffer ≡ o → IsTrue (has_kinds (unwrap_or (option_map (λ (b : BufferSetup). b.kinds) o) []) fields) → FitsMail machine.buffers actor.me mail now
-      → Good SendingFits (sent_from o actor mail buffer latency fields now)
+      → Good SendingFits (sending_from o actor mail buffer latency fields now)
   from_fits None mail buffer latency fields is here fits = good_ok SendingFits (no_copies mail) fits
   from_fits (Some s) mail buffer latency fields is here fits = on_fits s s.place mail buffer latency fields refl is here fits
 
-after_keeps : (v : LocalView) (r : Result Sending Fault) → Good (λ (s : Sending). FitsMail v.machine.buffers v.actor.me s.mail v.now) r → IsLawful v → Good IsLawful (after_sending v r)
-after_keeps v (Ok s) fits lawful = good_ok IsLawful _ (mail_lawful v s.mail _ (fits.good s refl) lawful)
-after_keeps v (Err e) fits lawful = good_err IsLawful e
+after_keeps : (v : LocalView) (r : Result Sending Fault) → Good (λ (s : Sending). FitsMail v.machine.buffers v.actor.me s.mail v.now) r → ScanFits v → Good ScanFits (after_sending v r)
+after_keeps v (Ok s) fits lawful = good_ok ScanFits _ (mail_lawful v s.mail _ (fits.good s refl) lawful)
+after_keeps v (Err e) fits lawful = good_err ScanFits e
 
-pub enqueue_keeps : (v : LocalView) (buffer : ℕ) (latency : ℤ) (fields : List Value) → IsTrue (has_kinds (message_kinds v.machine buffer) fields) → IsLawful v → Good IsLawful (enqueue v buffer latency fields)
+pub enqueue_keeps : (v : LocalView) (buffer : ℕ) (latency : ℤ) (fields : List Value) → IsTrue (has_kinds (message_kinds v.machine buffer) fields) → ScanFits v → Good ScanFits (enqueue v buffer latency fields)
 enqueue_keeps v buffer latency fields here lawful =
     let o = slice_get v.machine.buffers buffer in
     let P : Sending → Type 0 = λ s. FitsMail v.machine.buffers v.actor.me s.mail v.now in
     after_keeps v (send v.machine v.actor v.ctl.mail buffer latency fields v.now)
-    (good_cond P (is_latency latency) (sent_from o v.actor v.ctl.mail buffer (nat_abs latency) fields v.now) (Err Latency)
+    (good_cond P (is_latency latency) (sending_from o v.actor v.ctl.mail buffer (nat_abs latency) fields v.now) (Err Latency)
     (λ _. from_fits v.machine lawful.machine v.actor lawful.routes.own_buffers v.now o v.ctl.mail buffer (nat_abs latency) fields refl here lawful.fits.mail) (λ _. good_err P Latency))
     lawful

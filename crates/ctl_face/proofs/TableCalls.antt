@@ -31,12 +31,12 @@ use Rattle.ruby_value.specs.declared.setup.TableSize.TheVariants as size
 use Rattle.ctl_face.specs.Allocate.{allocate, with_line}
 use Rattle.ctl_face.specs.Deallocate.{deallocate, without_line_in}
 use Rattle.ctl_face.specs.FieldsIn.{fields_in, with_fields_in}
-use Rattle.ctl_face.specs.Fits.{FitsLine, FitsLines, FitsTable, IsLawful, IsLine, IsOfSize}
+use Rattle.ctl_face.specs.Fits.{FitsLine, FitsLines, FitsTable, ScanFits, IsLine, IsOfSize}
 use Rattle.ruby_value.specs.HasKinds.{has_kinds}
 use Rattle.ruby_value.specs.HasKind.{has_kind}
 use Rattle.ctl_face.specs.LocalView.{LocalView}
 use Rattle.ctl_face.specs.OfMachine.{initial_fields, field_kinds}
-use Rattle.ctl_face.specs.Set.{written, set as set_field}
+use Rattle.ctl_face.specs.Set.{table_with_field, set as set_field}
 use Rattle.ctl_face.specs.Table.{Table, CacheTable, DirectoryTable, TbeTable, ParameterTable}
 use Rattle.ctl_face.specs.Touch.{touch, used_line}
 use Rattle.ctl_face.proofs.Cases.{Good, good_ok, good_err, good_cond}
@@ -175,7 +175,7 @@ with_fields_fits s (ParameterTable values) line old fields is there here fits = 
   lines = here;
 }
 
-set_in_table : (s : TableSetup) (t : Table) (line field : ℕ) (value : Value) → IsSomeAnd (slice_get s.kinds field) (λ k. IsTrue (has_kind k value)) → IsLine line → FitsTable s t → (o : Option (List Value)) → fields_in t line ≡ o → Good (FitsTable s) (written t line field value o)
+set_in_table : (s : TableSetup) (t : Table) (line field : ℕ) (value : Value) → IsSomeAnd (slice_get s.kinds field) (λ k. IsTrue (has_kind k value)) → IsLine line → FitsTable s t → (o : Option (List Value)) → fields_in t line ≡ o → Good (FitsTable s) (table_with_field t line field value o)
 set_in_table s t line field value takes is fits None there = good_err (FitsTable s) Reference
 set_in_table s t line field value takes is fits (Some old) there =
     let Q : Option (List Value) → Type 0 = λ o. IfSome o (KindsAre s.kinds) in
@@ -183,9 +183,9 @@ set_in_table s t line field value takes is fits (Some old) there =
     let new = set old field value in
     good_ok (FitsTable s) (with_fields_in t line new) (with_fields_fits s t line old new is there (has_kinds-set s.kinds old field value takes old_kinds) fits)
 
-pub set_keeps : (v : LocalView) (r : Ref) (field : ℕ) (value : Value) → IsSomeAnd (slice_get (field_kinds v.machine r.table) field) (λ k. IsTrue (has_kind k value)) → IsLine r.line → IsLawful v → Good IsLawful (set_field v r field value)
+pub set_keeps : (v : LocalView) (r : Ref) (field : ℕ) (value : Value) → IsSomeAnd (slice_get (field_kinds v.machine r.table) field) (λ k. IsTrue (has_kind k value)) → IsLine r.line → ScanFits v → Good ScanFits (set_field v r field value)
 set_keeps v r field value takes is lawful =
-    changed_keeps v lawful r.table (λ t. written t r.line field value (fields_in t r.line))
+    changed_keeps v lawful r.table (λ t. table_with_field t r.line field value (fields_in t r.line))
     (λ s t there fits.
     let Q : Option TableSetup → Type 0 = λ o. IsSomeAnd (slice_get (unwrap_or (option_map (λ (u : TableSetup). u.kinds) o) []) field) (λ k. IsTrue (has_kind k value)) in
     set_in_table s t r.line field value (subst Q there takes) is fits (fields_in t r.line) refl)
@@ -210,7 +210,7 @@ allocated s (TbeTable tbes) line fields is here fits =
     tbes_fit s tbes line fields is here (λ small. omega arith) fits)))
 allocated s (ParameterTable values) line fields is here fits = good_ok (FitsTable s) (ParameterTable values) fits
 
-pub allocate_keeps : (v : LocalView) (table line : ℕ) → IsLine line → IsLawful v → Good IsLawful (allocate v table line)
+pub allocate_keeps : (v : LocalView) (table line : ℕ) → IsLine line → ScanFits v → Good ScanFits (allocate v table line)
 allocate_keeps v table line is lawful =
     changed_keeps v lawful table (with_line (initial_fields v.machine table) line)
     (λ s t there fits.
@@ -235,7 +235,7 @@ deallocated s (TbeTable tbes) line fits =
     })) (λ _. good_err (FitsTable s) Absent)
 deallocated s (ParameterTable values) line fits = good_ok (FitsTable s) (ParameterTable values) fits
 
-pub deallocate_keeps : (v : LocalView) (table line : ℕ) → IsLawful v → Good IsLawful (deallocate v table line)
+pub deallocate_keeps : (v : LocalView) (table line : ℕ) → ScanFits v → Good ScanFits (deallocate v table line)
 deallocate_keeps v table line lawful = changed_keeps v lawful table (without_line_in line) (λ s t there fits. deallocated s t line fits)
 
 touched : (s : TableSetup) (t : Table) (line : ℕ) → FitsTable s t → Good (FitsTable s) (used_line line t)
@@ -246,5 +246,5 @@ touched s (DirectoryTable directory) line fits = good_ok (FitsTable s) (Director
 touched s (TbeTable tbes) line fits = good_ok (FitsTable s) (TbeTable tbes) fits
 touched s (ParameterTable values) line fits = good_ok (FitsTable s) (ParameterTable values) fits
 
-pub touch_keeps : (v : LocalView) (table line : ℕ) → IsLawful v → Good IsLawful (touch v table line)
+pub touch_keeps : (v : LocalView) (table line : ℕ) → ScanFits v → Good ScanFits (touch v table line)
 touch_keeps v table line lawful = changed_keeps v lawful table (used_line line) (λ s t there fits. touched s t line fits)

@@ -2,7 +2,7 @@
 -- own.
 use Rattle.std.specs.Prelude.{true, ◌+◌}
 use Rattle.ctl_face.specs.LocalView.{LocalView}
-use Rattle.ctl_face.specs.Mailing.{marked}
+use Rattle.ctl_face.specs.Mailing.{mail_with_mark}
 
 abbrev pub again : LocalView → LocalView
-again v = record v { ctl = record v.ctl { mail = marked v.ctl.mail (v.now + 1) }; acts = record v.acts { again = true } }
+again v = record v { ctl = record v.ctl { mail = mail_with_mark v.ctl.mail (v.now + 1) }; acts = record v.acts { again = true } }

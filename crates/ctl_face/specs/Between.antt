@@ -10,24 +10,24 @@ use Rattle.ruby_value.specs.declared.asked.Asked.{Asked}
 use Rattle.ruby_value.specs.declared.message.Message.{Message}
 use Rattle.ruby_value.specs.Ascending.{marks_from}
 use Rattle.ctl_face.specs.Ctl.{Ctl, Requests}
-use Rattle.ctl_face.specs.Mailing.{arrived, marked}
+use Rattle.ctl_face.specs.Mailing.{mail_with_message, mail_with_mark}
 
 abbrev pub with_arrival : Ctl → Message → Ctl
-with_arrival ctl m = record ctl { mail = arrived ctl.mail m }
+with_arrival ctl m = record ctl { mail = mail_with_message ctl.mail m }
 
 abbrev pub with_wake_up : Ctl → ℕ → Ctl
-with_wake_up ctl cycle = record ctl { mail = marked ctl.mail cycle }
+with_wake_up ctl cycle = record ctl { mail = mail_with_mark ctl.mail cycle }
 
 -- as the cycle begins
-abbrev pub begun : Ctl → ℕ → Ctl
-begun ctl now = record ctl { mail = record ctl.mail { marks = marks_from now ctl.mail.marks; copies = 0 }; fired = 0 }
+abbrev pub at_cycle : Ctl → ℕ → Ctl
+at_cycle ctl now = record ctl { mail = record ctl.mail { marks = marks_from now ctl.mail.marks; copies = 0 }; fired = 0 }
 
 -- one transition more has fired in this cycle
-abbrev pub fired_once : Ctl → Ctl
-fired_once ctl = record ctl { fired = ctl.fired + 1 }
+abbrev pub with_one_fired : Ctl → Ctl
+with_one_fired ctl = record ctl { fired = ctl.fired + 1 }
 
-abbrev pub halted : Ctl → Ctl
-halted ctl = record ctl { stopped = true }
+abbrev pub with_stop : Ctl → Ctl
+with_stop ctl = record ctl { stopped = true }
 
 -- the request that is outstanding for a line, of which there is one at most
 abbrev pub outstanding_for : Ctl → ℕ → Option Asked

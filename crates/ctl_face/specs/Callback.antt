@@ -31,12 +31,12 @@ with_answer answers a =
     ++ a ∷ filter (λ (o : Answer). nat_lt a.asked.line o.asked.line) answers
 
 -- the request of a line has its answer
-abbrev pub finished : Requests → ℕ → Answer → Requests
-finished r line a = record { outstanding = map.remove r.outstanding line; finished = with_answer r.finished a }
+abbrev pub requests_with_answer : Requests → ℕ → Answer → Requests
+requests_with_answer r line a = record { outstanding = map.remove r.outstanding line; finished = with_answer r.finished a }
 
 abbrev pub with_finished : LocalView → ℕ → Answer → Option Requests → LocalView
 with_finished v line a None = v
-with_finished v line a (Some r) = record v { ctl = record v.ctl { sequencer = Some (finished r line a) } }
+with_finished v line a (Some r) = record v { ctl = record v.ctl { sequencer = Some (requests_with_answer r line a) } }
 
 abbrev pub after_answer : LocalView → ℕ → Asked → Block → LocalView
 after_answer v line asked block = with_finished v line (record { asked = asked; block = block }) v.ctl.sequencer
@@ -66,5 +66,5 @@ abbrev pub block_of_write : Option Asked → Block → Block
 block_of_write None block = block
 block_of_write (Some asked) block = stored_block asked block
 
-abbrev pub written_back : LocalView → ℕ → Block → Block
-written_back v line block = block_of_write (request_for v line) block
+abbrev pub block_after_write : LocalView → ℕ → Block → Block
+block_after_write v line block = block_of_write (request_for v line) block

@@ -2,7 +2,7 @@
 -- the machine, with fields of the declared kinds; each line in them is below 2 ^ 58; its own messages have numbers that it has
 -- given; and its counts are at most what it may send in the cycles up to now. Each step of a controller keeps this.
 -- It doesn't say that the values of enumerations are members, nor that machine numbers are those of controllers.
-use Rattle.std.specs.Prelude.{◌≡◌, ◌<◌, ◌≤◌, ◌^◌, ◌+◌, ◌*◌, ℕ, Bool, true, false, Option, None, Some, List, length, slice_get, IsTrue, IfSome, IsSomeAnd}
+use Rattle.std.specs.Prelude.{◌≡◌, ◌<◌, ◌≤◌, ◌^◌, ◌+◌, ◌*◌, ℕ, Bool, true, false, Option, None, Some, List, length, slice_get, IsTrue, IfSome, IfNone}
 use Rattle.std.specs.FinMap as map
 use Rattle.std.specs.Ordering.{nat_cmp}
 use Rattle.std.specs.List.{All, AllPairs}
@@ -13,10 +13,12 @@ use Rattle.ruby_value.specs.declared.value.Value.{Value}
 use Rattle.ruby_value.specs.declared.kind.Kind.{Kind}
 use Rattle.ruby_value.specs.Cache.{Line}
 use Rattle.ruby_value.specs.IsCache.{IsCache}
+use Rattle.ctl_face.specs.ActsFit.{ActsFit}
 use Rattle.ctl_face.specs.Ctl.{Ctl, InboxMessage, Mail, Requests}
 use Rattle.ruby_value.specs.HasKinds.{has_kinds}
 use Rattle.ruby_value.specs.NumberBefore.{number_before}
 use Rattle.ctl_face.specs.IsMachine.{IsMachine, network_count}
+use Rattle.ctl_face.specs.OfMachine.{TakesFields}
 use Rattle.ctl_face.specs.RoutesFit.{HasRoutes}
 use Rattle.ctl_face.specs.LocalView.{LocalView}
 use Rattle.ctl_face.specs.Send.{copy_limit}
@@ -65,7 +67,7 @@ FitsTableAt (Some s) (Some t) = FitsTable s t
 FitsTableAt _ _ = ⊥
 
 pub record FitsMessage (buffers : List BufferSetup) (me sent : ℕ) (m : InboxMessage) : Type 0 where
-  pub fields : IsSomeAnd (slice_get buffers m.message.buffer) (λ (s : BufferSetup). IsTrue (has_kinds s.kinds m.message.fields))
+  pub fields : TakesFields buffers m.message.buffer m.message.fields
   pub own_number : m.message.number.sender ≡ me → m.message.number.count < sent
   pub line : IfSome m.waiting IsLine
 
@@ -89,10 +91,11 @@ FitsSequencer false None = Unit {0}
 FitsSequencer true (Some r) = FitsRequests r
 FitsSequencer _ _ = ⊥
 
--- the tables, by their numbers, and the lines whose states were set
+-- the tables, by their numbers, and the lines whose states were set, of which a machine without the built-in map has none
 pub record FitsTables (machine : MachineSetup) (tables : List Table) (states : map.FinMap nat_cmp ℕ) : Type 0 where
   pub each : (table : ℕ) → FitsTableAt (slice_get machine.tables table) (slice_get tables table)
   pub lines : (line : ℕ) → IfSome (map.get states line) (λ _. IsLine line)
+  pub no_states : IfNone machine.default_state (states ≡ map.empty)
 
 -- the mail of a controller with these buffers and this actor number
 pub record FitsMail (buffers : List BufferSetup) (me : ℕ) (mail : Mail) (now : ℕ) : Type 0 where
@@ -113,10 +116,16 @@ pub record Fits (machine : MachineSetup) (me : ℕ) (ctl : Ctl) (now : ℕ) : Ty
 abbrev pub last_cycle : ℕ
 last_cycle = 10 ^ 12
 
--- what holds of each local that a run makes; of the run's routes more holds, which `RoutesFit` says
-pub record IsLawful (v : LocalView) : Type 0 where
+-- what holds of the setup, and of the controller as the scan began and as it is; of the run's routes more holds, which
+-- `RoutesFit` says
+pub record ScanFits (v : LocalView) : Type 0 where
   pub machine : IsMachine v.machine
   pub routes : HasRoutes v.machine v.actor.me v.actor.routes
   pub now : v.now ≤ last_cycle
   pub start : Fits v.machine v.actor.me v.start v.now
   pub fits : Fits v.machine v.actor.me v.ctl v.now
+
+-- what holds of each local that a run makes
+pub record IsLawful (v : LocalView) : Type 0 where
+  pub scan : ScanFits v
+  pub acts : ActsFit v

@@ -5,7 +5,7 @@ use Rattle.std.specs.Option.{option_map}
 use Rattle.ruby_value.specs.declared.message.Message.{Message}
 use Rattle.ruby_value.specs.Front as general
 use Rattle.ctl_face.specs.Ctl.{InboxMessage, Mail}
-use Rattle.ctl_face.specs.Mailing.{incoming}
+use Rattle.ctl_face.specs.Mailing.{incoming_message}
 
 -- the message is in the buffer, has arrived, and isn't stalled
 abbrev pub is_ready : ℕ → ℕ → InboxMessage → Bool
@@ -22,4 +22,4 @@ front mail buffer now =
 abbrev pub IsFront : List InboxMessage → ℕ → ℕ → Option Message → Type 0
 IsFront inbox buffer now answer =
     general.IsFront (is_ready buffer now) (λ (m : InboxMessage). m.message.arrival) (λ (m : InboxMessage). m.message.number) inbox
-    (option_map incoming answer)
+    (option_map incoming_message answer)

@@ -1,9 +1,10 @@
 -- What holds of what a machine is to its controllers: each cache and TBE table has place for a line, and for no more than the
 -- limits; no field of a line or of a message is a reference; the default fields of each table have their kinds; a buffer's
 -- network is one of the 16; the field that names the receivers of a message to a network is a set of controllers; buffers on
--- one network have one message type, whatever the default members of its enumerations are called. That no field is a
--- reference is the rule of SLICC in gem5; the limits are this project's own.
-use Rattle.std.specs.Prelude.{◌≡◌, ◌<◌, ◌≤◌, ◌*◌, ℕ, false, List, Option, None, Some, slice_get, IsTrue, IfSome}
+-- one network have one message type, whatever the default members of its enumerations are called; and its last table, and no
+-- other, is that of its parameters. That no field is a reference is the rule of SLICC in gem5; the limits, and where the
+-- parameters are, are this project's own.
+use Rattle.std.specs.Prelude.{◌≡◌, ◌<◌, ◌≤◌, ◌+◌, ◌*◌, ◌==◌, ℕ, Bool, true, false, List, Option, None, Some, length, slice_get, IsTrue, IfSome}
 use Rattle.std.specs.List.{All}
 use Rattle.ruby_value.specs.declared.kind.Kind.TheVariants.{Dest}
 use Rattle.ruby_value.specs.declared.kind.Kind.{Kind}
@@ -33,6 +34,16 @@ pub record IsTableSetup (s : TableSetup) : Type 0 where
   pub places : HasPlaces s.size
   pub plain : ArePlain s.kinds
   pub initial : IsTrue (has_kinds s.kinds s.initial)
+
+abbrev pub is_parameters : TableSize → Bool
+is_parameters size.Parameters = true
+is_parameters _ = false
+
+-- the last table, and no other, is that of the parameters
+pub record EndInParameters (tables : List TableSetup) : Type 0 where
+  pub some : 0 < length tables
+  pub last_alone :
+      (table : ℕ) → IfSome (slice_get tables table) (λ (s : TableSetup). is_parameters s.size ≡ (table + 1 == length tables))
 
 abbrev pub network_count : ℕ
 network_count = 16
@@ -64,5 +75,6 @@ pub record ShareTypes (buffers : List BufferSetup) : Type 0 where
 
 pub record IsMachine (machine : MachineSetup) : Type 0 where
   pub tables : All IsTableSetup machine.tables
+  pub parameters : EndInParameters machine.tables
   pub buffers : All IsBufferSetup machine.buffers
   pub one_type : ShareTypes machine.buffers

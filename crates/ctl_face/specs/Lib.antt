@@ -1,4 +1,5 @@
 pub mod Acts
+pub mod ActsFit
 pub mod Again
 pub mod Allocate
 pub mod AtFront
@@ -11,6 +12,7 @@ pub mod Does
 pub mod Enqueue
 pub mod FieldsIn
 pub mod Fits
+pub mod FitsReceiver
 pub mod Free
 pub mod Front
 pub mod Get
@@ -29,7 +31,9 @@ pub mod Ready
 pub mod Recycle
 pub mod RoutesFit
 pub mod Routing
+pub mod ScanView
 pub mod Send
+pub mod SendAdds
 pub mod Served
 pub mod Set
 pub mod Stall

@@ -6,17 +6,17 @@ use Rattle.ruby_value.specs.Ascending.{with_mark}
 use Rattle.ctl_face.specs.Ctl.{InboxMessage, Mail}
 use Rattle.ctl_face.specs.Inbox.{with_message}
 
-abbrev pub marked : Mail → ℕ → Mail
-marked mail cycle = record mail { marks = with_mark mail.marks cycle }
+abbrev pub mail_with_mark : Mail → ℕ → Mail
+mail_with_mark mail cycle = record mail { marks = with_mark mail.marks cycle }
 
 -- a message as it comes in
-abbrev pub incoming : Message → InboxMessage
-incoming m = record { message = m; waiting = None }
+abbrev pub incoming_message : Message → InboxMessage
+incoming_message m = record { message = m; waiting = None }
 
-abbrev pub arrived : Mail → Message → Mail
-arrived mail m = marked (record mail { inbox = with_message mail.inbox (incoming m) }) m.arrival
+abbrev pub mail_with_message : Mail → Message → Mail
+mail_with_message mail m = mail_with_mark (record mail { inbox = with_message mail.inbox (incoming_message m) }) m.arrival
 
 -- a copy comes to its sender only where that is the receiver
-abbrev pub delivered : Bool → Mail → Message → Mail
-delivered false mail m = mail
-delivered true mail m = arrived mail m
+abbrev pub mail_with_delivery : Bool → Mail → Message → Mail
+mail_with_delivery false mail m = mail
+mail_with_delivery true mail m = mail_with_message mail m

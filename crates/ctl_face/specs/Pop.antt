@@ -10,11 +10,11 @@ use Rattle.ctl_face.specs.Inbox.{without_message}
 use Rattle.ctl_face.specs.LocalView.{LocalView}
 
 -- the mail without the message
-abbrev pub consumed : Mail → Message → Mail
-consumed mail m = record mail { inbox = without_message mail.inbox m.number }
+abbrev pub mail_without : Mail → Message → Mail
+mail_without mail m = record mail { inbox = without_message mail.inbox m.number }
 
 abbrev pub popped_mail : Mail → ℕ → ℕ → Result AtFront Fault
-popped_mail mail buffer now = at_front (consumed mail) (front mail buffer now)
+popped_mail mail buffer now = at_front (mail_without mail) (front mail buffer now)
 
 abbrev pub pop : LocalView → ℕ → Result LocalView Fault
 pop v buffer =

@@ -15,16 +15,16 @@ use Rattle.ctl_face.specs.Latency.{is_latency}
 use Rattle.ctl_face.specs.LocalView.{LocalView}
 
 -- the message arrives again at a cycle
-abbrev pub arriving_again : ℕ → InboxMessage → InboxMessage
-arriving_again arrival o = record o { message = record o.message { arrival = arrival; recycled = true } }
+abbrev pub message_arriving_again : ℕ → InboxMessage → InboxMessage
+message_arriving_again arrival o = record o { message = record o.message { arrival = arrival; recycled = true } }
 
-abbrev pub put_off : Mail → ℕ → Message → Mail
-put_off mail arrival m =
-    record mail { inbox = changed_message mail.inbox m.number (arriving_again arrival); marks = with_mark mail.marks arrival }
+abbrev pub mail_with_recycled : Mail → ℕ → Message → Mail
+mail_with_recycled mail arrival m =
+    record mail { inbox = changed_message mail.inbox m.number (message_arriving_again arrival); marks = with_mark mail.marks arrival }
 
 abbrev pub recycled_mail : Mail → ℕ → ℤ → ℕ → Result AtFront Fault
 recycled_mail mail buffer latency now =
-    if is_latency latency then at_front (put_off mail (now + nat_abs latency)) (front mail buffer now) else Err Latency
+    if is_latency latency then at_front (mail_with_recycled mail (now + nat_abs latency)) (front mail buffer now) else Err Latency
 
 abbrev pub recycle : LocalView → ℕ → ℤ → Result LocalView Fault
 recycle v buffer latency =

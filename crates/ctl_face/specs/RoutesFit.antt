@@ -3,15 +3,17 @@
 -- There is a path from each to each, and the one to itself takes no cycle. A network keeps order where some buffer of the
 -- protocol is called ordered, as it may also where the topology says so. The buffer that takes a network's messages at a
 -- controller is the one of its machine from that network, if there is one, and a number that is no controller's takes none.
+-- Buffers on one network have one message type, whatever their machines.
 -- The numbering, and the limits of controllers, paths and jitter, are this project's own.
 use Rattle.std.specs.Prelude.{◌≡◌, ◌<◌, ◌≤◌, ◌+◌, ℕ, true, List, [], ◌∷◌, Option, None, Some, length, slice_get, IsTrue, IfSome, IsSomeAnd}
 use Rattle.std.specs.List.{All}
 use Rattle.std.specs.Option.{option_flatten}
 use Rattle.ruby_value.specs.declared.setup.BufferPlace.TheVariants as place
+use Rattle.ruby_value.specs.declared.setup.BufferPlace.{BufferPlace}
 use Rattle.ruby_value.specs.declared.setup.BufferSetup.{BufferSetup}
 use Rattle.ruby_value.specs.declared.setup.MachineSetup.{MachineSetup}
 use Rattle.ctl_face.specs.declared.routes.Routes.{Routes}
-use Rattle.ctl_face.specs.IsMachine.{network_count, network_of}
+use Rattle.ctl_face.specs.IsMachine.{AgreeOnType, network_count, network_of}
 use Rattle.ctl_face.specs.OfMachine.{buffer_place}
 use Rattle.ctl_face.specs.Routing.{is_ordered, path_to, receiving_buffer}
 
@@ -42,12 +44,27 @@ AreFrom machine buffers = (network : ℕ) → IsFrom machine network (option_fla
 abbrev pub ReceivesFrom : MachineSetup → ℕ → Routes → Type 0
 ReceivesFrom machine controller routes = (network : ℕ) → IsFrom machine network (receiving_buffer routes controller network)
 
+-- a buffer of this number that is from a network is the one that takes the network's messages at the controller
+abbrev pub IsNamed : BufferPlace → ℕ → ℕ → Routes → Type 0
+IsNamed (place.From network) buffer controller routes = receiving_buffer routes controller network ≡ Some buffer
+IsNamed _ buffer controller routes = Unit {0}
+
+-- so is each of a machine's buffers
+abbrev pub NamesBuffers : List BufferSetup → ℕ → Routes → Type 0
+NamesBuffers buffers controller routes =
+    (buffer : ℕ) → IfSome (slice_get buffers buffer) (λ (s : BufferSetup). IsNamed s.place buffer controller routes)
+
+-- the buffers of two machines that are on one network have one message type
+abbrev pub AgreeOnTypes : MachineSetup → MachineSetup → Type 0
+AgreeOnTypes m other = All (λ a. All (AgreeOnType a) other.buffers) m.buffers
+
 -- what one controller's acts need of the routes
 pub record HasRoutes (machine : MachineSetup) (me : ℕ) (routes : Routes) : Type 0 where
   pub limits : AreWithinLimits routes
   pub own_path : path_to routes me me ≡ 0
   pub order : All (KeepsOrder routes) machine.buffers
   pub own_buffers : ReceivesFrom machine me routes
+  pub own_named : NamesBuffers machine.buffers me routes
 
 -- a controller is of the machine at a place of the protocol, by the first number and the count of each machine
 abbrev pub StandsAt : List (ℕ × ℕ) → ℕ → ℕ → Type 0
@@ -78,6 +95,7 @@ pub record RoutesFit (machines : List MachineSetup) (stand : List (ℕ × ℕ)) 
   pub limits : AreWithinLimits routes
   pub own_paths : (controller : ℕ) → path_to routes controller controller ≡ 0
   pub order : All (λ (m : MachineSetup). All (KeepsOrder routes) m.buffers) machines
+  pub one_type : All (λ m. All (AgreeOnTypes m) machines) machines
   pub receivers : (at controller : ℕ) → StandsAt stand at controller → IfSome (slice_get machines at) (λ m. ReceivesFrom m controller routes)
-  pub named : (at controller buffer network : ℕ) → StandsAt stand at controller → IfSome (slice_get machines at) (λ m. buffer_place m buffer ≡ Some (place.From network) → receiving_buffer routes controller network ≡ Some buffer)
+  pub named : (at controller : ℕ) → StandsAt stand at controller → IfSome (slice_get machines at) (λ m. NamesBuffers m.buffers controller routes)
   pub nobody_else : (controller : ℕ) → ((at : ℕ) → ¬ (StandsAt stand at controller)) → (network : ℕ) → receiving_buffer routes controller network ≡ None

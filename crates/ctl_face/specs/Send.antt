@@ -19,7 +19,7 @@ use Rattle.ctl_face.specs.Ctl.{Mail}
 use Rattle.ctl_face.specs.Lasts.{last_at, lasts_on, with_last}
 use Rattle.ctl_face.specs.Latency.{is_latency}
 use Rattle.ctl_face.specs.LocalView.{Actor}
-use Rattle.ctl_face.specs.Mailing.{delivered}
+use Rattle.ctl_face.specs.Mailing.{mail_with_delivery}
 use Rattle.ctl_face.specs.Routing.{receiving_buffer, path_to, is_ordered}
 use Rattle.pcg_words.specs.Below.{below}
 
@@ -56,9 +56,9 @@ next_copy actor mail receiver buffer arrival fields = record {
 }
 
 -- the sender's mail after one copy more, which it may have sent to itself
-abbrev pub counted : Actor → Mail → Copy → Mail
-counted actor mail copy =
-    record (delivered (copy.receiver == actor.me) mail copy.message) { sent = mail.sent + 1; copies = mail.copies + 1 }
+abbrev pub mail_with_copy : Actor → Mail → Copy → Mail
+mail_with_copy actor mail copy =
+    record (mail_with_delivery (copy.receiver == actor.me) mail copy.message) { sent = mail.sent + 1; copies = mail.copies + 1 }
 
 -- the jitter of the next network copy, for which a word is drawn where the network has any
 abbrev pub has_jitter : Actor → Bool
@@ -87,7 +87,7 @@ with_network_copy actor network latency fields now s receiver =
     let buffer = unwrap_or (receiving_buffer actor.routes receiver network) 0 in
     let copy = next_copy actor s.mail receiver buffer arrival fields in
     record {
-      mail = after_network_copy actor (counted actor s.mail copy) network receiver arrival;
+      mail = after_network_copy actor (mail_with_copy actor s.mail copy) network receiver arrival;
       copies = s.copies ++ copy ∷ [];
     }
 
@@ -102,7 +102,7 @@ local_copy actor ordered mail buffer latency fields now =
     let arrival = local_arrival ordered mail buffer latency now in
     let copy = next_copy actor mail actor.me buffer arrival fields in
     record {
-      mail = record (counted actor mail copy) {
+      mail = record (mail_with_copy actor mail copy) {
         local_last = if ordered then map.insert mail.local_last buffer arrival else mail.local_last;
       };
       copies = copy ∷ [];
@@ -118,20 +118,20 @@ network_copies actor network members mail latency fields now =
     else (if nat_lt copy_limit (mail.copies + length members) then Err Copies
     else Ok (fold (with_network_copy actor network latency fields now) (no_copies mail) members))
 
-abbrev pub sent_on : BufferPlace → Bool → Actor → Mail → ℕ → ℕ → List Value → ℕ → Result Sending Fault
-sent_on place.Local ordered actor mail buffer latency fields now =
+abbrev pub sending_on : BufferPlace → Bool → Actor → Mail → ℕ → ℕ → List Value → ℕ → Result Sending Fault
+sending_on place.Local ordered actor mail buffer latency fields now =
     if nat_lt copy_limit (mail.copies + 1) then Err Copies else Ok (local_copy actor ordered mail buffer latency fields now)
-sent_on (place.To network destination) ordered actor mail buffer latency fields now =
+sending_on (place.To network destination) ordered actor mail buffer latency fields now =
     network_copies actor network (receivers_of destination fields) mail latency fields now
-sent_on (place.From network) ordered actor mail buffer latency fields now = Ok (no_copies mail)
+sending_on (place.From network) ordered actor mail buffer latency fields now = Ok (no_copies mail)
 
-abbrev pub sent_from : Option BufferSetup → Actor → Mail → ℕ → ℕ → List Value → ℕ → Result Sending Fault
-sent_from None actor mail buffer latency fields now = Ok (no_copies mail)
-sent_from (Some s) actor mail buffer latency fields now = sent_on s.place s.ordered actor mail buffer latency fields now
+abbrev pub sending_from : Option BufferSetup → Actor → Mail → ℕ → ℕ → List Value → ℕ → Result Sending Fault
+sending_from None actor mail buffer latency fields now = Ok (no_copies mail)
+sending_from (Some s) actor mail buffer latency fields now = sending_on s.place s.ordered actor mail buffer latency fields now
 
 -- The latency is judged first, also where nobody is named. Nothing is sent on a buffer that only takes messages in, and
 -- no program does so.
 abbrev pub send : MachineSetup → Actor → Mail → ℕ → ℤ → List Value → ℕ → Result Sending Fault
 send machine actor mail buffer latency fields now =
-    if is_latency latency then sent_from (slice_get machine.buffers buffer) actor mail buffer (nat_abs latency) fields now
+    if is_latency latency then sending_from (slice_get machine.buffers buffer) actor mail buffer (nat_abs latency) fields now
     else Err Latency

@@ -10,9 +10,9 @@ use Rattle.ctl_face.specs.LocalView.{LocalView}
 use Rattle.ctl_face.specs.Table.{Table}
 use Rattle.ctl_face.specs.Tables.{changed_table}
 
-abbrev pub written : Table → ℕ → ℕ → Value → Option (List Value) → Result Table Fault
-written t line field value None = Err Reference
-written t line field value (Some fields) = Ok (with_fields_in t line (slice_set fields field value))
+abbrev pub table_with_field : Table → ℕ → ℕ → Value → Option (List Value) → Result Table Fault
+table_with_field t line field value None = Err Reference
+table_with_field t line field value (Some fields) = Ok (with_fields_in t line (slice_set fields field value))
 
 abbrev pub set : LocalView → Ref → ℕ → Value → Result LocalView Fault
-set v r field value = changed_table v r.table (λ t. written t r.line field value (fields_in t r.line))
+set v r field value = changed_table v r.table (λ t. table_with_field t r.line field value (fields_in t r.line))

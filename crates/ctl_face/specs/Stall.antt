@@ -11,14 +11,14 @@ use Rattle.ctl_face.specs.Inbox.{changed_message}
 use Rattle.ctl_face.specs.LocalView.{LocalView}
 
 -- the message waits under the line
-abbrev pub waiting_under : ℕ → InboxMessage → InboxMessage
-waiting_under line o = record o { waiting = Some line }
+abbrev pub message_waiting_under : ℕ → InboxMessage → InboxMessage
+message_waiting_under line o = record o { waiting = Some line }
 
-abbrev pub set_aside : Mail → ℕ → Message → Mail
-set_aside mail line m = record mail { inbox = changed_message mail.inbox m.number (waiting_under line) }
+abbrev pub mail_with_waiting : Mail → ℕ → Message → Mail
+mail_with_waiting mail line m = record mail { inbox = changed_message mail.inbox m.number (message_waiting_under line) }
 
 abbrev pub stalled_mail : Mail → ℕ → ℕ → ℕ → Result AtFront Fault
-stalled_mail mail buffer line now = at_front (set_aside mail line) (front mail buffer now)
+stalled_mail mail buffer line now = at_front (mail_with_waiting mail line) (front mail buffer now)
 
 abbrev pub stall : LocalView → ℕ → ℕ → Result LocalView Fault
 stall v buffer line =

@@ -12,23 +12,23 @@ is_under line None = false
 is_under line (Some l) = l == line
 
 -- the messages that pass the test wait no longer; the inbox has them in increasing number
-abbrev pub waiting_no_longer : InboxMessage → InboxMessage
-waiting_no_longer o = record o { waiting = None }
+abbrev pub message_waiting_no_longer : InboxMessage → InboxMessage
+message_waiting_no_longer o = record o { waiting = None }
 
 abbrev pub woken_mail : Mail → (InboxMessage → Bool) → Mail
-woken_mail mail test = record mail { inbox = map (λ (o : InboxMessage). if test o then waiting_no_longer o else o) mail.inbox }
+woken_mail mail test = record mail { inbox = map (λ (o : InboxMessage). if test o then message_waiting_no_longer o else o) mail.inbox }
 
 abbrev pub numbers_where : Mail → (InboxMessage → Bool) → List MsgNo
 numbers_where mail test = map (λ (o : InboxMessage). o.message.number) (filter test mail.inbox)
 
-abbrev pub woken_where : LocalView → (InboxMessage → Bool) → LocalView
-woken_where v test = record v {
+abbrev pub with_woken : LocalView → (InboxMessage → Bool) → LocalView
+with_woken v test = record v {
   ctl = record v.ctl { mail = woken_mail v.ctl.mail test };
   acts = record v.acts { woken = v.acts.woken ++ numbers_where v.ctl.mail test };
 }
 
 abbrev pub wake : LocalView → ℕ → LocalView
-wake v line = woken_where v (λ (o : InboxMessage). is_under line o.waiting)
+wake v line = with_woken v (λ (o : InboxMessage). is_under line o.waiting)
 
 abbrev pub wake_all : LocalView → LocalView
-wake_all v = woken_where v (λ (o : InboxMessage). is_some o.waiting)
+wake_all v = with_woken v (λ (o : InboxMessage). is_some o.waiting)

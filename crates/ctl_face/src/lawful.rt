@@ -1,9 +1,9 @@
 // Whether a machine's setup is one that a controller may have, and whether routes are ones that its acts may go by. None of
 // the tests takes memory.
-ghost use Rattle.std.specs.Prelude.{◌≡◌, ◌↔◌, ◌≤◌, IsTrue, IfSome, slice_get};
+ghost use Rattle.std.specs.Prelude.{◌≡◌, ◌↔◌, ◌≤◌, IsTrue, IfSome, Some, slice_get};
 ghost use Rattle.std.specs.List.{All};
-ghost use Rattle.ctl_face.specs.IsMachine.{AgreeOnType, ArePlain, HasPlaces, IsBufferSetup, IsMachine, IsTableSetup, ShareTypes, network_of as network_of_place, receivers_field as receivers_field_of};
-ghost use Rattle.ctl_face.specs.RoutesFit.{AreFrom, AreWithinLimits, HasRoutes, IsFrom, KeepsOrder, ReceivesFrom, longest_path};
+ghost use Rattle.ctl_face.specs.IsMachine.{AgreeOnType, ArePlain, EndInParameters, HasPlaces, IsBufferSetup, IsMachine, IsTableSetup, ShareTypes, is_parameters as is_parameters_of, network_of as network_of_place, receivers_field as receivers_field_of};
+ghost use Rattle.ctl_face.specs.RoutesFit.{AreFrom, AreWithinLimits, HasRoutes, IsFrom, IsNamed, KeepsOrder, NamesBuffers, ReceivesFrom, longest_path};
 
 use crate::Routes;
 use crate::serving::place_of;
@@ -35,6 +35,24 @@ fn is_table(s: &TableSetup) -> bool
     ensures { IsTrue result ↔ IsTableSetup s.now }
 {
     has_places(s.size) && are_plain(&s.kinds) && have_kinds(&s.kinds, s.initial.as_slice())
+}
+
+fn is_parameters(size: TableSize) -> bool
+    ensures { result ≡ is_parameters_of size }
+{
+    matches!(size, TableSize::Parameters)
+}
+
+// Whether the last table, and no other, is that of the parameters.
+fn end_in_parameters(tables: &[TableSetup]) -> bool
+    ensures { IsTrue result ↔ EndInParameters tables.now }
+{
+    for (table, s) in tables.iter().enumerate() {
+        if is_parameters(s.size) != (table + 1 == tables.len()) {
+            return false;
+        }
+    }
+    !tables.is_empty()
 }
 
 // The virtual network that the buffer is on.
@@ -108,7 +126,7 @@ pub fn is_machine(machine: &MachineSetup) -> bool
     if !machine.buffers.iter().all(|s| is_buffer(s)) {
         return false;
     }
-    all_agree(&machine.buffers)
+    end_in_parameters(&machine.tables) && all_agree(&machine.buffers)
 }
 
 fn are_short(paths: &[u64]) -> bool
@@ -173,6 +191,31 @@ fn receives_from(machine: &MachineSetup, controller: u32, routes: &Routes) -> bo
     }
 }
 
+// Whether a buffer, where it is from a network, is the one that takes this network's messages at the controller.
+fn is_named(place: BufferPlace, buffer: usize, controller: u32, routes: &Routes) -> bool
+    ensures { IsTrue result ↔ IsNamed place buffer controller routes.now }
+{
+    let BufferPlace::From { network } = place else {
+        return true;
+    };
+    match routes.receiving_buffer(controller, network) {
+        Some(named) => usize::from(named) == buffer,
+        None => false,
+    }
+}
+
+// Whether the routes name each of a machine's buffers that is from a network.
+fn names_buffers(buffers: &[BufferSetup], controller: u32, routes: &Routes) -> bool
+    ensures { IsTrue result ↔ NamesBuffers buffers.now controller routes.now }
+{
+    for (buffer, s) in buffers.iter().enumerate() {
+        if !is_named(s.place, buffer, controller, routes) {
+            return false;
+        }
+    }
+    true
+}
+
 /// Whether the acts of a controller of the machine, whose actor number this is, may go by these routes.
 pub fn has_routes(machine: &MachineSetup, me: u32, routes: &Routes) -> bool
     ensures { IsTrue result ↔ HasRoutes machine.now me routes.now }
@@ -183,5 +226,5 @@ pub fn has_routes(machine: &MachineSetup, me: u32, routes: &Routes) -> bool
     if !machine.buffers.iter().all(|s| keeps_order(routes, s)) {
         return false;
     }
-    receives_from(machine, me, routes)
+    receives_from(machine, me, routes) && names_buffers(&machine.buffers, me, routes)
 }

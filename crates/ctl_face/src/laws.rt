@@ -1,33 +1,35 @@
 // What holds of every controller. These functions do nothing: their contracts are the laws.
-ghost use Rattle.std.specs.Prelude.{◌≡◌, ◌<◌, ◌+◌, ◌^◌, ℕ, ℤ, List, Ok, Some, IsTrue, IsSomeAnd, slice_get};
+ghost use Rattle.std.specs.Prelude.{◌≡◌, ◌<◌, ◌≤◌, ◌+◌, ◌^◌, ℕ, ℤ, List, Ok, Some, slice_get};
+ghost use Rattle.std.specs.List.{All};
 ghost use Rattle.ruby_value.specs.declared.asked.Asked.{Asked as AskedRecord};
 ghost use Rattle.ruby_value.specs.declared.message.Message.{Message as MessageRecord};
-ghost use Rattle.ruby_value.specs.declared.setup.BufferSetup.{BufferSetup as BufferSetupRecord};
 ghost use Rattle.ruby_value.specs.declared.setup.MachineSetup.{MachineSetup as MachineRecord};
 ghost use Rattle.ruby_value.specs.declared.value.Block.{Block as BlockRecord};
 ghost use Rattle.ruby_value.specs.declared.value.Ref.{Ref as RefRecord};
 ghost use Rattle.ruby_value.specs.declared.value.Value.{Value};
-ghost use Rattle.ruby_value.specs.HasKinds.{has_kinds};
 ghost use Rattle.ctl_face.specs.declared.routes.Routes.{Routes as RoutesRecord};
 ghost use Rattle.ctl_face.specs.Again.{again};
 ghost use Rattle.ctl_face.specs.Allocate.{allocate};
 ghost use Rattle.ctl_face.specs.Avail.{probe};
-ghost use Rattle.ctl_face.specs.Between.{begun, fired_once, halted, with_arrival, with_request, with_wake_up, without_first_answer};
+ghost use Rattle.ctl_face.specs.Between.{at_cycle, with_one_fired, with_stop, with_arrival, with_request, with_wake_up, without_first_answer};
 ghost use Rattle.ctl_face.specs.Callback.{read_back, write_back};
-ghost use Rattle.ctl_face.specs.Ctl.{Ctl};
+ghost use Rattle.ctl_face.specs.Ctl.{Ctl, Mail};
 ghost use Rattle.ctl_face.specs.Deallocate.{deallocate};
 ghost use Rattle.ctl_face.specs.Enqueue.{enqueue};
-ghost use Rattle.ctl_face.specs.Fits.{Fits, IsLawful, IsLine, IsRequest};
+ghost use Rattle.ctl_face.specs.Fits.{Fits, IsLawful, IsLine, IsRequest, last_cycle};
+ghost use Rattle.ctl_face.specs.FitsReceiver.{FitsReceiver};
 ghost use Rattle.ctl_face.specs.Get.{get};
 ghost use Rattle.ctl_face.specs.IsMachine.{IsMachine};
-ghost use Rattle.ctl_face.specs.LocalView.{LocalView};
+ghost use Rattle.ctl_face.specs.LocalView.{Actor, LocalView};
+ghost use Rattle.ctl_face.specs.OfMachine.{TakesFields};
 ghost use Rattle.ctl_face.specs.Opening.{opening_ctl};
 ghost use Rattle.ctl_face.specs.Pop.{pop};
 ghost use Rattle.ctl_face.specs.Ready.{required_front};
 ghost use Rattle.ctl_face.specs.Recycle.{recycle};
 ghost use Rattle.ctl_face.specs.RoutesFit.{HasRoutes, RoutesFit, StandsAt};
-ghost use Rattle.ctl_face.specs.Send.{copy_limit};
-ghost use Rattle.ctl_face.specs.Served.{TakesField, TakesMessage};
+ghost use Rattle.ctl_face.specs.ScanView.{scan_view};
+ghost use Rattle.ctl_face.specs.Send.{Sending, copy_limit, send};
+ghost use Rattle.ctl_face.specs.Served.{HasStates, TakesField, TakesMessage};
 ghost use Rattle.ctl_face.specs.Set.{set};
 ghost use Rattle.ctl_face.specs.Stall.{stall};
 ghost use Rattle.ctl_face.specs.State.{set_state};
@@ -39,9 +41,21 @@ pub fn opening_controllers_fit()
     ensures { (machine : MachineRecord) (me now : ℕ) → IsMachine machine → Fits machine me (opening_ctl machine) now }
 {}
 
+/// As a scan begins with a controller that fits its machine, the local is lawful.
+pub fn scans_begin_lawful()
+    ensures { (machine : MachineRecord) (actor : Actor) (now : ℕ) (ctl : Ctl) → IsMachine machine → HasRoutes machine actor.me actor.routes → now ≤ last_cycle → Fits machine actor.me ctl now → IsLawful (scan_view machine actor now ctl) }
+{}
+
 /// Routes that fit a run are, for each of its controllers, routes that its acts may go by.
 pub fn routes_fit_each_controller()
     ensures { (machines : List MachineRecord) (stand : List (ℕ × ℕ)) (routes : RoutesRecord) (place controller : ℕ) (m : MachineRecord) → RoutesFit machines stand routes → StandsAt stand place controller → slice_get machines place ≡ Some m → HasRoutes m controller routes }
+{}
+
+/// Each copy that a controller of a run sends goes to one of the run's controllers, and is in a buffer there whose messages have
+/// fields like its own; and so is each that a lawful local has posted.
+pub fn copies_fit_their_receivers()
+    ensures posted { (machines : List MachineRecord) (stand : List (ℕ × ℕ)) (v : LocalView) (place : ℕ) → RoutesFit machines stand v.actor.routes → StandsAt stand place v.actor.me → slice_get machines place ≡ Some v.machine → IsLawful v → All (FitsReceiver machines stand) v.acts.posted }
+    ensures sent { (machines : List MachineRecord) (stand : List (ℕ × ℕ)) (actor : Actor) (place : ℕ) (m : MachineRecord) (mail : Mail) (buffer : ℕ) (latency : ℤ) (fields : List Value) (now : ℕ) (s : Sending) → RoutesFit machines stand actor.routes → StandsAt stand place actor.me → slice_get machines place ≡ Some m → TakesFields m.buffers buffer fields → send m actor mail buffer latency fields now ≡ Ok s → All (FitsReceiver machines stand) s.copies }
 {}
 
 /// What holds of each controller of a machine holds after each act on its tables.
@@ -50,7 +64,7 @@ pub fn table_calls_keep_what_holds()
     ensures allocate { (v : LocalView) (table line : ℕ) (after : LocalView) → IsLine line → IsLawful v → allocate v table line ≡ Ok after → IsLawful after }
     ensures deallocate { (v : LocalView) (table line : ℕ) (after : LocalView) → IsLawful v → deallocate v table line ≡ Ok after → IsLawful after }
     ensures touch { (v : LocalView) (table line : ℕ) (after : LocalView) → IsLawful v → touch v table line ≡ Ok after → IsLawful after }
-    ensures set_state { (v : LocalView) (line state : ℕ) → IsLine line → IsLawful v → IsLawful (set_state v line state) }
+    ensures set_state { (v : LocalView) (line state : ℕ) → HasStates v → IsLine line → IsLawful v → IsLawful (set_state v line state) }
 {}
 
 /// What holds of each controller of a machine holds after each act on its messages and requests, and after a mark.
@@ -69,11 +83,11 @@ pub fn message_calls_keep_what_holds()
 /// What holds of each controller of a machine holds after each act between its scans: the arrival of another actor's message,
 /// a mark, the beginning of a later cycle, one transition more that fired, a stop, a request, and an answer that is taken.
 pub fn acts_between_scans_keep_what_holds()
-    ensures arrival { (machine : MachineRecord) (me now : ℕ) (ctl : Ctl) (m : MessageRecord) → IsSomeAnd (slice_get machine.buffers m.buffer) (λ (s : BufferSetupRecord). IsTrue (has_kinds s.kinds m.fields)) → ¬ (m.number.sender ≡ me) → Fits machine me ctl now → Fits machine me (with_arrival ctl m) now }
+    ensures arrival { (machine : MachineRecord) (me now : ℕ) (ctl : Ctl) (m : MessageRecord) → TakesFields machine.buffers m.buffer m.fields → ¬ (m.number.sender ≡ me) → Fits machine me ctl now → Fits machine me (with_arrival ctl m) now }
     ensures wake_up { (machine : MachineRecord) (me now : ℕ) (ctl : Ctl) (cycle : ℕ) → Fits machine me ctl now → Fits machine me (with_wake_up ctl cycle) now }
-    ensures begun { (machine : MachineRecord) (me old now : ℕ) (ctl : Ctl) → old < now → Fits machine me ctl old → Fits machine me (begun ctl now) now }
-    ensures fired { (machine : MachineRecord) (me now : ℕ) (ctl : Ctl) → Fits machine me ctl now → Fits machine me (fired_once ctl) now }
-    ensures halted { (machine : MachineRecord) (me now : ℕ) (ctl : Ctl) → Fits machine me ctl now → Fits machine me (halted ctl) now }
+    ensures begun { (machine : MachineRecord) (me old now : ℕ) (ctl : Ctl) → old < now → Fits machine me ctl old → Fits machine me (at_cycle ctl now) now }
+    ensures fired { (machine : MachineRecord) (me now : ℕ) (ctl : Ctl) → Fits machine me ctl now → Fits machine me (with_one_fired ctl) now }
+    ensures halted { (machine : MachineRecord) (me now : ℕ) (ctl : Ctl) → Fits machine me ctl now → Fits machine me (with_stop ctl) now }
     ensures request { (machine : MachineRecord) (me now : ℕ) (ctl : Ctl) (asked : AskedRecord) → IsRequest asked → Fits machine me ctl now → Fits machine me (with_request ctl asked) now }
     ensures answer { (machine : MachineRecord) (me now : ℕ) (ctl : Ctl) → Fits machine me ctl now → Fits machine me (without_first_answer ctl) now }
 {}

@@ -3,7 +3,7 @@ ghost use Rattle.std.specs.Option.{option_copied};
 ghost use Rattle.ctl_face.specs.Again.{again};
 ghost use Rattle.ctl_face.specs.Allocate.{allocate};
 ghost use Rattle.ctl_face.specs.Avail.{avail, probe};
-ghost use Rattle.ctl_face.specs.Callback.{read_back, write_back, written_back};
+ghost use Rattle.ctl_face.specs.Callback.{read_back, write_back, block_after_write};
 ghost use Rattle.ctl_face.specs.Deallocate.{deallocate};
 ghost use Rattle.ctl_face.specs.Does.{Does, DoesWith, Reads};
 ghost use Rattle.ctl_face.specs.Enqueue.{enqueue};
@@ -164,7 +164,7 @@ pub trait Local {
     /// where the line has no such request.
     fn write_back(&mut self, line: u64, block: Block) -> Result<Block, Trouble>
         requires line { IsLine line }
-        ensures { DoesWith (write_back (view self.old) line block) (written_back (view self.old) line block) result (view self.old) (view self.new) };
+        ensures { DoesWith (write_back (view self.old) line block) (block_after_write (view self.old) line block) result (view self.old) (view self.new) };
 
     /// The state of a line in the built-in map, or the default state where it was never set.
     fn state(&self, line: u64) -> u16

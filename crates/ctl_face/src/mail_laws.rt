@@ -1,8 +1,9 @@
 // Laws of a controller's mail, and that an edit of its lists and maps changes one key. These functions do nothing: their
 // contracts are the laws.
-ghost use Rattle.std.specs.Prelude.{◌≡◌, ◌≢◌, ◌<◌, ◌≤◌, ◌⊎◌, ◌↔◌, ◌==◌, ℕ, ℤ, List, Ok, IsTrue, Contains, if◌then◌else◌};
+ghost use Rattle.std.specs.Prelude.{◌≡◌, ◌≢◌, ◌<◌, ◌≤◌, ◌⊎◌, ◌↔◌, ◌==◌, ℕ, ℤ, List, Ok, Some, IsTrue, Contains, nat_abs, slice_get, if◌then◌else◌};
 ghost use Rattle.std.specs.List.{All};
 ghost use Rattle.ruby_value.specs.declared.message.MsgNo.{MsgNo as MsgNoRecord};
+ghost use Rattle.ruby_value.specs.declared.setup.BufferSetup.{BufferSetup as BufferSetupRecord};
 ghost use Rattle.ruby_value.specs.declared.setup.MachineSetup.{MachineSetup as MachineRecord};
 ghost use Rattle.ruby_value.specs.declared.value.Value.{Value};
 ghost use Rattle.ruby_value.specs.Ascending.{has_mark, marks_from, with_mark};
@@ -16,11 +17,18 @@ ghost use Rattle.ctl_face.specs.LocalView.{Actor, LocalView};
 ghost use Rattle.ctl_face.specs.MarksAhead.{MarksAhead};
 ghost use Rattle.ctl_face.specs.Recycle.{recycle};
 ghost use Rattle.ctl_face.specs.Send.{Sending, send};
+ghost use Rattle.ctl_face.specs.SendAdds.{SendAdds};
 ghost use Rattle.ctl_face.specs.State.{set_state, state};
 
 /// Each copy that a send makes arrives after the cycle of the send.
 pub fn copies_arrive_later()
     ensures { (machine : MachineRecord) (actor : Actor) (mail : Mail) (buffer : ℕ) (latency : ℤ) (fields : List Value) (now : ℕ) (s : Sending) → send machine actor mail buffer latency fields now ≡ Ok s → All (λ (c : Copy). now < c.message.arrival) s.copies }
+{}
+
+/// A send that ends without a fault makes one copy for each receiver, with the sender's next numbers and at its time, and adds
+/// them to the sender's counts.
+pub fn sends_add_their_copies()
+    ensures { (machine : MachineRecord) (actor : Actor) (mail : Mail) (buffer : ℕ) (latency : ℤ) (fields : List Value) (now : ℕ) (on : BufferSetupRecord) (s : Sending) → slice_get machine.buffers buffer ≡ Some on → send machine actor mail buffer latency fields now ≡ Ok s → SendAdds on.place on.ordered actor mail buffer (nat_abs latency) fields now s }
 {}
 
 /// Each cycle at which a controller must wake after one of these acts is one at which it had to before, or comes after this

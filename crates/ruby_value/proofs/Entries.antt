@@ -1,15 +1,16 @@
 -- The entries of an ordered map and of a hash table, seen as a finite map: what a look-up, an insert and a remove make of it.
-use Rattle.std.proofs.Common.{◌≡◌, ℕ, ◌+◌, false, cond, eqb, List, [], ◌∷◌, length, Option, Some, None, is_some, refl, sym, ap, ◌∙◌, arith}
+use Rattle.std.proofs.Common.{◌≡◌, ℕ, ◌+◌, false, cond, eqb, List, [], ◌∷◌, ◌++◌, length, Option, Some, None, is_some, refl, sym, ap, ◌∙◌, arith}
 use Rattle.std.specs.declared.cmp.Ordering.{Ordering}
 use Rattle.std.specs.Ordering.{nat_cmp, eq_by_cmp}
 use Rattle.std.specs.Cmp.{nat_cmp_total, unsigned_tied}
 use Rattle.std.specs.List.{IsDistinct, AllByRecursion}
 use Rattle.std.specs.Map.{lookup, keys_of}
 use Rattle.std.specs.BTreeMap.{is_at}
-use Rattle.std.specs.FinMap.{get, insert, remove, len, from_entries, find, get-from_entries, get-insert, get-remove, same_map, nat_cmp-IsAntisymmetric, len-insert, len-empty}
+use Rattle.std.specs.FinMap.{FinMap, get, insert, remove, len, from_entries, find, get-from_entries, get-insert, get-remove, same_map, nat_cmp-IsAntisymmetric, len-insert, len-empty}
 use Rattle.std.proofs.lemmas.Bool.{eq-eqb, ne_eqb, cases_eq}
 use Rattle.std.proofs.lemmas.Map.Keys.{IsDistinct-head, IsDistinct-tail}
 use Rattle.std.proofs.Common.{inl, inr}
+use Rattle.ruby_value.specs.WithAll.{with_all}
 
 -- what a map of any order finds is what is looked up in its entries
 pub find_is_lookup : {K X : Type 0} (cmp : K → K → Ordering) (es : List (K × X)) (q : K) → find cmp q es ≡ lookup (is_at (cmp q)) es
@@ -63,3 +64,12 @@ module _ {X : Type 0} where
       let none : get m e.0 ≡ None = get_entries es e.0 ∙ absent e.0 es (IsDistinct-head eqb e.0 (keys_of es) apart) in
       let rest : len m ≡ length es = len_of es (IsDistinct-tail eqb e.0 (keys_of es) apart) in
       len-insert nat_cmp_total m e.0 e.1 ∙ ap (λ (o : Option X). cond (is_some o) (len m) (len m + 1)) none ∙ (let plus : len m + 1 ≡ length (e ∷ es) = omega arith in plus)
+
+module _ {X : Type 0} where
+  with_all-push : (held : FinMap nat_cmp X) (entries : List (ℕ × X)) (e : ℕ × X) → with_all held (entries ++ e ∷ []) ≡ with_all (insert held e.0 e.1) entries
+  with_all-push held [] e = refl
+  with_all-push held (x ∷ entries) e = ap (λ m. insert m x.0 x.1) (with_all-push held entries e)
+
+  -- the last of a list is put first
+  pub last_first : (held after : FinMap nat_cmp X) (all rest : List (ℕ × X)) (e : ℕ × X) → after ≡ insert held e.0 e.1 → all ≡ rest ++ e ∷ [] → with_all after rest ≡ with_all held all
+  last_first held after all rest e is parts = rw (is, parts) (sym (with_all-push held rest e))

@@ -25,6 +25,7 @@ pub mod SameKinds
 pub mod SetOf
 pub mod TakesValue
 pub mod Tbes
+pub mod WithAll
 pub mod WithFields
 pub mod WithMember
 pub mod WithSet

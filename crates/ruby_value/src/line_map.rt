@@ -1,9 +1,10 @@
-ghost use Rattle.std.specs.Prelude.{◌≡◌, ◌<◌, ◌≤◌, ◌+◌, None, OnOk, OnErr, IfNone, IfSome, IfOk, IfErr, IsOk, IsSome, ◌↔◌, length, slice_set};
+ghost use Rattle.std.specs.Prelude.{◌≡◌, ◌<◌, ◌≤◌, ◌+◌, None, OnOk, OnErr, IfNone, IfSome, IfOk, IfErr, IsOk, IsSome, ◌↔◌, slice_set, vec_len};
 ghost use Rattle.std.specs.Option.{option_copied};
 ghost use Rattle.std.specs.Ordering.{nat_cmp};
 ghost use Rattle.std.specs.FinMap as map;
 ghost use Rattle.std.specs.HashMap.{spare};
 ghost use Rattle.std.specs.Coded.{coded_ℕ};
+ghost use Rattle.ruby_value.specs.WithAll.{with_all};
 
 use crate::{Fields, NoMemory, Value};
 use std::alloc::Global;
@@ -102,6 +103,20 @@ impl<V> LineMap<V> {
         match self.insert(line, value) {
             Ok(old) => old,
             Err(_) => unreachable!(),
+        }
+    }
+
+    /// Keeps values under their lines one after another, from the last one on, as `put` does, where there is room for so many.
+    /// It takes no memory, so where room was made for n lines none is wanted for n of them.
+    pub fn put_all(&mut self, mut entries: Vec<(u64, V)>)
+    where
+        V: Drop,
+        requires { vec_len entries ≤ self.old.room }
+        ensures after { self.new.kept ≡ with_all self.old.kept entries.items }
+        ensures room { self.old.room ≤ self.new.room + vec_len entries }
+    {
+        while let Some((line, value)) = entries.pop() {
+            let _before = self.put(line, value);
         }
     }
 

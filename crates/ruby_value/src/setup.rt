@@ -32,8 +32,8 @@ pub struct TableSetup {
 pub enum BufferPlace {
     /// The controller's own: it takes from there what it sends there, or what a driver asks of it.
     Local,
-    /// To a virtual network. The field of this number names the receivers; a message type without such a field may have a
-    /// buffer, on which nothing is sent.
+    /// To a virtual network. The field of this number names the receivers; where the message type has no such field, a
+    /// message names nobody, and a send goes to nobody.
     To {
         network: u16,
         destination: Option<u16>,
@@ -77,7 +77,7 @@ pub struct Sizes {
     pub caches: Seq<(u16, u32, u32)>,
     /// A TBE table's number among the machine's tables, and how many lines it may hold.
     pub tbes: Seq<(u16, u32)>,
-    /// A parameter's number among the machine's parameters, and its value.
+    /// The number of the parameter's field on line 0 of the table of parameters, and its value.
     pub parameters: Seq<(u16, i64)>,
     /// For every machine of the protocol, in the order of the text, its first controller's number and its count.
     pub machines: Seq<(u32, u32)>,

@@ -197,6 +197,13 @@ fn a_map_keeps_one_value_under_each_line(rt: HostRuntime) -> Result<(), Fail> {
     kept.reserve(2)?;
     assert_eq!(rt; kept.put(3, 5), None);
     assert_eq!(rt; kept.len(), 2);
+    kept.reserve(2)?;
+    let mut lines = Vec::with_capacity(rt.alloc(), 2)?;
+    lines.push((9, 6u8))?;
+    lines.push((9, 8))?;
+    kept.put_all(lines);
+    assert_eq!(rt; kept.get(9), Some(&6));
+    assert_eq!(rt; kept.len(), 3);
     Ok(())
 }
 

@@ -1,12 +1,14 @@
+use Rattle.ctl_face.proofs.ActsKept.{changed_acts}
 use Rattle.ctl_face.proofs.Callbacks.{set_state_keeps}
+use Rattle.ctl_face.proofs.LawfulAfter.{lawful_after}
 use Rattle.ctl_face.proofs.TableCalls.{set_keeps, allocate_keeps, deallocate_keeps, touch_keeps}
 use Rattle.ctl_face.proofs.laws.table_calls_keep_what_holds.Goals as goal
 
 pub returns : goal.returns
 returns c = record {
-  set = λ v r field value after takes is lawful. (set_keeps v r field value takes is lawful).good after;
-  allocate = λ v table line after is lawful. (allocate_keeps v table line is lawful).good after;
-  deallocate = λ v table line after lawful. (deallocate_keeps v table line lawful).good after;
-  touch = λ v table line after lawful. (touch_keeps v table line lawful).good after;
-  set_state = set_state_keeps;
+  set = λ v r field value after takes is lawful. lawful_after _ (set_keeps v r field value takes is lawful.scan) (changed_acts v lawful.acts r.table _) after;
+  allocate = λ v table line after is lawful. lawful_after _ (allocate_keeps v table line is lawful.scan) (changed_acts v lawful.acts table _) after;
+  deallocate = λ v table line after lawful. lawful_after _ (deallocate_keeps v table line lawful.scan) (changed_acts v lawful.acts table _) after;
+  touch = λ v table line after lawful. lawful_after _ (touch_keeps v table line lawful.scan) (changed_acts v lawful.acts table _) after;
+  set_state = λ v line state has is lawful. record { scan = set_state_keeps v line state has is lawful.scan; acts = lawful.acts };
 }
