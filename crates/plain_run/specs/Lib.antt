@@ -1,3 +1,4 @@
+pub mod Examples
 pub mod Places
 pub mod Inboxes
 pub mod Requests

@@ -5,7 +5,7 @@ ghost use Rattle.ruby_runs.specs.Account.{account as account_at, consumed_in as 
 ghost use Rattle.slicc_meaning.specs.declared.setting.Setting.{Setting as SettingRecord};
 ghost use Rattle.slicc_meaning.specs.Controller.{mailed};
 ghost use Rattle.slicc_meaning.specs.Rules.{rules};
-ghost use Rattle.plain_run.specs.Inboxes.{inboxes};
+ghost use Rattle.plain_run.specs.Inboxes.{account_by, inboxes};
 
 use crate::world::Place;
 use ruby_base::{NoMemory, Seq};
@@ -108,14 +108,17 @@ fn recycled(messages: &[Message]) -> u64
     messages.iter().filter(|m| is_recycled(m)).count() as u64
 }
 
-/// How many messages were sent and consumed by the journal, and how many are in the inboxes of the places.
-pub fn account_of(alloc: Global, journal: &[Entry], places: &[Place]) -> Result<Account, NoMemory>
-    ensures { IfOk result (λ a. (s : SettingRecord) → a ≡ account_at (rules s) journal.now places.now) }
+/// How many messages a journal has sent and consumed, and how many of the messages in inboxes are queued, stalled and
+/// recycled: stalled where a message waits under a line, recycled where it doesn't and was put off, and else queued.
+pub fn account_of_lists(
+    alloc: Global,
+    journal: &[Entry],
+    messages: &[Message],
+) -> Result<Account, NoMemory>
+    ensures { IfOk result (λ a. a ≡ account_by journal.now messages.now) }
 {
     let sent = sent(alloc, journal)?;
     let consumed = consumed(alloc, journal)?;
-    let held = held(alloc, places)?;
-    let messages = held.as_slice();
     Ok(Account {
         sent: sent.len() as u64,
         consumed: consumed.len() as u64,
@@ -123,4 +126,17 @@ pub fn account_of(alloc: Global, journal: &[Entry], places: &[Place]) -> Result<
         stalled: stalled(messages),
         recycled: recycled(messages),
     })
+}
+
+/// How many messages were sent and consumed by the journal, and how many are in the inboxes of the places.
+pub(crate) fn account_of(
+    alloc: Global,
+    journal: &[Entry],
+    places: &[Place],
+) -> Result<Account, NoMemory>
+    ensures { IfOk result (λ a. (s : SettingRecord) → a ≡ account_at (rules s) journal.now places.now) }
+{
+    let held = held(alloc, places)?;
+    let account = account_of_lists(alloc, journal, held.as_slice())?;
+    Ok(account)
 }

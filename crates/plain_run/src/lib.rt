@@ -6,10 +6,13 @@ mod account;
 mod book;
 mod driver;
 mod ending;
+mod laws;
 mod recording;
 mod run;
 mod turn;
 mod waking;
 mod world;
 
+pub use account::account_of_lists;
+pub use laws::example_of_an_account;
 pub use recording::run_plain;

@@ -199,6 +199,167 @@ fn a_run_is_printed_as_these_lines(rt: HostRuntime) -> Result<(), Fail> {
     Ok(())
 }
 
+/// A machine of these states and events.
+fn machine(
+    alloc: Global,
+    machine_name: &[u8],
+    states: &[&[u8]],
+    events: &[&[u8]],
+) -> Result<MachinePlan, NoMemory> {
+    let states = names(alloc, states)?;
+    let events = names(alloc, events)?;
+    Ok(MachinePlan {
+        name: name(alloc, machine_name)?,
+        states,
+        default: 0,
+        events,
+        ports: Seq::new(alloc),
+        actions: Seq::new(alloc),
+        transitions: Seq::new(alloc),
+    })
+}
+
+fn names(alloc: Global, words: &[&[u8]]) -> Result<Seq<Text>, NoMemory> {
+    let mut names = Seq::new(alloc);
+    for word in words {
+        names.push(name(alloc, word)?)?;
+    }
+    Ok(names)
+}
+
+/// A machine with one controller and one with two.
+fn two_machines(alloc: Global) -> Result<Setting, NoMemory> {
+    let mut machines = list(alloc, machine(alloc, b"Node", &[b"A", b"B"], &[b"Go"])?)?;
+    machines.push(machine(alloc, b"Dir", &[b"X", b"Y"], &[b"In", b"Out"])?)?;
+    let topology = Topology {
+        counts: Seq::copied(alloc, &[1, 2])?,
+        names: names(alloc, &[b"Node-0", b"Dir-0", b"Dir-1"])?,
+        seats: list(alloc, Seat { controller: 0 })?,
+    };
+    Ok(Setting {
+        plan: Plan { machines },
+        topology,
+        cycles: 9,
+        limit: 1,
+        driver: PlainDriver { requests: 2 },
+    })
+}
+
+fn fired_by(alloc: Global, cycle: u64, controller: u32, note: FireNote) -> Entry {
+    Entry::Fired {
+        cycle,
+        controller,
+        note,
+        consumed: Seq::new(alloc),
+        sent: Seq::new(alloc),
+        stalled: Seq::new(alloc),
+        woken: Seq::new(alloc),
+        recycled: Seq::new(alloc),
+    }
+}
+
+fn journal_of_three(alloc: Global) -> Result<Seq<Entry>, NoMemory> {
+    let mut entries = list(
+        alloc,
+        Entry::Turned {
+            cycle: 0,
+            issued: Seq::copied(
+                alloc,
+                &[MsgNo {
+                    sender: 3,
+                    count: 0,
+                }],
+            )?,
+            finding: None,
+            verdict: None,
+        },
+    )?;
+    let far = FireNote {
+        address: 3_735_928_512,
+        state: 1,
+        event: 1,
+        next: 0,
+    };
+    entries.push(fired_by(alloc, 1, 2, far))?;
+    let near = FireNote {
+        address: 64,
+        state: 0,
+        event: 0,
+        next: 1,
+    };
+    entries.push(fired_by(alloc, 2, 0, near))?;
+    entries.push(Entry::Ended {
+        cycle: 3,
+        controller: 1,
+        end: End::Stop(StopAt {
+            address: Some(18_446_744_073_709_551_552),
+            state: Some(0),
+            event: Some(0),
+            fault: Fault::Invalid,
+        }),
+    })?;
+    Ok(entries)
+}
+
+fn finals_of_two(alloc: Global) -> Result<Seq<Final>, NoMemory> {
+    let mut finals = list(
+        alloc,
+        Final {
+            controller: 0,
+            address: 64,
+            state: 1,
+        },
+    )?;
+    finals.push(Final {
+        controller: 2,
+        address: 3_735_928_512,
+        state: 0,
+    })?;
+    Ok(finals)
+}
+
+fn record_of_two_machines(alloc: Global) -> Result<RunRecord, NoMemory> {
+    let setting = two_machines(alloc)?;
+    let journal = journal_of_three(alloc)?;
+    let finals = finals_of_two(alloc)?;
+    Ok(RunRecord {
+        setting,
+        history: Seq::new(alloc),
+        journal,
+        finals,
+        account: Account {
+            sent: 15,
+            consumed: 10,
+            queued: 2,
+            stalled: 1,
+            recycled: 2,
+        },
+        verdict: Verdict::Stop {
+            cycle: 3,
+            controller: 1,
+        },
+        tallies: Seq::new(alloc),
+    })
+}
+
+/// Its text, which `example_of_a_text` of `run_text` has from the definition.
+const TWO_MACHINES: &str = "1 Dir-1 0xdeadbec0 Y Out X
+2 Node-0 0x40 A Go B
+stop 3 Dir-0 0xffffffffffffffc0 X In invalid
+final Node-0 0x40 B
+final Dir-1 0xdeadbec0 X
+messages 15 consumed 10 queued 2 stalled 1 recycled 2
+verdict stop 3 Dir-0
+";
+
+#[test]
+fn a_run_of_two_machines_is_printed_as_these_lines(rt: HostRuntime) -> Result<(), Fail> {
+    let record = record_of_two_machines(rt.alloc())?;
+    let text = text_of(rt.alloc(), &record)?;
+    assert_eq!(rt; text.as_slice(), TWO_MACHINES.as_bytes());
+    Ok(())
+}
+
 /// A line of `width` bytes and its line feed, then a short line, and one byte without a line feed.
 fn three_lines(alloc: Global, width: usize) -> Result<Text, NoMemory> {
     let mut text = Text::of(vec![in alloc; b'a'; width]?);

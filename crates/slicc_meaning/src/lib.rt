@@ -21,7 +21,7 @@ mod trigger;
 
 pub use controller::{Acted, Controller, Message, Scanned, StateAt};
 pub use laws::{
-    front_comes_first, lists_ascend, lists_change_at_one_key, plain_topologies_have_seats,
+    examples, front_comes_first, lists_ascend, lists_change_at_one_key, plain_topologies_have_seats,
 };
 pub use plan::{
     ActionPlan, Dequeue, If, MachinePlan, Peek, Plan, PortPlan, Trigger, WrittenTransition,
@@ -39,4 +39,5 @@ pub use run_laws::{
 };
 pub use scanning::scan;
 pub use setting::{PlainDriver, Seat, Setting, Topology};
+pub use states::line_of;
 pub use topology::{machine_of, plain_of};
