@@ -78,7 +78,7 @@ abbrev pub AreGiven : Files → List Read → Type 0
 AreGiven files [] = Unit {0}
 AreGiven files (r ∷ rs) = (r.got ≡ given files r.name) × AreGiven files rs
 
--- each read gave what these files give, or a fault or want of memory came in its place
+-- each read gave what these files give, or a fault or a lack of memory came in its place
 abbrev pub MayBeGiven : Files → List Read → Type 0
 MayBeGiven files [] = Unit {0}
 MayBeGiven files (r ∷ rs) = Reads files r.name file_limit r.got × MayBeGiven files rs

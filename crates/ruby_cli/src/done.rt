@@ -10,7 +10,7 @@ use std::process::ExitCode;
 // The status where the sink met a fault.
 const NOT_WRITTEN: u8 = 7;
 
-// The status for want of memory.
+// The status where memory ran out.
 const NO_MEMORY: u8 = 8;
 
 /// What a call of the program ends with.

@@ -21,7 +21,7 @@ abbrev pub bytes_of : Files → List ℕ → Option (List ℕ)
 bytes_of [] name = None
 bytes_of (file ∷ files) name = if bytes_eq file.0 name then Some file.1 else bytes_of files name
 
--- an answer to a read of this name, of no more than so many bytes
+-- an answer to a read of this name, of at most `limit` bytes
 abbrev pub Reads : Files → List ℕ → ℕ → Got → Type 0
 Reads files name limit (Bytes bytes) = (bytes_of files name ≡ Some bytes) × (length bytes ≤ limit)
 Reads files name limit Absent = bytes_of files name ≡ None
@@ -37,11 +37,11 @@ pub record IsLawfulRead (files : Option Files) (faults : ℕ) (name : List ℕ) 
   pub failed : got ≡ Failed → Rose faults faults'
   pub answer : ForSome files (λ told. Reads told name limit got)
 
--- there is a file of this name, with no more bytes than so many
+-- there is a file of this name, with at most `limit` bytes
 abbrev pub IsReadable : Files → List ℕ → ℕ → Type 0
 IsReadable files name limit = (bytes : List ℕ) × (bytes_of files name ≡ Some bytes) × (length bytes ≤ limit)
 
--- an answer has no more bytes than so many
+-- an answer has at most `limit` bytes
 abbrev pub IsWithin : ℕ → Got → Type 0
 IsWithin limit (Bytes bytes) = length bytes ≤ limit
 IsWithin limit Absent = Unit {0}
@@ -49,7 +49,7 @@ IsWithin limit TooLarge = Unit {0}
 IsWithin limit Failed = Unit {0}
 IsWithin limit NoMemory = Unit {0}
 
--- an answer to a read, of no more than so many bytes, of a file that has these bytes
+-- an answer to a read of at most `limit` bytes of a file that has these bytes
 abbrev pub IsReadOf : List ℕ → ℕ → Got → Type 0
 IsReadOf bytes limit (Bytes read) = (read ≡ bytes) × (length bytes ≤ limit)
 IsReadOf bytes limit Absent = ⊥
@@ -57,7 +57,7 @@ IsReadOf bytes limit TooLarge = limit < length bytes
 IsReadOf bytes limit Failed = Unit {0}
 IsReadOf bytes limit NoMemory = Unit {0}
 
--- the answer to a read, of no more than so many bytes, that ended well with these bytes
+-- the answer to a read of at most `limit` bytes that ended well with these bytes
 abbrev pub got_of : ℕ → List ℕ → Got
 got_of limit bytes = if nat_lt limit (length bytes) then TooLarge else Bytes bytes
 
@@ -66,7 +66,7 @@ abbrev pub IsNotFound : {F : Type 0} → Result F Error → Type 0
 IsNotFound (Ok file) = ⊥
 IsNotFound (Err fault) = error_kind fault ≡ NotFound
 
--- the answer to a read of a file, of no more than so many bytes, by how its opening went: the file or a fault. What a file
+-- the answer to a read of at most `limit` bytes of a file, by how its opening went: the file or a fault. What a file
 -- has is said where its reader tells it.
 pub record IsOpenedRead {F : Type 0} (remaining : F → Option (List ℕ)) (opened : Result F Error) (limit : ℕ) (got : Got) : Type 0 where
   pub absent : (got ≡ Absent) ↔ IsNotFound opened

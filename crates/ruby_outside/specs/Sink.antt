@@ -14,7 +14,7 @@ abbrev pub bytes_taken : Wrote → ℕ
 bytes_taken (Took count) = count
 bytes_taken Failed = 0
 
--- what a write was that the system answered so: so many bytes taken, or a fault
+-- what a write was that the system answered so: this many bytes taken, or a fault
 abbrev pub wrote_of : Result ℕ Error → Wrote
 wrote_of (Ok count) = Took count
 wrote_of (Err fault) = Failed

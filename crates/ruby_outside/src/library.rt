@@ -33,7 +33,7 @@ pub trait Library {
     /// library after it. So a caller can promise that it made one read and no other, and by which answer it went.
     ghost reads: { Self → List ℕ → ℕ → GotRecord → Self → Type 0 };
 
-    /// Reads the file of a name whole, if it has no more than `limit` bytes. A fault or want of memory may come in
+    /// Reads the file of a name whole, if it has no more than `limit` bytes. A fault or a lack of memory may come in
     /// place of any other answer. What each read keeps is the law `lawful`.
     fn read(&mut self, name: &str, limit: u64) -> Got
         ensures { reads self.old name.now limit result self.new };

@@ -61,7 +61,7 @@ impl Library for MemLibrary {
     ghost lawful = { planned_read };
 }
 
-/// A library in memory that never fails, so its count of faults is 0 for good. It tells its files. A contract sees it
+/// A library in memory that never fails, so its count of faults is always 0. It tells its files. A contract sees it
 /// as its files, names with their bytes, of which the first with a name counts.
 #[derive(Debug, Drop)]
 pub struct SureLibrary {

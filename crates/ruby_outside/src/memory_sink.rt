@@ -65,7 +65,7 @@ impl MemSink {
         self.held.as_slice()
     }
 
-    /// How many bytes of a piece of so many are taken by a write that doesn't fail.
+    /// How many bytes of a piece of `piece` bytes are taken by a write that doesn't fail.
     fn share(&self, piece: u64) -> u64
         ensures { result ≡ min (min piece self.now.most) (self.now.room - length self.now.written) }
     {
@@ -100,7 +100,7 @@ impl Sink for MemSink {
 }
 
 /// A sink that takes each piece whole and keeps none of its bytes. It tells nothing and never fails, so its count of
-/// faults is 0 for good.
+/// faults is always 0.
 #[derive(Clone, Copy, Debug, PartialEq, Eq)]
 pub struct SureSink;
 

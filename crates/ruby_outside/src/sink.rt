@@ -6,7 +6,7 @@ ghost use Rattle.ruby_outside.specs.declared.sink.Wrote.{Wrote as WroteRecord};
 /// What a sink answers to a write.
 #[derive(Clone, Copy, Debug, PartialEq, Eq)]
 pub enum Wrote {
-    /// It took so many bytes from the start of the piece.
+    /// It took this many bytes from the start of the piece.
     Took(u64),
     /// It met a fault and took nothing, and its count of faults rose.
     Failed,
