@@ -20,7 +20,7 @@ module _ {L S : Type 0} (reads : L → List ℕ → ℕ → Got → L → Type 0
       record {
         made = record { name = o.protocol; got = g } ∷ [];
         are_made = (library', read, refl);
-        told = inr (record { answer = a; right = (refl, right); whole = whole; text = subst P is put; done_is = done });
+        ended = inr (record { answer = a; right = (refl, right); whole = whole; text = subst P is put; done_is = done });
       }
 
   pub unanswered : (library library' : L) (sink : S) (g : Got) (d : Done) → reads library o.protocol file_limit g library' → d ≡ out_of_memory
@@ -29,5 +29,5 @@ module _ {L S : Type 0} (reads : L → List ℕ → ℕ → Got → L → Type 0
       record {
         made = record { name = o.protocol; got = g } ∷ [];
         are_made = (library', read, refl);
-        told = inl (record { beginning = refl; untouched = refl; done_is = done });
+        ended = inl (record { beginning = refl; untouched = refl; done_is = done });
       }

@@ -304,11 +304,15 @@ module _ (files : Option Files) (asked : Option Options) (read_rose write_rose :
       let placed = ap (λ (s : Setting). s.topology) of.to_run.setting_is in
       accounted_whole r (subst HasSeats (sym placed) (plain_seats (plan_of of.to_run.tree))) (whole_right asked made a right r same)
 
+  run_faulted : (name : List ℕ) → a ≡ ReadFault name → read_rose
+  run_faulted name is =
+      let first = fault_first asked made name (subst (λ (x : Answer). IsRight asked made x) is right) in
+      failed first.0 first.1 first.2 first.3
+
   status_five : status_of a ≡ 5 → read_rose
   status_five is =
       let fault = five_is_fault a is in
-      let first = fault_first asked made fault.0 (subst (λ (x : Answer). IsRight asked made x) fault.1 right) in
-      failed first.0 first.1 first.2 first.3
+      run_faulted fault.0 fault.1
 
   status_two : status_of a ≡ 2 → asked ≡ None
   status_two is = usage_asked asked made (subst (λ (x : Answer). IsRight asked made x) (two_is_usage a is) right)
@@ -379,7 +383,7 @@ module _ (files : Option Files) (asked : Option Options) (read_rose write_rose :
       record {
         record_is_a_run = whole_run;
         as_asked = of_run (IsAsAsked files asked) a run_as_asked;
-        as_written = inr (record { answer = a; whole = whole; done_is = refl; text = is.whole; beginning = is.cut_off; right = λ told tells. (made, allow told tells, right) });
+        as_written = inr (record { answer = a; whole = whole; done_is = refl; text = is.whole; beginning = is.cut_off; reads = made; right = right; given = allow; faulted = run_faulted });
         woken_once = for_kept IsWokenOnce woken_whole (kept_of a) whole_run;
         accounted = of_run IsMessageAccount a run_accounted;
         invalid_exactly = for_kept IsInvalidExactly invalid_whole (kept_of a) whole_run;
@@ -399,7 +403,7 @@ module _ {L S : Type 0} (files : L → Option Files) (faults : L → ℕ) (reads
       → IsTheorem (files library) asked (Rose (faults library) (faults library')) (Rose (write_faults sink) (write_faults sink')) (written sink) (written sink') done
   theorem_holds asked library library' sink sink' done answered =
       let P : Done → Type 0 = λ d. IsTheorem (files library) asked (Rose (faults library) (faults library')) (Rose (write_faults sink) (write_faults sink')) (written sink) (written sink') d in
-      elim answered.told [
+      elim answered.ended [
         | inl untold ↦ subst P (sym untold.done_is) (untold_theorem (files library) asked (Rose (faults library) (faults library')) (Rose (write_faults sink) (write_faults sink')) (written sink) (written sink') (ap written untold.untouched))
         | inr told ↦ subst P (sym told.done_is)
             (told_theorem (files library) asked (Rose (faults library) (faults library')) (Rose (write_faults sink) (write_faults sink')) (written sink) (written sink') (write_faults sink) (write_faults sink') answered.made told.answer told.right

@@ -24,14 +24,14 @@ IsBeginning None (r ∷ rs) = ⊥
 IsBeginning (Some o) (r ∷ []) = r.name ≡ o.protocol
 IsBeginning (Some o) (r ∷ s ∷ rs) = ⊥
 
--- memory ran out: nothing was written
-pub record IsUntold {S : Type 0} (asked : Option Options) (made : List Read) (before after : S) (done : Done) : Type 0 where
+-- memory ran out: nothing was written, and of what was to be read a beginning may have been
+pub record IsOutOfMemory {S : Type 0} (asked : Option Options) (made : List Read) (before after : S) (done : Done) : Type 0 where
   pub beginning : IsBeginning asked made
   pub untouched : after ≡ before
   pub done_is : done ≡ out_of_memory
 
 -- the text of a right answer went to the sink, whole or up to a piece that wasn't
-pub record IsTold {S : Type 0} (writes : S → List ℕ → Wrote → S → Type 0) (asked : Option Options) (made : List Read) (before after : S) (done : Done) : Type 0 where
+pub record IsGivenOut {S : Type 0} (writes : S → List ℕ → Wrote → S → Type 0) (asked : Option Options) (made : List Read) (before after : S) (done : Done) : Type 0 where
   pub answer : Answer
   pub right : IsRight asked made answer
   pub whole : Bool
@@ -41,8 +41,8 @@ pub record IsTold {S : Type 0} (writes : S → List ℕ → Wrote → S → Type
 pub record IsAnswered {L S : Type 0} (reads : L → List ℕ → ℕ → Got → L → Type 0) (writes : S → List ℕ → Wrote → S → Type 0) (asked : Option Options) (library library' : L) (sink sink' : S) (done : Done) : Type 0 where
   pub made : List Read
   pub are_made : AreMade reads library made library'
-  pub told : IsUntold asked made sink sink' done ⊎ IsTold writes asked made sink sink' done
+  pub ended : IsOutOfMemory asked made sink sink' done ⊎ IsGivenOut writes asked made sink sink' done
 
 -- a call that reads nothing, since nothing was asked for
 abbrev pub IsUsageAnswered : {S : Type 0} (writes : S → List ℕ → Wrote → S → Type 0) → (sink sink' : S) → Done → Type 0
-IsUsageAnswered writes sink sink' done = IsUntold None [] sink sink' done ⊎ IsTold writes None [] sink sink' done
+IsUsageAnswered writes sink sink' done = IsOutOfMemory None [] sink sink' done ⊎ IsGivenOut writes None [] sink sink' done

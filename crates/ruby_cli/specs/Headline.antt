@@ -1,5 +1,5 @@
--- The theorem about a call of the program. Each definition is one clause of the top calls; all of them follow from what the
--- call does (`IsAnswered`). `asked` is what was asked for, if anything; `files` are the library's, where it tells them; a call
+-- The theorem about a call of the program. Each definition is one clause of the top calls, beside that a record is of a whole
+-- run (`IsWholeRun`). All but the last follow from what the call does (`IsAnswered`). `asked` is what was asked for, if anything; `files` are those of the library, where it tells them; a call
 -- ends with `done`, its status and the record that it kept. That a library's or a sink's count of faults rose in the call is
 -- `read_rose` and `write_rose`; `before` and `after` are what the sink tells as the call begins and ends.
 use Rattle.std.specs.Prelude.{◌≡◌, ◌+◌, ◌≢◌, ◌⊎◌, ℕ, Bool, Option, None, Some, List, [], ◌∷◌, ◌++◌, IfSome, IsSome}
@@ -20,12 +20,12 @@ use Rattle.slicc_meaning.specs.declared.setting.Setting.{Setting}
 use Rattle.slicc_meaning.specs.Record.{IsRecordOf, IsWholeRun}
 use Rattle.slicc_meaning.specs.Rules.{rules}
 use Rattle.ruby_cli.specs.declared.answer.Answer.{Answer}
-use Rattle.ruby_cli.specs.declared.answer.Answer.TheVariants.{Ran}
+use Rattle.ruby_cli.specs.declared.answer.Answer.TheVariants.{Ran, ReadFault}
 use Rattle.ruby_cli.specs.declared.done.Done.{Done}
 use Rattle.ruby_cli.specs.declared.options.Options.{Options}
 use Rattle.ruby_cli.specs.Answer.{text_of, status_of, done_of, out_of_memory, verdict_status}
 use Rattle.ruby_cli.specs.Asked.{setting_of}
-use Rattle.ruby_cli.specs.Right.{IsAnswer, MayAnswer, IsRunOver}
+use Rattle.ruby_cli.specs.Right.{Read, IsRight, IsAnswer, MayBeGiven, IsRunOver}
 
 -- each controller that must wake at a cycle of the record's run wakes in it once, and no other does
 abbrev pub IsWokenOnce : RunRecord → Type 0
@@ -46,25 +46,30 @@ IsInvalidExactly r = InvalidExactly (rules r.setting) r.history r.journal
 abbrev pub IsTallied : RunRecord → Type 0
 IsTallied r = r.tallies ≡ tally 0 r.history ∷ []
 
--- the record is of what was asked: its run begins as the options say, and where files are told, with their plan and topology
+-- the record is of what was asked: its run begins as the options say, and where files are known, with their plan and topology
 pub record IsAsAsked (files : Option Files) (asked : Option Options) (r : RunRecord) : Type 0 where
   pub options : Options
   pub asked_is : asked ≡ Some options
   pub setting : r.setting ≡ setting_of r.setting.plan r.setting.topology options
-  pub of_files : ForSome files (λ told. IsRunOver told asked r.setting)
+  pub of_files : ForSome files (λ known. IsRunOver known asked r.setting)
 
--- The text of an answer was written, or with 7 a beginning of it; the status and the record are that answer's. Where files
--- are told, it is right over them, and a name that is printed after a fault is one that was to be read.
-pub record IsTextOf (files : Option Files) (asked : Option Options) (before after : Option (List ℕ)) (done : Done) : Type 0 where
+-- The text of an answer was written, or with 7 a beginning of it; the status and the record are that answer's. It is right to
+-- what was read; where files are known, the reads gave what these have, or failed. A read's fault is an answer only where the
+-- library's count rose.
+pub record IsTextOf (files : Option Files) (asked : Option Options) (read_rose : Type 0) (before after : Option (List ℕ)) (done : Done) : Type 0 where
   pub answer : Answer
   pub whole : Bool
   pub done_is : done ≡ done_of answer whole
   pub text : OnTrue whole (after ≡ grown before (text_of answer))
   pub beginning : OnFalse whole (IsCutOff before (text_of answer) after)
-  pub right : ForSome files (λ told. MayAnswer told asked answer)
+  pub reads : List Read
+  pub right : IsRight asked reads answer
+  pub given : ForSome files (λ known. MayBeGiven known reads)
+  pub faulted : (name : List ℕ) → answer ≡ ReadFault name → read_rose
 
-abbrev pub IsAsWritten : Option Files → Option Options → Option (List ℕ) → Option (List ℕ) → Done → Type 0
-IsAsWritten files asked before after done = ((done ≡ out_of_memory) × (after ≡ before)) ⊎ IsTextOf files asked before after done
+abbrev pub IsAsWritten : Option Files → Option Options → Type 0 → Option (List ℕ) → Option (List ℕ) → Done → Type 0
+IsAsWritten files asked read_rose before after done =
+    ((done ≡ out_of_memory) × (after ≡ before)) ⊎ IsTextOf files asked read_rose before after done
 
 abbrev pub IsOneOf : List ℕ → ℕ → Type 0
 IsOneOf [] n = ⊥
@@ -80,32 +85,32 @@ abbrev pub statuses_of : Answer → List ℕ
 statuses_of (Ran r) = 0 ∷ 1 ∷ []
 statuses_of a = status_of a ∷ []
 
--- When each status comes. Where files are told, a status comes exactly where an answer with it is right over them, but that
--- 5, 7 and 8 may come in its place; each of these has its cause.
+-- When each status comes. Where files are known, a status comes exactly where an answer with it is right over them, but that
+-- 5, 7 and 8 may come in its place; of these 5 and 7 have a cause.
 pub record IsCaused (files : Option Files) (asked : Option Options) (read_rose write_rose : Type 0) (done : Done) : Type 0 where
   pub verdict : IsVerdictStatus done.kept done.status
   pub usage : done.status ≡ 2 → asked ≡ None
   pub no_usage : asked ≡ None → (done.kept ≡ None) × IsOneOf (2 ∷ 7 ∷ 8 ∷ []) done.status
-  pub only : ForSome files (λ told. IsOneOf (5 ∷ 7 ∷ 8 ∷ []) done.status ⊎ ((a : Answer) × IsAnswer told asked a × (done.status ≡ status_of a)))
-  pub always : ForSome files (λ told. (a : Answer) → IsAnswer told asked a → IsOneOf (statuses_of a ++ 5 ∷ 7 ∷ 8 ∷ []) done.status)
+  pub only : ForSome files (λ known. IsOneOf (5 ∷ 7 ∷ 8 ∷ []) done.status ⊎ ((a : Answer) × IsAnswer known asked a × (done.status ≡ status_of a)))
+  pub always : ForSome files (λ known. (a : Answer) → IsAnswer known asked a → IsOneOf (statuses_of a ++ 5 ∷ 7 ∷ 8 ∷ []) done.status)
   pub read_fault : done.status ≡ 5 → read_rose
   pub write_fault : done.status ≡ 7 → write_rose
 
--- Where files are told, a run is to be made over them and no read failed, 7 has a record; and where no write failed either,
+-- Where files are known, a run is to be made over them and no read failed, 7 has a record; and where no write failed either,
 -- there is a run with 0 or 1, or memory ran out.
 pub record IsComplete (files : Option Files) (asked : Option Options) (read_rose write_rose : Type 0) (done : Done) : Type 0 where
-  pub keeps_run : ForSome files (λ told. (setting : Setting) → IsRunOver told asked setting → (read_rose → ⊥) → done.status ≡ 7 → IsSome done.kept)
-  pub runs : ForSome files (λ told. (setting : Setting) → IsRunOver told asked setting → (read_rose → ⊥) → (write_rose → ⊥) → (IsSome done.kept × IsOneOf (0 ∷ 1 ∷ []) done.status) ⊎ (done.status ≡ 8))
+  pub keeps_run : ForSome files (λ known. (setting : Setting) → IsRunOver known asked setting → (read_rose → ⊥) → done.status ≡ 7 → IsSome done.kept)
+  pub runs : ForSome files (λ known. (setting : Setting) → IsRunOver known asked setting → (read_rose → ⊥) → (write_rose → ⊥) → (IsSome done.kept × IsOneOf (0 ∷ 1 ∷ []) done.status) ⊎ (done.status ≡ 8))
 
 -- one worker made the run, and took the controllers in the order of their numbers; this is so of a run on one thread
 abbrev pub IsByOneWorker : RunRecord → Type 0
 IsByOneWorker r = IsAlone (rules r.setting) r.history
 
--- all of it that follows from what a call does
+-- the clauses that follow from what a call does
 pub record IsTheorem (files : Option Files) (asked : Option Options) (read_rose write_rose : Type 0) (before after : Option (List ℕ)) (done : Done) : Type 0 where
   pub record_is_a_run : IfSome done.kept IsWholeRun
   pub as_asked : IfSome done.kept (IsAsAsked files asked)
-  pub as_written : IsAsWritten files asked before after done
+  pub as_written : IsAsWritten files asked read_rose before after done
   pub woken_once : IfSome done.kept IsWokenOnce
   pub accounted : IfSome done.kept IsMessageAccount
   pub invalid_exactly : IfSome done.kept IsInvalidExactly

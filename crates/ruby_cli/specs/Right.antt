@@ -37,7 +37,7 @@ pub record IsToRun (bytes : List ℕ) (o : Options) (setting : Setting) : Type 0
 abbrev pub IsOtherForm : List ℕ → Type 0
 IsOtherForm bytes = (m : Machine) → IsSmallForm bytes m → ⊥
 
--- the refusal of a file of another form, which is told at its first byte
+-- the refusal of a file of another form, whose place is its first byte
 abbrev pub other_form : List ℕ → Refusal
 other_form name = record { file = name; line = 1; column = 1; code = codes "U1"; other = None }
 
@@ -86,10 +86,6 @@ MayBeGiven files (r ∷ rs) = Reads files r.name file_limit r.got × MayBeGiven 
 -- the answer is right over these files, where no read fails
 abbrev pub IsAnswer : Files → Option Options → Answer → Type 0
 IsAnswer files asked a = (reads : List Read) × AreGiven files reads × IsRight asked reads a
-
--- the answer is right over these files, where a read may have failed
-abbrev pub MayAnswer : Files → Option Options → Answer → Type 0
-MayAnswer files asked a = (reads : List Read) × MayBeGiven files reads × IsRight asked reads a
 
 -- over these files a run is to be made that begins with this setting
 pub record IsRunOver (files : Files) (asked : Option Options) (setting : Setting) : Type 0 where

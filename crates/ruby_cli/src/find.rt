@@ -51,7 +51,7 @@ fn run_of(alloc: Global, m: &Machine, options: &Options) -> Result<RunRecord, No
     run_plain(alloc, setting)
 }
 
-// The refusal of a file of another form, which is told at its first byte.
+// The refusal of a file of another form, whose place is its first byte.
 fn other_form(alloc: Global, name: &[u8]) -> Result<Answer, NoMemory>
     ensures { IfOk result (λ a. a ≡ Answer.Refused (other_form_of name.now)) }
 {

@@ -6,7 +6,7 @@ ghost use Rattle.ruby_cli.specs.Call.{IsAnswered, IsUsageAnswered};
 ghost use Rattle.ruby_cli.specs.Headline.{IsWokenOnce, IsMessageAccount, IsInvalidExactly, IsTallied, IsAsAsked, IsAsWritten, IsCaused, IsComplete, IsByOneWorker};
 ghost use Rattle.ruby_cli.specs.Words.{asked as asked_of};
 
-use crate::top::answer_options;
+use crate::top::ruby_alone;
 use crate::words::asked;
 use crate::{Answer, Done};
 use ruby_base::NoMemory;
@@ -44,7 +44,7 @@ fn answer_words<L: Library, S: Sink>(
     match asked(alloc, words) {
         Err(NoMemory) => Done::out_of_memory(),
         Ok(None) => answer_usage(alloc, sink),
-        Ok(Some(options)) => answer_options(alloc, &options, library, sink),
+        Ok(Some(options)) => ruby_alone(alloc, options, library, sink),
     }
 }
 
@@ -66,7 +66,7 @@ pub fn ruby<R: Threads + Wait + Sync, L: Library, S: Sink, G: Gate + Sync>(
     // What follows of the record that is kept, of what is written, and of the status.
     ensures record_is_a_run { IfSome result.kept IsWholeRun }
     ensures as_asked { IfSome result.kept (IsAsAsked (L.files library.old) (asked_of (map string_bytes words.now))) }
-    ensures as_written { IsAsWritten (L.files library.old) (asked_of (map string_bytes words.now)) (S.written sink.old) (S.written sink.new) result }
+    ensures as_written { IsAsWritten (L.files library.old) (asked_of (map string_bytes words.now)) (Rose (L.faults library.old) (L.faults library.new)) (S.written sink.old) (S.written sink.new) result }
     ensures woken_once { IfSome result.kept IsWokenOnce }
     ensures accounted { IfSome result.kept IsMessageAccount }
     ensures invalid_exactly { IfSome result.kept IsInvalidExactly }

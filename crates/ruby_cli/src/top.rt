@@ -33,8 +33,8 @@ fn prepare<L: Library>(
     Ok((answer, text))
 }
 
-/// Answers what the options ask for, as `ruby_alone`.
-pub(crate) fn answer_options<L: Library, S: Sink>(
+// Answers what the options ask for, as `ruby_alone`.
+fn answer_options<L: Library, S: Sink>(
     alloc: Global,
     options: &Options,
     library: &mut L,
@@ -44,6 +44,7 @@ pub(crate) fn answer_options<L: Library, S: Sink>(
     requires cycles { options.now.cycles < 2 ^ 63 }
     requires limit { options.now.limit < 2 ^ 63 }
     ensures answered { IsAnswered L.reads S.writes (Some options.now) library.old library.new sink.old sink.new result }
+    ensures reads_once { IsReadOnce L.reads options.now library.old library.new (λ _. Unit {0}) }
     ensures by_one_worker { IfSome result.kept IsByOneWorker }
 {
     match prepare(alloc, options, library) {
@@ -70,13 +71,14 @@ pub fn ruby_alone<L: Library, S: Sink>(
     requires cycles { (1 ≤ options.cycles) × (options.cycles ≤ 10 ^ 12) }
     requires limit { (1 ≤ options.limit) × (options.limit ≤ 1000) }
 
-    // All that the call does: it reads the protocol's file, and writes the text of the right answer, up to a fault.
+    // All that the call does: it reads the protocol's file once, and writes the text of the right answer, up to a fault.
     ensures answered { IsAnswered L.reads S.writes (Some options) library.old library.new sink.old sink.new result }
+    ensures reads_once { IsReadOnce L.reads options library.old library.new (λ _. Unit {0}) }
 
     // What follows of the record that is kept, of what is written, and of the status.
     ensures record_is_a_run { IfSome result.kept IsWholeRun }
     ensures as_asked { IfSome result.kept (IsAsAsked (L.files library.old) (Some options)) }
-    ensures as_written { IsAsWritten (L.files library.old) (Some options) (S.written sink.old) (S.written sink.new) result }
+    ensures as_written { IsAsWritten (L.files library.old) (Some options) (Rose (L.faults library.old) (L.faults library.new)) (S.written sink.old) (S.written sink.new) result }
     ensures woken_once { IfSome result.kept IsWokenOnce }
     ensures accounted { IfSome result.kept IsMessageAccount }
     ensures invalid_exactly { IfSome result.kept IsInvalidExactly }
