@@ -1,5 +1,5 @@
 -- No message is lost or made but by sending and consuming: what each act makes of the numbers in an inbox.
-use Rattle.std.proofs.Common.{◌≡◌, ◌<◌, ◌+◌, ℕ, ℤ, Bool, true, false, cond, eqb, not, List, [], ◌∷◌, ◌++◌, map, filter, length, All, Contains, IsTrue, refl, sym, ap, subst, ◌∙◌, arith, ⊎_elim, Option, None, Some, Ok, Err, inl, inr, nat_abs, is_some, slice_get, unwrap_or}
+use Rattle.std.proofs.Common.{◌≡◌, ◌<◌, ◌+◌, ℕ, ℤ, Bool, true, false, cond, eqb, not, List, [], ◌∷◌, ◌++◌, map, filter, length, All, Contains, refl, sym, ap, subst, ◌∙◌, arith, ⊎_elim, Option, None, Some, Ok, Err, nat_abs, is_some, slice_get, unwrap_or}
 use Rattle.std.specs.Prelude.{count_by}
 use Rattle.std.proofs.lemmas.Bool.{and_from, cases_eq, cond_both, eq-eqb, eqb-true, and_parts}
 use Rattle.std.proofs.lemmas.Bool.Decides.{nat_tests}
@@ -30,7 +30,7 @@ use Rattle.ctl_face.specs.LocalView.{Actor}
 use Rattle.ctl_face.specs.Mailing.{incoming_message, mail_with_delivery}
 use Rattle.ctl_face.specs.Routing.{receiving_buffer}
 use Rattle.ctl_face.specs.Send.{Sending, copy_limit, local_arrival, local_copy, mail_with_copy, network_arrival, next_copy, no_copies, receivers_of, send, sending_from, sending_on, with_network_copy}
-use Rattle.ctl_face.proofs.Cases.{Good, good_ok, good_err, good_unless}
+use Rattle.ctl_face.proofs.Cases.{Good, good_ok, good_unless}
 use Rattle.ctl_face.proofs.Held.{nothing-there}
 use Rattle.ctl_face.proofs.Inboxes.{Before, KeepsNumber, all-with}
 

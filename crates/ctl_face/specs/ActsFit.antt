@@ -1,8 +1,8 @@
 -- What always holds of the copies that a scan has sent, and of all its messages: none is lost or made but by sending and
--- consuming. The copies' notes have the controller's next numbers, from the first that was
--- free as the scan began, and the controller has counted them; each arrives after this cycle. The posted copies are those that
--- aren't for the controller itself, each in the buffer that takes a network's messages at its receiver, with fields like those
--- of the messages that the machine sends on this network.
+-- consuming. The copies' notes have the controller's next numbers, from the first that was free as the scan began, and the
+-- controller has counted them; each arrives after this cycle. The posted copies are those that aren't for the controller
+-- itself, each in the buffer that takes a network's messages at its receiver, with fields like those of the messages that the
+-- machine sends on this network.
 use Rattle.std.specs.Prelude.{◌≡◌, ◌<◌, ◌+◌, ◌==◌, ℕ, Bool, List, Some, not, map, filter, length, count_by, slice_get, IsTrue, IsSomeAnd}
 use Rattle.std.specs.List.{All}
 use Rattle.ruby_value.specs.declared.message.MsgNo.{MsgNo}

@@ -5,7 +5,7 @@ use ruby_value::Seq;
 
 /// What a topology says of the network between controllers, which are numbered from 0. This form of a network is
 /// this project's own.
-#[derive(Debug, Drop)]
+#[derive(Drop)]
 pub struct Routes {
     /// By sender and then receiver, how many cycles the path between them takes, at most 126,000. A topology has 0 to oneself.
     pub paths: Seq<Seq<u64>>,

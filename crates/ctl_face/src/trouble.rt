@@ -3,7 +3,7 @@ ghost use Rattle.std.specs.Prelude.{◌≡◌};
 use ruby_value::{Fault, NoMemory};
 
 /// Why an act of a controller wasn't done.
-#[derive(Debug, Drop)]
+#[derive(Drop)]
 pub enum Trouble {
     /// The protocol's own fault, at which its scan ends.
     Fault(Fault),
