@@ -7,6 +7,7 @@ pub mod Carried
 pub mod FirstFault
 pub mod Fronts
 pub mod OneChoice
+pub mod Building
 pub mod Steps
 pub mod Joining
 pub mod InARow

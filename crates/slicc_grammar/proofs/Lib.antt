@@ -2,6 +2,8 @@ pub mod Decided
 pub mod IntoTable
 pub mod IntoWritten
 pub mod Readers
+pub mod Shapes
+pub mod ShapesDecided
 pub mod Followed
 pub mod Leading
 pub mod LeadingParts
