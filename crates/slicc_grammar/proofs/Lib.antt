@@ -9,3 +9,5 @@ pub mod Leading
 pub mod LeadingParts
 pub mod LeadingStatements
 pub mod LeadingTrees
+pub mod Making
+pub mod MakingExpressions

@@ -48,27 +48,27 @@ ended_node (opened made) parts = with_part (node no_span parts) made
 ended_node (with_token kind made) parts = ended_node made (token kind parts)
 ended_node (with_part outline made) parts = ended_node made (part outline parts)
 
-abbrev made_named : Made → Made
+abbrev pub made_named : Made → Made
 made_named (with_token kind made) = with_part (node no_span (token kind none)) made
 made_named made = made
 
-abbrev made_wrapped : Made → Made
+abbrev pub made_wrapped : Made → Made
 made_wrapped (with_part outline made) = with_part outline (opened made)
 made_wrapped made = made
 
-abbrev made_bare : Made → Made
+abbrev pub made_bare : Made → Made
 made_bare (with_part (node span (token kind none)) made) = with_token kind made
 made_bare made = made
 
-abbrev made_later : Made → Made
+abbrev pub made_later : Made → Made
 made_later (with_part outline (with_token kind (opened made))) = opened (with_part outline (with_token kind made))
 made_later made = made
 
-abbrev made_sooner : Made → Made
+abbrev pub made_sooner : Made → Made
 made_sooner (opened (with_part outline (with_token kind made))) = with_part outline (opened (with_token kind (opened made)))
 made_sooner made = made
 
-abbrev marked_by : Mark → Made → Made
+abbrev pub marked_by : Mark → Made → Made
 marked_by begin made = opened made
 marked_by close made = ended_node made none
 marked_by named made = made_named made
