@@ -11,3 +11,4 @@ pub mod LeadingStatements
 pub mod LeadingTrees
 pub mod Making
 pub mod MakingExpressions
+pub mod MakingParts

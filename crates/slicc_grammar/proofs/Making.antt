@@ -11,10 +11,9 @@ use Rattle.slicc_ast.specs.Outline.{Outline, node, Parts, none, token, part, pro
 use Rattle.slicc_ast.specs.Names.{name as name_parts, type_name as type_parts}
 use Rattle.grammar_rows.specs.Kinds.{has}
 use Rattle.grammar_rows.specs.Grammar.{Row, Rows}
-use Rattle.grammar_rows.specs.Grammar.Row.{done, form}
+use Rattle.grammar_rows.specs.Grammar.Row.{done, form, maybe, many}
 use Rattle.grammar_rows.specs.Grammar.Rows.{end, next}
-use Rattle.grammar_rows.specs.Reader.{followed_by}
-use Rattle.grammar_rows.proofs.Building.Builds.{one, alternative, on}
+use Rattle.grammar_rows.proofs.Building.Builds.{one, alternative, present, absent, again, enough, on}
 use Rattle.slicc_grammar.specs.Form.{Form}
 use Rattle.slicc_grammar.specs.TokenKinds.{name_kind, kind_of}
 use Rattle.slicc_grammar.proofs.Leading.{name_is_one}
@@ -59,57 +58,86 @@ any_name text m = a_name text (name_is_one text) m
 pub record Forms (n : Form) (o : Outline) : Type 0 where
   pub makes : is_allowed o ≡ true → (R : Row Step) (S : Rows Step) (rest : List TokenKind) (s to : Made) → Makes R S rest (with_part (shape_of o) s) to → Makes (form (plain n) R) S (spelled o rest) s to
 
--- these parts of a row, of which the last ends the node, make the last parts of the node and end it
-pub record Closes (row : Row Step → Row Step) (parts : Parts) : Type 0 where
-  pub makes : are_allowed parts ≡ true → (R : Row Step) (S : Rows Step) (rest : List TokenKind) (s to : Made) → Makes R S rest (ended_node s (shape_in parts)) to → Makes (row R) S (spelled_in parts rest) s to
+-- From a place in the table, which has a row and rows behind it, the reader makes the last parts of the node that has begun
+-- and ends it, and comes to what is behind the node.
+abbrev pub Place : Type 0
+Place = Row Step → Rows Step → Row Step
 
-pub closed : Closes (at close) none
+abbrev pub Behind : Type 0
+Behind = Row Step → Rows Step → Rows Step
+
+pub record Closes (row : Place) (rows : Behind) (parts : Parts) : Type 0 where
+  pub makes : are_allowed parts ≡ true → (R : Row Step) (S : Rows Step) (rest : List TokenKind) (s to : Made) → Makes R S rest (ended_node s (shape_in parts)) to → Makes (row R S) (rows R S) (spelled_in parts rest) s to
+
+pub closed : Closes (λ R S. at close R) (λ R S. S) none
 closed = record { makes = λ allowed R S rest s to m. marked m }
 
-pub then_token : {kinds : List ℕ} {row : Row Step → Row Step} {kind : TokenKind} {parts : Parts} → has kinds (kind_of kind) ≡ true → Closes row parts → Closes (followed_by (Row.token kinds) row) (token kind parts)
+-- where the alternative ends with the node
+pub closed_last : Closes (λ R S. at close done) (λ R S. next R S) none
+closed_last = record { makes = λ allowed R S rest s to m. marked (on m) }
+
+pub then_token : {kinds : List ℕ} {row : Place} {rows : Behind} {kind : TokenKind} {parts : Parts} → has kinds (kind_of kind) ≡ true → Closes row rows parts → Closes (λ R S. Row.token kinds (row R S)) rows (token kind parts)
 then_token {kind = kind} is c = record { makes = λ allowed R S rest s to m. one is (c.makes allowed R S rest (with_token kind s) to m) }
 
-pub then_name : {row : Row Step → Row Step} {n : Name} {parts : Parts} → Closes row parts → Closes (followed_by name row) (name_parts n parts)
-then_name {n = n} c = record { makes = λ allowed R S rest s to m. any_name n.text (c.makes allowed R S rest (with_part (name_node n.text) s) to m) }
-
-pub then_type : {row : Row Step → Row Step} {n : TypeName} {parts : Parts} → Closes row parts → Closes (followed_by name row) (type_parts n parts)
-then_type {n = n} c = record { makes = λ allowed R S rest s to m. any_name n.text (c.makes allowed R S rest (with_part (name_node n.text) s) to m) }
-
-pub then_name_of : {kinds : List ℕ} {row : Row Step → Row Step} {n : Name} {parts : Parts} → has kinds (name_kind n.text) ≡ true → Closes row parts → Closes (followed_by (name_of kinds) row) (name_parts n parts)
+pub then_name_of : {kinds : List ℕ} {row : Place} {rows : Behind} {n : Name} {parts : Parts} → has kinds (name_kind n.text) ≡ true → Closes row rows parts → Closes (λ R S. name_of kinds (row R S)) rows (name_parts n parts)
 then_name_of {n = n} is c = record { makes = λ allowed R S rest s to m. a_name n.text is (c.makes allowed R S rest (with_part (name_node n.text) s) to m) }
 
-pub then_form : {n : Form} {row : Row Step → Row Step} {o : Outline} {parts : Parts} → Forms n o → Closes row parts → Closes (followed_by (of n) row) (part o parts)
-then_form {row = row} {o = o} {parts = parts} f c =
+pub then_name : {row : Place} {rows : Behind} {n : Name} {parts : Parts} → Closes row rows parts → Closes (λ R S. name (row R S)) rows (name_parts n parts)
+then_name {n = n} c = then_name_of {n = n} (name_is_one n.text) c
+
+pub then_type : {row : Place} {rows : Behind} {n : TypeName} {parts : Parts} → Closes row rows parts → Closes (λ R S. name (row R S)) rows (type_parts n parts)
+then_type {n = n} c = record { makes = λ allowed R S rest s to m. any_name n.text (c.makes allowed R S rest (with_part (name_node n.text) s) to m) }
+
+pub then_form : {n : Form} {row : Place} {rows : Behind} {o : Outline} {parts : Parts} → Forms n o → Closes row rows parts → Closes (λ R S. of n (row R S)) rows (part o parts)
+then_form {row = row} {rows = rows} {o = o} {parts = parts} f c =
     record {
       makes = λ allowed R S rest s to m.
           let both = and_parts (is_allowed o) (are_allowed parts) allowed in
-          f.makes both.0 (row R) S (spelled_in parts rest) s to (c.makes both.1 R S rest (with_part (shape_of o) s) to m);
+          f.makes both.0 (row R S) (rows R S) (spelled_in parts rest) s to (c.makes both.1 R S rest (with_part (shape_of o) s) to m);
     }
 
 -- a node in the node, whose parts stand in the same row
-pub then_node : {inner row : Row Step → Row Step} {span : Span} {inside parts : Parts} → Closes inner inside → Closes row parts → Closes (followed_by (at begin) (followed_by inner row)) (part (node span inside) parts)
-then_node {row = row} {inside = inside} {parts = parts} f c =
+pub then_node : {inner : Row Step → Row Step} {row : Place} {rows : Behind} {span : Span} {inside parts : Parts} → Closes (λ R S. inner R) (λ R S. S) inside → Closes row rows parts → Closes (λ R S. at begin (inner (row R S))) rows (part (node span inside) parts)
+then_node {row = row} {rows = rows} {inside = inside} {parts = parts} f c =
     record {
       makes = λ allowed R S rest s to m.
           let both = and_parts (are_allowed inside) (are_allowed parts) allowed in
-          marked (f.makes both.0 (row R) S (spelled_in parts rest) (opened s) to (c.makes both.1 R S rest (with_part (node no_span (shape_in inside)) s) to m));
+          marked (f.makes both.0 (row R S) (rows R S) (spelled_in parts rest) (opened s) to (c.makes both.1 R S rest (with_part (node no_span (shape_in inside)) s) to m));
     }
 
-pub where_allowed : {row : Row Step → Row Step} {condition : Bool} {parts : Parts} → (condition ≡ true → Closes row parts) → Closes row (provided condition parts)
-where_allowed {condition = condition} {parts = parts} c =
+pub where_allowed : {row : Place} {rows : Behind} {parts : Parts} (condition : Bool) → (condition ≡ true → Closes row rows parts) → Closes row rows (provided condition parts)
+where_allowed {parts = parts} condition c =
     record {
       makes = λ allowed R S rest s to m.
           let both = and_parts condition (are_allowed parts) allowed in
           (c both.0).makes both.1 R S rest s to m;
     }
 
--- a form one of whose alternatives is the parts of a node
-pub by_node : {n : Form} {inner : Row Step → Row Step} {span : Span} {parts : Parts} (place : ℕ) → slice_get (shape_rows n) place ≡ Some (form (mark begin) (inner done)) → Closes inner parts → Forms n (node span parts)
-by_node {inner = inner} place at c =
-    record { makes = λ allowed R S rest s to m. alternative place (form (mark begin) (inner done)) at (marked (c.makes allowed done (next R S) rest (opened s) to (on m))) }
+-- behind the last part of an alternative, an optional part or one time of a repeated part
+pub then_on : {row : Place} {rows : Behind} {parts : Parts} → Closes row rows parts → Closes (λ R S. done) (λ R S. next (row R S) (rows R S)) parts
+then_on c = record { makes = λ allowed R S rest s to m. on (c.makes allowed R S rest s to m) }
 
+pub then_alternative : {chosen : Row Step} {row : Place} {rows : Behind} {parts : Parts} (n : Form) (place : ℕ) → slice_get (shape_rows n) place ≡ Some chosen → Closes (λ R S. chosen) (λ R S. next (row R S) (rows R S)) parts → Closes (λ R S. of n (row R S)) rows parts
+then_alternative {chosen = chosen} n place at c = record { makes = λ allowed R S rest s to m. alternative place chosen at (c.makes allowed R S rest s to m) }
+
+pub then_present : {inner : Row Step} {row : Place} {rows : Behind} {parts : Parts} → Closes (λ R S. inner) (λ R S. next (row R S) (rows R S)) parts → Closes (λ R S. maybe inner (row R S)) rows parts
+then_present c = record { makes = λ allowed R S rest s to m. present (c.makes allowed R S rest s to m) }
+
+pub then_absent : {inner : Row Step} {row : Place} {rows : Behind} {parts : Parts} → Closes row rows parts → Closes (λ R S. maybe inner (row R S)) rows parts
+then_absent c = record { makes = λ allowed R S rest s to m. absent (c.makes allowed R S rest s to m) }
+
+pub then_again : {inner : Row Step} {row : Place} {rows : Behind} {parts : Parts} → Closes (λ R S. inner) (λ R S. next (many inner (row R S)) (rows R S)) parts → Closes (λ R S. many inner (row R S)) rows parts
+then_again c = record { makes = λ allowed R S rest s to m. again (c.makes allowed R S rest s to m) }
+
+pub then_enough : {inner : Row Step} {row : Place} {rows : Behind} {parts : Parts} → Closes row rows parts → Closes (λ R S. many inner (row R S)) rows parts
+then_enough c = record { makes = λ allowed R S rest s to m. enough (c.makes allowed R S rest s to m) }
+
+-- a form one of whose alternatives is the parts of a node
+pub by_node : {n : Form} {inner : Row Step} {span : Span} {parts : Parts} (place : ℕ) → slice_get (shape_rows n) place ≡ Some (at begin inner) → Closes (λ R S. inner) (λ R S. next R S) parts → Forms n (node span parts)
+by_node {inner = inner} place found c =
+    record { makes = λ allowed R S rest s to m. alternative place (at begin inner) found (marked (c.makes allowed R S rest (opened s) to m)) }
 
 -- a form one of whose alternatives is another form
 pub by_form : {n inner : Form} {o : Outline} (place : ℕ) → slice_get (shape_rows n) place ≡ Some (of inner done) → Forms inner o → Forms n o
-by_form {inner = inner} place at f =
-    record { makes = λ allowed R S rest s to m. alternative place (of inner done) at (f.makes allowed done (next R S) rest s to (on m)) }
+by_form {inner = inner} place found f =
+    record { makes = λ allowed R S rest s to m. alternative place (of inner done) found (f.makes allowed done (next R S) rest s to (on m)) }
