@@ -12,3 +12,4 @@ pub mod LeadingTrees
 pub mod Making
 pub mod MakingExpressions
 pub mod MakingParts
+pub mod MakingStatements

@@ -253,3 +253,7 @@ mutual
 
 pub expression_forms : (e : Expr) → Forms expression (expr e)
 expression_forms e = record { makes = λ allowed. as_expression e (expr_reads e allowed) }
+
+-- and is read from its start, operators of any level included
+pub from_its_start : (e : Expr) → is_allowed (expr e) ≡ true → Leads (λ R. front (begins_with_name e) (operators_to 6 R)) (expr e)
+from_its_start e allowed = let some = level_is_some e in (expr_reads e allowed).up_from 6 (omega arith) (omega arith)
