@@ -13,3 +13,4 @@ pub mod Making
 pub mod MakingExpressions
 pub mod MakingParts
 pub mod MakingStatements
+pub mod MakingTrees

@@ -54,7 +54,7 @@ pub then_balanced : {row : Place} {rows : Behind} {parts : Parts} (b : Balanced)
 then_balanced b c = then_node (parts_close b.parts.items) c
 
 -- attributes
-value_closes : (v : PairValue) → Closes (λ R S. Row.form value (at close done)) (λ R S. next R S) (pair_value v none)
+pub value_closes : (v : PairValue) → Closes (λ R S. Row.form value (at close done)) (λ R S. next R S) (pair_value v none)
 value_closes (QuotedValue text) = record { makes = λ allowed R S rest s to m. alternative 0 _ refl (one refl (on (marked (on m)))) }
 value_closes (NumberValue n) = record { makes = λ allowed R S rest s to m. alternative 0 _ refl (one refl (on (marked (on m)))) }
 value_closes (NameValue n) = record { makes = λ allowed R S rest s to m. alternative 1 _ refl (any_name n.text (on (marked (on m)))) }
