@@ -14,3 +14,4 @@ pub mod MakingExpressions
 pub mod MakingParts
 pub mod MakingStatements
 pub mod MakingTrees
+pub mod OneTree

@@ -1,5 +1,5 @@
 -- The steps by which a reader makes outlines: a token, a mark, a name, a node, and the parts of a node up to its end.
-use Rattle.std.proofs.Common.{◌≡◌, ℕ, Bool, true, false, List, [], ◌∷◌, ◌++◌, Some, refl, ap, ◌∙◌, sym, append_assoc}
+use Rattle.std.proofs.Common.{◌≡◌, ℕ, Bool, true, List, ◌∷◌, ◌++◌, Some, refl, ap, ◌∙◌, sym, append_assoc}
 use Rattle.std.specs.List.{slice_get}
 use Rattle.std.proofs.lemmas.Bool.{and_parts}
 use Rattle.slicc_ast.specs.declared.tree.token.TokenKind.{TokenKind}
@@ -12,12 +12,12 @@ use Rattle.slicc_ast.specs.Names.{name as name_parts, type_name as type_parts}
 use Rattle.grammar_rows.specs.Kinds.{has}
 use Rattle.grammar_rows.specs.Grammar.{Row, Rows}
 use Rattle.grammar_rows.specs.Grammar.Row.{done, form, maybe, many}
-use Rattle.grammar_rows.specs.Grammar.Rows.{end, next}
+use Rattle.grammar_rows.specs.Grammar.Rows.{next}
 use Rattle.grammar_rows.proofs.Building.Builds.{one, alternative, present, absent, again, enough, on}
 use Rattle.slicc_grammar.specs.Form.{Form}
 use Rattle.slicc_grammar.specs.TokenKinds.{name_kind, kind_of}
 use Rattle.slicc_grammar.proofs.Leading.{name_is_one}
-use Rattle.slicc_grammar.proofs.Shapes.{Made, opened, with_token, with_part, ended_node, Mark, begin, close, named, marked_by, Step, plain, mark, Makes, name_of, name, of, at, shape_rows}
+use Rattle.slicc_grammar.proofs.Shapes.{Made, opened, with_token, with_part, ended_node, Mark, begin, close, marked_by, Step, plain, mark, Makes, name_of, name, of, at, shape_rows}
 
 -- a tree's tokens before those behind it
 abbrev mutual

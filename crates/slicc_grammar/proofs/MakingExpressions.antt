@@ -1,26 +1,24 @@
 -- A reader makes an expression's outline of its tokens, from each form of its own level up. An expression that begins with
 -- a name is read behind that name, as statements are where they begin so.
-use Rattle.std.proofs.Common.{◌≡◌, ℕ, zero, suc, ◌+◌, ◌-◌, ◌≤◌, ◌<◌, nat_le, nat_lt, Bool, true, false, List, [], ◌∷◌, Some, None, refl, subst, inl, inr, arith}
-use Rattle.std.specs.List.{slice_get}
+use Rattle.std.proofs.Common.{◌≡◌, ℕ, zero, suc, ◌+◌, ◌-◌, ◌≤◌, ◌<◌, nat_le, nat_lt, Bool, true, false, List, ◌∷◌, Some, None, refl, subst, inl, inr, arith}
 use Rattle.std.proofs.lemmas.Bool.{and_parts, leb-true, ltb-true, cases_lt}
 use Rattle.slicc_ast.specs.declared.tree.token.TokenKind.{TokenKind}
 use Rattle.slicc_ast.specs.declared.tree.token.TokenKind.TheVariants.{Sign as SignToken}
 use Rattle.slicc_ast.specs.declared.tree.expression.Operator.{Operator}
 use Rattle.slicc_ast.specs.declared.tree.expression.Operator.TheVariants.{Or, And, Equal, Unequal, Less, Greater, LessOrEqual, GreaterOrEqual, Plus, Minus, Times}
 use Rattle.slicc_ast.specs.declared.tree.expression.Expr.{Expr, Binary', Not', Negate', Field', Method', Index', Number, True, False, Nothing, Variable, Member, Call', New, IsValid', IsInvalid', Cast', Group', Row_of-Expr, end_of-Expr, more_of-Expr}
-use Rattle.slicc_ast.specs.Outline.{Outline, node, Parts, none, token, part, is_allowed, are_allowed, shape_of, shape_in}
+use Rattle.slicc_ast.specs.Outline.{Outline, is_allowed, are_allowed, shape_of, shape_in}
 use Rattle.slicc_ast.specs.Expressions.{expr, level_of, operator_sign, operator_level, args_row, more_args_row}
 use Rattle.grammar_rows.specs.Kinds.{has}
 use Rattle.grammar_rows.specs.Grammar.{Row, Rows}
-use Rattle.grammar_rows.specs.Grammar.Row.{done, form, maybe, many}
+use Rattle.grammar_rows.specs.Grammar.Row.{done, many}
 use Rattle.grammar_rows.specs.Grammar.Rows.{next}
 use Rattle.grammar_rows.proofs.Building.Builds.{one, alternative, present, absent, again, enough, on}
-use Rattle.slicc_grammar.specs.Form.{Form}
-use Rattle.slicc_grammar.specs.Form.Form.{expression, constant, opening, name_end, suffix, arguments}
+use Rattle.slicc_grammar.specs.Form.Form.{expression, constant, name_end, suffix, arguments}
 use Rattle.slicc_grammar.specs.TokenKinds.{kind_of}
 use Rattle.slicc_grammar.proofs.Leading.{depth_of, depth_level, some_level, level_is_some}
-use Rattle.slicc_grammar.proofs.Shapes.{◌▸◌, Made, opened, with_token, with_part, ended_node, begin, close, wrap, Step, Makes, of, at, optional, name, comma, front, form_at, kinds_at, operand_at, operators_to, shape_rows}
-use Rattle.slicc_grammar.proofs.Making.{spelled, spelled_in, marked, name_node, any_name, Forms}
+use Rattle.slicc_grammar.proofs.Shapes.{◌▸◌, Made, opened, with_token, with_part, ended_node, close, Step, Makes, of, at, optional, name, comma, front, form_at, kinds_at, operand_at, operators_to}
+use Rattle.slicc_grammar.proofs.Making.{spelled, spelled_in, marked, any_name, Forms}
 
 abbrev pub begins_with_name : Expr → Bool
 begins_with_name (Binary' op p left q right span) = begins_with_name left

@@ -1,7 +1,5 @@
 -- A reader makes the outlines of the smaller parts of a tree: balanced parts, attributes, formals and literals.
-use Rattle.std.proofs.Common.{◌≡◌, ℕ, Bool, true, false, List, [], ◌∷◌, Option, Some, None, refl}
-use Rattle.std.proofs.lemmas.Bool.{and_parts}
-use Rattle.slicc_ast.specs.declared.tree.token.TokenKind.{TokenKind}
+use Rattle.std.proofs.Common.{Bool, true, false, List, [], ◌∷◌, Option, Some, None, refl}
 use Rattle.slicc_ast.specs.declared.tree.token.Sign.TheVariants.{Star}
 use Rattle.slicc_ast.specs.declared.tree.balanced.Balanced.{Balanced}
 use Rattle.slicc_ast.specs.declared.tree.balanced.Part.{Part, Token, Parentheses', Brackets', Braces', Row_of-Part, end_of-Part, more_of-Part}
@@ -15,17 +13,17 @@ use Rattle.slicc_ast.specs.declared.tree.declaration.PairValue.TheVariants.{Quot
 use Rattle.slicc_ast.specs.declared.tree.machine.Literal.{Literal}
 use Rattle.slicc_ast.specs.declared.tree.machine.Literal.TheVariants.{Number as NumberLiteral, Minus as MinusLiteral, Quoted as QuotedLiteral, True as TrueLiteral, False as FalseLiteral}
 use Rattle.slicc_ast.specs.declared.tree.name.Name.{Name}
-use Rattle.slicc_ast.specs.Outline.{Parts, none, is_allowed, are_allowed}
+use Rattle.slicc_ast.specs.Outline.{Parts, none}
 use Rattle.slicc_ast.specs.Names.{star, is_loose, balanced as balanced_parts, balanced_part, balanced_row, balanced_list}
 use Rattle.slicc_ast.specs.Declarations.{pair, pair_value, pair_list, pairs as pairs_parts, formal, more_formals, formal_list, formals as formals_parts, optional_name}
 use Rattle.slicc_ast.specs.Machines.{literal}
-use Rattle.grammar_rows.specs.Grammar.{Row, Rows}
-use Rattle.grammar_rows.specs.Grammar.Row.{done, form, maybe, many}
+use Rattle.grammar_rows.specs.Grammar.{Row}
+use Rattle.grammar_rows.specs.Grammar.Row.{done, many}
 use Rattle.grammar_rows.specs.Grammar.Rows.{next}
-use Rattle.grammar_rows.proofs.Building.Builds.{one, alternative, again, enough, on}
+use Rattle.grammar_rows.proofs.Building.Builds.{one, alternative, on}
 use Rattle.slicc_grammar.specs.Form.{Form}
 use Rattle.slicc_grammar.proofs.LeadingParts.{loose}
-use Rattle.slicc_grammar.proofs.Shapes.{◌▸◌, Made, Step, plain, value, begin, close, Makes, of, at, name, sign, comma, optional, more_pairs, pairs, formals_part, balanced}
+use Rattle.slicc_grammar.proofs.Shapes.{◌▸◌, Step, value, close, of, at, name, sign, comma, optional, more_pairs, pairs, formals_part, balanced}
 use Rattle.slicc_grammar.proofs.Making.{Forms, Closes, Place, Behind, marked, any_name, closed, closed_last, then_token, then_name, then_type, then_form, then_node, where_allowed, then_on, then_alternative, then_present, then_absent, then_again, then_enough, by_node}
 
 -- balanced parts, up to the end of the node that they are

@@ -12,8 +12,8 @@ use Rattle.slicc_ast.specs.declared.tree.statement.Block.{Block}
 use Rattle.slicc_ast.specs.declared.tree.statement.PrintWord.TheVariants.{Dprintf, AppendTransitionComment}
 use Rattle.slicc_ast.specs.declared.tree.statement.If.{If, If', Held-If-otherwise, None', Some', Row_of-ElseIf, end_of-ElseIf, more_of-ElseIf}
 use Rattle.slicc_ast.specs.declared.tree.statement.Stmt.{Stmt, Declare, Assign, Evaluate, Return, If as IfStmt, Peek', Enqueue', StallAndWait, CheckAllocate, Error, Assert, Print, Row_of-Stmt, end_of-Stmt, more_of-Stmt}
-use Rattle.slicc_ast.specs.Outline.{Outline, node, Parts, none, part, is_allowed, are_allowed, shape_of}
-use Rattle.slicc_ast.specs.Names.{sign as sign_parts, word as word_parts}
+use Rattle.slicc_ast.specs.Outline.{node, Parts, none, part, is_allowed, are_allowed}
+use Rattle.slicc_ast.specs.Names.{sign as sign_parts}
 use Rattle.slicc_ast.specs.Expressions.{expr}
 use Rattle.slicc_ast.specs.Statements.{stmt, if_outline, else_if_row, else_part, stmt_row, stmt_list, block_end}
 use Rattle.grammar_rows.specs.Grammar.{Row, Rows}
@@ -21,9 +21,9 @@ use Rattle.grammar_rows.specs.Grammar.Row.{done, form, maybe, many}
 use Rattle.grammar_rows.specs.Grammar.Rows.{next}
 use Rattle.grammar_rows.proofs.Building.Builds.{one, alternative, on}
 use Rattle.slicc_grammar.specs.Form.{Form}
-use Rattle.slicc_grammar.proofs.Shapes.{◌▸◌, Made, Mark, Step, mark, marked_by, Makes, of, at, close, named, name, word, sign, optional, front, name_ends, operators_to, end_of_statement}
+use Rattle.slicc_grammar.proofs.Shapes.{◌▸◌, Made, Mark, Step, mark, marked_by, Makes, of, at, close, name, word, sign, front, operators_to, end_of_statement}
 use Rattle.slicc_grammar.proofs.Making.{spelled_in, Forms, Closes, Place, Behind, closed_last, then_token, then_name, then_type, then_form, then_on, then_alternative, then_present, then_absent, then_again, then_enough, by_node}
-use Rattle.slicc_grammar.proofs.MakingExpressions.{begins_with_name, expr_reads, expression_forms, from_its_start}
+use Rattle.slicc_grammar.proofs.MakingExpressions.{begins_with_name, expression_forms, from_its_start}
 use Rattle.slicc_grammar.proofs.MakingParts.{then_pairs, then_balanced}
 
 -- an expression and what is behind it, from its start

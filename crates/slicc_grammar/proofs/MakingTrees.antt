@@ -2,10 +2,9 @@
 use Rattle.std.proofs.Common.{◌≡◌, ℕ, ◌==◌, Bool, true, false, not, ◌||◌, cond, List, [], ◌∷◌, length, Option, Some, None, refl, ◌⊎◌, inl, inr, codes}
 use Rattle.std.specs.Str.{bytes_eq}
 use Rattle.std.proofs.lemmas.Bool.{and_parts, not-true, false≢true, cond_both}
-use Rattle.slicc_ast.specs.declared.tree.token.TokenKind.{TokenKind}
 use Rattle.slicc_ast.specs.declared.tree.token.TokenKind.TheVariants.{End}
 use Rattle.slicc_ast.specs.declared.tree.token.Word.TheVariants.{Protocol}
-use Rattle.slicc_ast.specs.declared.tree.token.Sign.TheVariants.{OpenBrace, CloseBrace, OpenParenthesis, CloseParenthesis, Semicolon, Colon, Comma}
+use Rattle.slicc_ast.specs.declared.tree.token.Sign.TheVariants.{OpenBrace, CloseBrace, OpenParenthesis, CloseParenthesis, Semicolon, Comma}
 use Rattle.slicc_ast.specs.declared.tree.declaration.Enumeration.{Enumeration}
 use Rattle.slicc_ast.specs.declared.tree.declaration.Function.{Function}
 use Rattle.slicc_ast.specs.declared.tree.declaration.Function.TheVariants.{Plain, Skipped as SkippedFunction}
@@ -40,21 +39,21 @@ use Rattle.slicc_ast.specs.declared.tree.span.Span.{Span}
 use Rattle.slicc_ast.specs.declared.tree.statement.Block.{Block}
 use Rattle.slicc_ast.specs.Outline.{node, Parts, none, part, provided, is_allowed, are_allowed, shape_of}
 use Rattle.slicc_ast.specs.Names.{sign as sign_parts, star, name as name_parts, type_name, balanced as balanced_parts}
-use Rattle.slicc_ast.specs.Declarations.{pair, pair_list, pairs as pairs_parts, is_skipped, skipped, symbol_list, enumeration, state_list, states, member, member_list, structure}
+use Rattle.slicc_ast.specs.Declarations.{pair, pair_list, pairs as pairs_parts, is_skipped, symbol_list, enumeration, state_list, states, member, member_list, structure}
 use Rattle.slicc_ast.specs.Machines.{out_port, in_port, action, more_names, name_list, names as names_parts, next_parts, action_list, transition, function_body, function, object, decl, literal_parts, parameter, parameter_list, decl_list, type_parts, machine}
 use Rattle.slicc_ast.specs.Trees.{item, item_list, protocol_parts, tree_parts, tree}
 use Rattle.grammar_rows.specs.Kinds.{has}
-use Rattle.grammar_rows.specs.Grammar.{Row, Rows}
-use Rattle.grammar_rows.specs.Grammar.Row.{done, form, maybe, many}
+use Rattle.grammar_rows.specs.Grammar.{Row}
+use Rattle.grammar_rows.specs.Grammar.Row.{done, many}
 use Rattle.grammar_rows.specs.Grammar.Rows.{end, next}
 use Rattle.grammar_rows.proofs.Building.Builds.{ended, one, alternative, present, absent, on}
 use Rattle.slicc_grammar.specs.Form.{Form}
 use Rattle.slicc_grammar.specs.TokenKinds.{end_of_text, name_kind, machine_type, functional_name, other_name}
 use Rattle.slicc_grammar.proofs.LeadingParts.{plain_name_is_one}
 use Rattle.slicc_grammar.proofs.LeadingTrees.{skipped_is_one}
-use Rattle.slicc_grammar.proofs.Shapes.{◌▸◌, Made, start, opened, with_token, with_part, Step, Makes, of, at, begin, close, name, name_of, sign, word, comma, colon, semicolon, assign, string, optional, repeated, more_pairs, pairs, port_head}
+use Rattle.slicc_grammar.proofs.Shapes.{◌▸◌, start, opened, with_token, with_part, Step, Makes, of, at, begin, close, name, sign, word, comma, colon, semicolon, assign, string, optional, repeated, more_pairs, pairs, port_head}
 use Rattle.slicc_grammar.proofs.Making.{spelled_in, marked, any_name, a_name, Forms, Closes, Place, Behind, closed, closed_last, then_token, then_name_of, then_name, then_type, then_form, then_node, where_allowed, then_on, then_alternative, then_present, then_absent, then_again, then_enough, by_node, by_form}
-use Rattle.slicc_grammar.proofs.MakingParts.{pair_forms, then_pair_list, then_pairs, then_star, then_formals, then_balanced, literal_forms, value_closes}
+use Rattle.slicc_grammar.proofs.MakingParts.{then_pair_list, then_pairs, then_star, then_formals, then_balanced, literal_forms, value_closes}
 use Rattle.slicc_grammar.proofs.MakingStatements.{whole_block_forms}
 
 -- enumerations, states and structures
@@ -293,7 +292,7 @@ machine_forms m =
 
 -- files
 item_forms : (i : Item) → Forms Form.item (item i)
-item_forms (Include name span) = by_node 0 refl (then_token refl (then_token refl (then_token refl closed_last)))
+item_forms (Include text span) = by_node 0 refl (then_token refl (then_token refl (then_token refl closed_last)))
 item_forms (EnumerationItem e) = by_form 1 refl (enumeration_forms e)
 item_forms (StructureItem s) = by_form 2 refl (structure_forms s)
 item_forms (MachineItem m) = by_form 3 refl (machine_forms m)

@@ -2,7 +2,7 @@
 -- that are ended, with a mark where a node begins that isn't. The table below is that of the reader, with marks among its
 -- parts that end a node, or begin one at what has been read last, as an operator does with the operand on its left. It has
 -- every tree's list of tokens, and may have others, so it says nothing of the language.
-use Rattle.std.specs.Prelude.{ℕ, zero, suc, Bool, true, false, List, [], ◌∷◌, ◌++◌}
+use Rattle.std.specs.Prelude.{ℕ, zero, suc, Bool, true, false, List, [], ◌∷◌}
 use Rattle.slicc_ast.specs.declared.tree.token.TokenKind.{TokenKind}
 use Rattle.slicc_ast.specs.declared.tree.token.Word.{Word}
 use Rattle.slicc_ast.specs.declared.tree.token.Sign.{Sign}
