@@ -13,4 +13,5 @@ pub mod Joining
 pub mod InARow
 pub mod Rewriting
 pub mod Translating
+pub mod Completing
 pub mod SameStops

@@ -15,3 +15,4 @@ pub mod MakingParts
 pub mod MakingStatements
 pub mod MakingTrees
 pub mod OneTree
+pub mod Lists

@@ -1,12 +1,12 @@
 // What holds of the grammar. These functions do nothing: their contracts are the laws.
-ghost use Rattle.std.specs.Prelude.{◌≡◌, ℕ, true, List, [], ◌∷◌, ◌++◌, map};
+ghost use Rattle.std.specs.Prelude.{◌≡◌, ◌↔◌, ℕ, true, List, [], ◌∷◌, ◌++◌, map};
 ghost use Rattle.std.specs.List.{Contains};
 ghost use Rattle.grammar_rows.specs.Choices.{choices_of};
 ghost use Rattle.grammar_rows.specs.Faults.{IsFirstFault, IsWithin, Stop};
 ghost use Rattle.grammar_rows.specs.Faults.Stop.{Passed};
 ghost use Rattle.grammar_rows.specs.Grammar.Row.{done, form};
 ghost use Rattle.grammar_rows.specs.Grammar.Rows.{end};
-ghost use Rattle.grammar_rows.specs.Matches.{Derives, Extent, Matches};
+ghost use Rattle.grammar_rows.specs.Matches.{Derives, Extent, IsViable, Matches};
 ghost use Rattle.grammar_rows.specs.Predictive.{IsPredictive, is_predictive};
 ghost use Rattle.grammar_rows.specs.Reader.{Fails, Passes};
 ghost use Rattle.grammar_rows.specs.Same.{HaveSameLists};
@@ -56,4 +56,11 @@ pub fn tokens_spell_one_tree()
     ensures file { (t u : TreeRecord) → is_allowed (tree t) ≡ true → is_allowed (tree u) ≡ true → kinds_of (tree t) ≡ kinds_of (tree u) → shape_of (tree t) ≡ shape_of (tree u) }
     ensures block { (b c : BlockRecord) → is_allowed (block_outline b) ≡ true → is_allowed (block_outline c) ≡ true → kinds_of (block_outline b) ≡ kinds_of (block_outline c) → shape_of (block_outline b) ≡ shape_of (block_outline c) }
     ensures expression { (e f : ExprRecord) → is_allowed (expr e) ≡ true → is_allowed (expr f) ≡ true → kinds_of (expr e) ≡ kinds_of (expr f) → shape_of (expr e) ≡ shape_of (expr f) }
+{}
+
+/// Each form of the written grammar has a list of tokens. So a list is viable for a form exactly where it is the front of a
+/// list of the form: what begins a file so far is the start of some file.
+pub fn every_form_has_a_list()
+    ensures lists { (n : FormOfGrammar) → (tokens : List ℕ) × Derives written (form n done) end tokens }
+    ensures viable { (n : FormOfGrammar) (tokens : List ℕ) → IsViable written n tokens ↔ ((rest : List ℕ) × Derives written (form n done) end (tokens ++ rest)) }
 {}
