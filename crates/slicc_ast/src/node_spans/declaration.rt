@@ -30,7 +30,6 @@ impl Spanned for Pair {
 }
 
 /// Adds the spans of attributes.
-#[tactic(auto, using(crate::proofs::SpansOfParts::pair_list_spans))]
 pub fn add_pairs(spans: &mut Seq<Span>, p: &Pairs) -> Result<(), NoMemory>
     ensures { OnOk result (spans.new ≡ spans.old ++ p.now.span ∷ spans_in (pair_list p.now.items.items)) }
 {
@@ -52,7 +51,6 @@ impl Spanned for Formal {
 }
 
 /// Adds the spans of formals.
-#[tactic(auto, using(crate::proofs::SpansOfParts::formal_list_spans))]
 pub fn add_formals(spans: &mut Seq<Span>, f: &Formals) -> Result<(), NoMemory>
     ensures { OnOk result (spans.new ≡ spans.old ++ f.now.span ∷ spans_in (formal_list f.now.items.items)) }
 {
@@ -85,7 +83,6 @@ impl Spanned for Symbol {
 impl Spanned for Enumeration {
     ghost spans_at = { λ e. spans_of (enumeration e) };
 
-    #[tactic(auto, using(crate::proofs::SpansOfParts::symbol_list_spans))]
     fn add_to(&self, spans: &mut Seq<Span>) -> Result<(), NoMemory> {
         spans.push(self.span)?;
         spans.push(self.name.span)?;
@@ -108,7 +105,6 @@ impl Spanned for State {
 impl Spanned for States {
     ghost spans_at = { λ s. spans_of (states s) };
 
-    #[tactic(auto, using(crate::proofs::SpansOfParts::state_list_spans))]
     fn add_to(&self, spans: &mut Seq<Span>) -> Result<(), NoMemory> {
         spans.push(self.span)?;
         spans.push(self.name.span)?;
@@ -154,7 +150,6 @@ impl Spanned for Member {
 impl Spanned for Structure {
     ghost spans_at = { λ s. spans_of (structure s) };
 
-    #[tactic(auto, using(crate::proofs::SpansOfParts::member_list_spans))]
     fn add_to(&self, spans: &mut Seq<Span>) -> Result<(), NoMemory> {
         spans.push(self.span)?;
         spans.push(self.name.span)?;

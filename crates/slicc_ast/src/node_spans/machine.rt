@@ -57,7 +57,6 @@ impl Spanned for Action {
     }
 }
 
-#[tactic(auto, using(crate::proofs::SpansOfParts::name_list_spans))]
 fn add_names(spans: &mut Seq<Span>, n: &Names) -> Result<(), NoMemory>
     ensures { OnOk result (spans.new ≡ spans.old ++ spans_in (names n.now none)) }
 {
@@ -82,7 +81,6 @@ fn add_next(spans: &mut Seq<Span>, next: &Option<Name>) -> Result<(), NoMemory>
 impl Spanned for Transition {
     ghost spans_at = { λ t. spans_of (transition t) };
 
-    #[tactic(auto, using(crate::proofs::SpansOfParts::action_list_spans))]
     fn add_to(&self, spans: &mut Seq<Span>) -> Result<(), NoMemory> {
         spans.push(self.span)?;
         add_names(spans, &self.states)?;
@@ -179,7 +177,6 @@ impl Spanned for Parameter {
 impl Spanned for Machine {
     ghost spans_at = { λ m. spans_of (machine m) };
 
-    #[tactic(auto, using(crate::proofs::SpansOfParts::parameter_list_spans, crate::proofs::SpansOfParts::decl_list_spans))]
     fn add_to(&self, spans: &mut Seq<Span>) -> Result<(), NoMemory> {
         spans.push(self.span)?;
         spans.push(self.name.span)?;
