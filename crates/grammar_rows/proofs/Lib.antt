@@ -7,9 +7,11 @@ pub mod Carried
 pub mod FirstFault
 pub mod Fronts
 pub mod OneChoice
+pub mod Building
 pub mod Steps
 pub mod Joining
 pub mod InARow
 pub mod Rewriting
 pub mod Translating
+pub mod Completing
 pub mod SameStops

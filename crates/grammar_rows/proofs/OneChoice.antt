@@ -17,7 +17,7 @@ use Rattle.grammar_rows.proofs.FirstFault.{form_sound}
 
 module _ {F : Type 0} (g : Grammar F) (predictive : IsPredictive g) where
   -- two alternatives that match one list are at one place
-  one_place : (n : F) (i j : ℕ) (chosen actual row : Row F) (rows : Rows F) (tokens : List ℕ) (a b : ℕ) → IsSound g (form n row) rows → slice_get (g.alternatives n) i ≡ Some chosen → slice_get (g.alternatives n) j ≡ Some actual → Matches g Whole chosen (next row rows) tokens a → Matches g Whole actual (next row rows) tokens b → i ≡ j
+  pub one_place : (n : F) (i j : ℕ) (chosen actual row : Row F) (rows : Rows F) (tokens : List ℕ) (a b : ℕ) → IsSound g (form n row) rows → slice_get (g.alternatives n) i ≡ Some chosen → slice_get (g.alternatives n) j ≡ Some actual → Matches g Whole chosen (next row rows) tokens a → Matches g Whole actual (next row rows) tokens b → i ≡ j
   one_place n i j chosen actual row rows [] a b sound at also m k = one_empty g predictive n i j chosen actual at also (nullable_of g predictive m).0 (nullable_of g predictive k).0
   one_place n i j chosen actual row rows (kind ∷ tokens) a b sound at also m k =
       let left : Starts g chosen (next row rows) kind = starts_of g predictive m in

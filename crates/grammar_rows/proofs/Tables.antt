@@ -17,7 +17,7 @@ and_four x y z u all = let p = and_parts (x && y && z) u all in let q = and_thre
 pub and_five : (x y z u v : Bool) → x && y && z && u && v ≡ true → (x ≡ true) × (y ≡ true) × (z ≡ true) × (u ≡ true) × (v ≡ true)
 and_five x y z u v all = let p = and_parts (x && y && z && u) v all in let q = and_four x y z u p.0 in (q.0, q.1, q.2, q.3, p.1)
 
-all_at : {X : Type 0} (test : X → Bool) (xs : List X) (place : ℕ) (x : X) → list_all test xs ≡ true → slice_get xs place ≡ Some x → test x ≡ true
+pub all_at : {X : Type 0} (test : X → Bool) (xs : List X) (place : ℕ) (x : X) → list_all test xs ≡ true → slice_get xs place ≡ Some x → test x ≡ true
 all_at {X} test [] place x all at = absurd (let no : ◌≡◌ {A = Option X} None (Some x) = at in grind arith)
 all_at test (y ∷ ys) zero x all at = subst (λ z. test z ≡ true) (same_Some y x at) (and_parts (test y) (list_all test ys) all).0
 all_at test (y ∷ ys) (suc place) x all at = all_at test ys place x (and_parts (test y) (list_all test ys) all).1 at

@@ -10,3 +10,4 @@ pub mod Declarations
 pub mod Statements
 pub mod Machines
 pub mod Trees
+pub mod Spans

@@ -8,11 +8,13 @@
 mod body;
 mod machine;
 mod named;
+mod node_spans;
 mod token;
 pub mod tree;
 
 pub use body::{Dequeue, If, Peek, Trigger};
 pub use machine::{Action, Event, Events, InPort, Machine, State, States, Transition};
 pub use named::Named;
+pub use node_spans::spans;
 pub use ruby_base::{NoMemory, Seq, Text};
 pub use token::{Sign, Token};

@@ -108,7 +108,7 @@ of_postfix tokens leads =
     (λ le. leads)
 
 -- how far the operands of an operator are above unary expressions
-abbrev depth_of : Operator → ℕ
+abbrev pub depth_of : Operator → ℕ
 depth_of Times = 0
 depth_of Plus = 1
 depth_of Minus = 1
@@ -121,7 +121,7 @@ depth_of Unequal = 3
 depth_of And = 4
 depth_of Or = 5
 
-depth_level : (op : Operator) → depth_of op + operator_level op ≡ 6
+pub depth_level : (op : Operator) → depth_of op + operator_level op ≡ 6
 depth_level Times = refl
 depth_level Plus = refl
 depth_level Minus = refl
@@ -147,7 +147,7 @@ sign_at Unequal = refl
 sign_at And = refl
 sign_at Or = refl
 
-some_level : (op : Operator) → 1 ≤ operator_level op
+pub some_level : (op : Operator) → 1 ≤ operator_level op
 some_level Times = omega arith
 some_level Plus = omega arith
 some_level Minus = omega arith
@@ -191,7 +191,7 @@ of_binary op low high left right le lt l r =
           | inr more ↦ subst (λ v. LeadsOn v (λ rest. left (sign_kind (operator_sign op) ∷ right rest))) (let same : d ≡ e = omega arith in same) own
         ]
 
-level_is_some : (e : Expr) → 1 ≤ level_of e
+pub level_is_some : (e : Expr) → 1 ≤ level_of e
 level_is_some (Binary' op p left q right span) = some_level op
 level_is_some (Not' p operand span) = omega arith
 level_is_some (Negate' p operand span) = omega arith

@@ -96,7 +96,7 @@ sign_is_loose Not loose = refl
 sign_is_loose And loose = refl
 sign_is_loose Or loose = refl
 
-loose : (kind : TokenKind) → is_loose kind ≡ true → has unbracketed (kind_of kind) ≡ true
+pub loose : (kind : TokenKind) → is_loose kind ≡ true → has unbracketed (kind_of kind) ≡ true
 loose (Named text) is =
     cond_both (bytes_eq text (codes "MachineType")) machine_type
     (cond (bytes_eq text (codes "functionalRead") || bytes_eq text (codes "functionalWrite")) functional_name other_name)

@@ -62,7 +62,7 @@ use Rattle.slicc_grammar.proofs.LeadingStatements.{whole_block_leads}
 same_bytes : (xs ys : List ℕ) → bytes_eq xs ys ≡ true → xs ≡ ys
 same_bytes xs ys same = (bytes_eq-Decides xs ys).0 same
 
-skipped_is_one : (text : List ℕ) → bytes_eq text (codes "functionalRead") || bytes_eq text (codes "functionalWrite") ≡ true → has (functional_name ∷ []) (name_kind text) ≡ true
+pub skipped_is_one : (text : List ℕ) → bytes_eq text (codes "functionalRead") || bytes_eq text (codes "functionalWrite") ≡ true → has (functional_name ∷ []) (name_kind text) ≡ true
 skipped_is_one text is =
     elim (or_cases (bytes_eq text (codes "functionalRead")) (bytes_eq text (codes "functionalWrite")) is) [
       | inl reads ↦ subst (λ t. has (functional_name ∷ []) (name_kind t) ≡ true) (sym (same_bytes text (codes "functionalRead") reads)) refl

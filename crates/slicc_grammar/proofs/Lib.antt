@@ -2,8 +2,17 @@ pub mod Decided
 pub mod IntoTable
 pub mod IntoWritten
 pub mod Readers
+pub mod Shapes
+pub mod ShapesDecided
 pub mod Followed
 pub mod Leading
 pub mod LeadingParts
 pub mod LeadingStatements
 pub mod LeadingTrees
+pub mod Making
+pub mod MakingExpressions
+pub mod MakingParts
+pub mod MakingStatements
+pub mod MakingTrees
+pub mod OneTree
+pub mod Lists

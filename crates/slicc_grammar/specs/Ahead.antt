@@ -108,7 +108,3 @@ further_of_form opening = further_of_unary
 further_of_form suffix = sign_kind OpenParenthesis ∷ []
 further_of_form arguments = sign_kind Comma ∷ further_of_expression
 further_of_form _ = []
-
--- the kinds of the tokens that open a nesting wherever they stand
-abbrev pub openers : List ℕ
-openers = map sign_kind (OpenBrace ∷ OpenParenthesis ∷ OpenBracket ∷ Not ∷ [])

@@ -7,8 +7,8 @@ use Rattle.grammar_rows.specs.Grammar.{Row, Grammar}
 use Rattle.slicc_grammar.specs.Form.{Form}
 use Rattle.slicc_grammar.specs.Form.Form.{enumeration, states, structure, member, member_end, machine, machine_name, parameter, declaration, declaration_end, out_port, in_port, action, transition, transition_end, names, block, statement, statement_end, conditional, otherwise, expression, conjunction, equality, order, sum, unary, postfix, primary, constant, opening, name_end, suffix}
 use Rattle.slicc_grammar.specs.Parts.{◌▸◌, rows, of, optional, repeated, word, words, name, type, string, comma, colon, semicolon, assign, parentheses, braces, pairs, balanced, products, sums, orders, equalities, conjunctions, operators}
-use Rattle.slicc_grammar.specs.Ahead.{first_of_form, further_of_form, openers}
-use Rattle.slicc_grammar.specs.Written.{written_rows}
+use Rattle.slicc_grammar.specs.Ahead.{first_of_form, further_of_form}
+use Rattle.slicc_grammar.specs.Written.{written_rows, openers}
 
 abbrev pub table_rows : Form → List (Row Form)
 table_rows member = rows (type ▸ of member_end ∷ [])

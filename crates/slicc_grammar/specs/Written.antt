@@ -3,15 +3,16 @@
 -- tokens in which brackets close in pairs. In a machine's head the name before the colon is `MachineType`. Operators of
 -- one level group to the left, which is no matter of lists of tokens. A nesting is what a bracket, brace, parenthesis or
 -- unary operator opens.
-use Rattle.std.specs.Prelude.{false, List, [], ◌∷◌}
+use Rattle.std.specs.Prelude.{ℕ, false, List, [], ◌∷◌, map}
 use Rattle.slicc_ast.specs.declared.tree.token.Word.TheVariants.{Protocol, Include, Machine, Enumeration, StateDeclaration, Structure, InPort, OutPort, Action, Transition, Peek, Enqueue, StallAndWait, CheckAllocate, If, Else, Return, True, False, Ood, New, IsValid, IsInvalid, StaticCast, Error, Assert, Dprintf, AppendTransitionComment}
-use Rattle.slicc_ast.specs.declared.tree.token.Sign.TheVariants.{Dot, Equals, Minus, Not}
+use Rattle.slicc_ast.specs.declared.tree.token.Sign.TheVariants.{OpenBrace, OpenParenthesis, OpenBracket, Dot, Equals, Minus, Not}
 use Rattle.grammar_rows.specs.Grammar.{Row, Grammar}
 use Rattle.slicc_grammar.specs.Form.{Form}
 use Rattle.slicc_grammar.specs.Form.Form.{file, item, enumeration, states, structure, member, pair, machine, parameter, literal, declaration, body, out_port, in_port, action, transition, names, formals, formal, block, statement, conditional, expression, conjunction, equality, order, sum, product, unary, postfix, primary, constant, suffix, arguments, balanced_part}
+use Rattle.slicc_grammar.specs.TokenKinds.{sign_kind}
 use Rattle.slicc_grammar.specs.Parts.{◌▸◌, rows, of, optional, repeated, word, sign, words, name, type, plain_name, skipped_name, machine_type_name, value, number_token, string, end_token, comma, colon, semicolon, assign, star, parentheses, braces, brackets, prefixed, pairs, balanced, products, sums, orders, equalities, conjunctions, disjunctions, unbracketed}
 use Rattle.slicc_grammar.specs.Ends.{rows_behind}
-use Rattle.slicc_grammar.specs.Ahead.{first_of_form, further_of_form, openers}
+use Rattle.slicc_grammar.specs.Ahead.{first_of_form, further_of_form}
 
 abbrev pub written_rows : Form → List (Row Form)
 written_rows file = rows (optional (word Protocol ▸ string ▸ semicolon) ▸ of item ▸ repeated (of item) ▸ end_token ∷ [])
@@ -154,6 +155,11 @@ written_rows balanced_part =
     ∷ braces balanced
     ∷ [])
 written_rows form = rows_behind form
+
+-- The kinds of the tokens that open a nesting wherever they stand, viable or not. A minus sign opens one only where an
+-- operand may stand, so it isn't among them.
+abbrev pub openers : List ℕ
+openers = map sign_kind (OpenBrace ∷ OpenParenthesis ∷ OpenBracket ∷ Not ∷ [])
 
 -- the tokens that forms begin with stand here as well, though in this table one token ahead doesn't decide
 abbrev pub written : Grammar Form

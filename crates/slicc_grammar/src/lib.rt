@@ -5,5 +5,6 @@
 mod laws;
 
 pub use laws::{
-    one_token_ahead_decides, reader_keeps_to_the_written_grammar, trees_are_of_the_written_grammar,
+    every_form_has_a_list, one_token_ahead_decides, reader_keeps_to_the_written_grammar,
+    tokens_spell_one_tree, trees_are_of_the_written_grammar,
 };

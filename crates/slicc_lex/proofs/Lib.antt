@@ -13,3 +13,4 @@ pub mod FoundGaps
 pub mod Lexed
 pub mod OnePiece
 pub mod OneReading
+pub mod OneTree

@@ -6,7 +6,7 @@ use Rattle.slicc_ast.specs.declared.tree.span.Span.{Span}
 use Rattle.slicc_ast.specs.declared.tree.token.TokenKind.{TokenKind}
 use Rattle.slicc_ast.specs.declared.tree.token.TokenKind.TheVariants.{End}
 use Rattle.slicc_ast.specs.declared.tree.item.Tree.{Tree}
-use Rattle.slicc_ast.specs.Outline.{Outline, kinds_of, kinds_in, is_allowed, are_allowed, IsPlaced, ArePlaced}
+use Rattle.slicc_ast.specs.Outline.{Outline, kinds_of, kinds_in, is_allowed, are_allowed, covering, IsPlaced, ArePlaced}
 use Rattle.slicc_ast.specs.Trees.{tree_parts}
 use Rattle.slicc_lex.specs.declared.token.Token.{Token}
 
@@ -23,7 +23,7 @@ pub record SpellsNode (outline : Outline) (tokens : List Token) : Type 0 where
   pub placed : IsPlaced outline (token_spans tokens)
 
 -- The tokens of a file spell its tree: the parts in a row, and then the end token. The tree itself goes from byte 0 to
--- the place of the end token, in that one's file.
+-- the place of the end token, and is in the first token's file as each other node is.
 pub record Spells (t : Tree) (tokens : List Token) : Type 0 where
   pub written : List Token
   pub end : Token
@@ -32,4 +32,4 @@ pub record Spells (t : Tree) (tokens : List Token) : Type 0 where
   pub kinds : token_kinds written ≡ kinds_in (tree_parts t)
   pub allowed : IsTrue (are_allowed (tree_parts t))
   pub placed : ArePlaced (tree_parts t) (token_spans written)
-  pub span : t.span ≡ record { file = end.span.file; start = 0; end = end.span.start }
+  pub span : t.span ≡ record { file = (covering (token_spans tokens)).file; start = 0; end = end.span.start }

@@ -1,0 +1,3 @@
+pub mod SpansOfLists
+pub mod SpansOfParts
+pub mod SpansOfStatements

@@ -1,0 +1,62 @@
+-- The spans in a list of a tree's parts are those of its items, one after another.
+use Rattle.std.proofs.Common.{◌≡◌, List, [], ◌∷◌, ◌++◌, ℕ, ◌≤◌, length, take, refl, sym, subst, ap, ◌∙◌, append_assoc, append-nil}
+use Rattle.std.proofs.lemmas.List.{take_all}
+use Rattle.std.specs.List.{flat_map}
+use Rattle.slicc_ast.specs.declared.tree.expression.Expr.{Expr, Row_of-Expr, end_of-Expr, more_of-Expr, items-the_row-Expr}
+use Rattle.slicc_ast.specs.Outline.{spans_of, spans_in}
+use Rattle.slicc_ast.specs.Expressions.{expr, args_row, more_args_row, args_list, more_args}
+
+more_args_spans : (es : List Expr) → spans_in (more_args es) ≡ flat_map (λ e. spans_of (expr e)) es
+more_args_spans [] = refl
+more_args_spans (first ∷ others) = ap (λ spans. spans_of (expr first) ++ spans) (more_args_spans others)
+
+pub args_spans : (es : List Expr) → spans_in (args_list es) ≡ flat_map (λ e. spans_of (expr e)) es
+args_spans [] = refl
+args_spans (first ∷ others) = ap (λ spans. spans_of (expr first) ++ spans) (more_args_spans others)
+
+more_args_row_spans : {n : _} (row : Row_of-Expr n) → spans_in (more_args_row row) ≡ spans_in (more_args (items-the_row-Expr n row))
+more_args_row_spans end_of-Expr = refl
+more_args_row_spans (more_of-Expr first row) = ap (λ spans. spans_of (expr first) ++ spans) (more_args_row_spans row)
+
+pub args_row_spans : (n : _) (row : Row_of-Expr n) → spans_in (args_row row) ≡ spans_in (args_list (items-the_row-Expr n row))
+args_row_spans n end_of-Expr = refl
+args_row_spans n (more_of-Expr first row) = ap (λ spans. spans_of (expr first) ++ spans) (more_args_row_spans row)
+
+-- spans that were added one after another
+pub added_two : {X : Type 0} (old : List X) (a b : X) (more one two new all : List X) → one ≡ old ++ a ∷ [] → two ≡ one ++ b ∷ [] → new ≡ two ++ more → all ≡ a ∷ b ∷ more → new ≡ old ++ all
+added_two old a b more one two new all p q r s =
+    r ∙ ap (λ xs. xs ++ more) (q ∙ ap (λ xs. xs ++ b ∷ []) p ∙ append_assoc old (a ∷ []) (b ∷ [])) ∙ append_assoc old (a ∷ b ∷ []) more ∙ ap (λ xs. old ++ xs) (sym s)
+
+pub added_around : {X : Type 0} (old : List X) (a b : X) (inner more one two three new all : List X) → one ≡ old ++ a ∷ [] → two ≡ one ++ inner → three ≡ two ++ b ∷ [] → new ≡ three ++ more → all ≡ a ∷ inner ++ b ∷ more → new ≡ old ++ all
+added_around old a b inner more one two three new all p i q r s =
+    r ∙ ap (λ xs. xs ++ more) (q ∙ ap (λ xs. xs ++ b ∷ []) (i ∙ ap (λ xs. xs ++ inner) p)) ∙ append_assoc ((old ++ a ∷ []) ++ inner) (b ∷ []) more
+    ∙ append_assoc (old ++ a ∷ []) inner (b ∷ more) ∙ append_assoc old (a ∷ []) (inner ++ b ∷ more) ∙ ap (λ xs. old ++ xs) (sym s)
+
+pub added_all : {X Y : Type 0} (f : Y → List X) (old : List X) (a : X) (items lent : List Y) (i : ℕ) (one new inside : List X) → one ≡ old ++ a ∷ [] → lent ≡ items → length lent ≤ i → new ≡ one ++ flat_map f (take i items) → inside ≡ flat_map f items → new ≡ old ++ a ∷ inside
+added_all f old a items lent i one new inside p same le r s =
+    r ∙ ap (λ xs. one ++ flat_map f xs) (take_all i items (subst (λ xs. length xs ≤ i) same le)) ∙ ap (λ xs. xs ++ flat_map f items) p
+    ∙ append_assoc old (a ∷ []) (flat_map f items) ∙ ap (λ xs. old ++ a ∷ xs) (sym s)
+
+pub added_list : {X Y : Type 0} (f : Y → List X) (old : List X) (a : X) (items lent : List Y) (one new inside : List X) → one ≡ old ++ a ∷ [] → lent ≡ items → new ≡ one ++ flat_map f lent → inside ≡ flat_map f items → new ≡ old ++ a ∷ inside
+added_list f old a items lent one new inside p same n i =
+    n ∙ ap (λ xs. one ++ flat_map f xs) same ∙ ap (λ xs. xs ++ flat_map f items) p ∙ append_assoc old (a ∷ []) (flat_map f items) ∙ ap (λ xs. old ++ a ∷ xs) (sym i)
+
+pub added_ended_list : {X Y : Type 0} (f : Y → List X) (old : List X) (a : X) (items lent : List Y) (one new inside : List X) → one ≡ old ++ a ∷ [] → lent ≡ items → new ≡ one ++ flat_map f lent → inside ≡ flat_map f items ++ [] → new ≡ old ++ a ∷ inside
+added_ended_list f old a items lent one new inside p same n i =
+    added_list f old a items lent one new inside p same n (i ∙ append-nil (flat_map f items))
+
+-- a node, a name, attributes and a list
+pub added_declaration : {X Y : Type 0} (f : Y → List X) (old : List X) (a b c : X) (pairs : List X) (items lent : List Y) (one two three new inside : List X) → one ≡ old ++ a ∷ [] → two ≡ one ++ b ∷ [] → three ≡ two ++ c ∷ pairs → lent ≡ items → new ≡ three ++ flat_map f lent → inside ≡ flat_map f items ++ [] → new ≡ old ++ (a ∷ b ∷ c ∷ (pairs ++ inside))
+added_declaration f old a b c pairs items lent one two three new inside p q r same n i =
+    n ∙ ap (λ xs. three ++ flat_map f xs) same ∙ ap (λ xs. three ++ xs) (sym (append-nil (flat_map f items)) ∙ sym i)
+    ∙ ap (λ xs. xs ++ inside) (r ∙ ap (λ xs. xs ++ c ∷ pairs) (q ∙ ap (λ xs. xs ++ b ∷ []) p ∙ append_assoc old (a ∷ []) (b ∷ [])) ∙ append_assoc old (a ∷ b ∷ []) (c ∷ pairs))
+    ∙ append_assoc old (a ∷ b ∷ c ∷ pairs) inside
+
+-- a list at the end, after what was added before it
+pub added_behind : {X Y : Type 0} (f : Y → List X) (old before : List X) (items lent : List Y) (one new all : List X) → one ≡ old ++ before → lent ≡ items → new ≡ one ++ flat_map f lent → all ≡ before ++ flat_map f items → new ≡ old ++ all
+added_behind f old before items lent one new all p same n i =
+    n ∙ ap (λ xs. one ++ flat_map f xs) same ∙ ap (λ xs. xs ++ flat_map f items) p ∙ append_assoc old before (flat_map f items) ∙ ap (λ xs. old ++ xs) (sym i)
+
+-- two steps as one
+pub added_both : {X : Type 0} (old a b one two : List X) → one ≡ old ++ a → two ≡ one ++ b → two ≡ old ++ (a ++ b)
+added_both old a b one two p q = q ∙ ap (λ xs. xs ++ b) p ∙ append_assoc old a b

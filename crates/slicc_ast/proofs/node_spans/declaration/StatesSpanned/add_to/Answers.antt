@@ -1,0 +1,12 @@
+use Rattle.std.proofs.lemmas.Result.{on_ok_weaker}
+use Rattle.slicc_ast.specs.Spans.{state_spans}
+use Rattle.slicc_ast.proofs.SpansOfLists.{added_declaration}
+use Rattle.slicc_ast.proofs.SpansOfParts.{state_list_spans}
+use Rattle.slicc_ast.proofs.node_spans.declaration.StatesSpanned.add_to.Goals as goal
+
+pub returns : goal.returns
+returns c =
+    on_ok_weaker c.add_each.result
+    (λ after. added_declaration state_spans c.args.spans.now c.args.self.now.span c.args.self.now.name.span c.args.self.now.pairs.span _ c.args.self.now.members.items c.deref.result.now _ _ _ _ _
+    c.in_ok-push.ensures.ok c.in_ok-push-2.ensures.ok c.in_ok-add_pairs.ensures c.deref.ensures.value after (state_list_spans c.args.self.now.members.items _))
+    c.add_each.ensures

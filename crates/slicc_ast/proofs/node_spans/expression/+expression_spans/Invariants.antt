@@ -1,0 +1,8 @@
+use Rattle.std.proofs.Common.{◌≡◌, ◌++◌, take}
+use Rattle.std.specs.List.{flat_map}
+use Rattle.slicc_ast.specs.Expressions.{expr}
+use Rattle.slicc_ast.specs.Outline.{spans_of}
+use Rattle.slicc_ast.proofs.node_spans.expression.+expression_spans.Given as goal
+
+abbrev pub invariant-add_args-loop-item : goal.invariant-add_args-loop-item
+invariant-add_args-loop-item l = l.spans ≡ l.initial.spans ++ flat_map (λ e. spans_of (expr e)) (take l.item-index l.a.items.items)
