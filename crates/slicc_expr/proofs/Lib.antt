@@ -1,0 +1,4 @@
+pub mod Rows
+pub mod Refusals
+pub mod Spans
+pub mod Parts
