@@ -26,6 +26,9 @@ use Rattle.slicc_expr.specs.Reading.IsNode.{spelled}
 use Rattle.slicc_expr.specs.Reading.AreParts.{nothing, one, inside, allowed}
 use Rattle.slicc_expr.specs.Reading.Refuses.{no_memory, stops}
 use Rattle.slicc_grammar.proofs.Leading.{name_is_one}
+use Rattle.slicc_ast.specs.declared.tree.expression.Expr.{Expr}
+use Rattle.slicc_ast.specs.Expressions.{expr}
+use Rattle.slicc_expr.specs.Levels.{IsSimple, simple_kinds}
 use Rattle.slicc_expr.proofs.Refusals.{deep_at}
 use Rattle.slicc_expr.proofs.Spans.{token_covers}
 
@@ -163,3 +166,15 @@ pub string_read : (room : ℕ) (text found : List ℕ) (t : Token) (tokens left 
 string_read room text found t tokens left is same copy =
     let kind : t.kind ≡ Quoted text = subst (λ bytes. t.kind ≡ Quoted bytes) (sym copy) same in
     token_read room (quoted ∷ []) (Quoted text) t tokens left is (subst (λ k. has (quoted ∷ []) (kind_of k) ≡ true) (sym kind) refl) kind
+
+-- what a node's outline is, by the tree that it is of
+pub as_tree : {room : ℕ} {g : Part} {o : Outline} {start tokens left : List Token} (outline : Outline)
+    → outline ≡ o → IsRead room g o start tokens left → IsRead room g outline start tokens left
+as_tree {room = room} {g = g} {start = start} {tokens = tokens} {left = left} outline is r = subst (λ x. IsRead room g x start tokens left) (sym is) r
+
+-- a primary expression of one token
+pub simple_read : (room : ℕ) (e : Expr) (t : Token) (tokens left : List Token)
+    → tokens ≡ t ∷ left → IsSimple t.kind t.span e
+    → IsRead room (token_row simple_kinds) (expr e) tokens tokens left
+simple_read room e t tokens left is simple =
+    as_tree (expr e) simple.spells (as_node t.span (token_covers t tokens left is) (token_read room simple_kinds t.kind t tokens left is simple.is_kind refl))
