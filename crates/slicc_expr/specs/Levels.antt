@@ -1,7 +1,8 @@
 -- The levels of operators between two operands, by their height: how far their operands are above unary expressions.
 use Rattle.std.specs.Prelude.{◌≡◌, ◌+◌, ◌≤◌, true, ℕ, zero, suc, List, [], ◌∷◌}
 use Rattle.slicc_ast.specs.declared.tree.token.TokenKind.TheVariants.{Sign as SignOf}
-use Rattle.slicc_ast.specs.declared.tree.token.Sign.TheVariants.{OpenParenthesis, Star, Plus, Minus, Less, Greater, LessOrEqual, GreaterOrEqual, Equal, Unequal, And, Or}
+use Rattle.slicc_ast.specs.declared.tree.token.Sign.{Sign}
+use Rattle.slicc_ast.specs.declared.tree.token.Sign.TheVariants.{OpenParenthesis, CloseParenthesis, Star, Plus, Minus, Less, Greater, LessOrEqual, GreaterOrEqual, Equal, Unequal, And, Or}
 use Rattle.slicc_ast.specs.declared.tree.expression.Operator.{Operator}
 use Rattle.slicc_ast.specs.declared.tree.token.TokenKind.{TokenKind}
 use Rattle.slicc_ast.specs.declared.tree.token.Word.TheVariants.{True, False, Ood, New, IsValid, IsInvalid, StaticCast}
@@ -9,11 +10,11 @@ use Rattle.slicc_ast.specs.declared.tree.span.Span.{Span}
 use Rattle.slicc_ast.specs.declared.tree.expression.Expr.{Expr}
 use Rattle.slicc_ast.specs.Expressions.{expr, level_of, operator_level, operator_sign}
 use Rattle.slicc_ast.specs.Outline.{node, none, token}
-use Rattle.grammar_rows.specs.Grammar.Row.{done, form, many, token as token_row}
+use Rattle.grammar_rows.specs.Grammar.Row.{done, form, many, nested, token as token_row}
 use Rattle.grammar_rows.specs.Kinds.{has}
 use Rattle.slicc_grammar.specs.Form.{Form}
 use Rattle.slicc_grammar.specs.Form.Form.{unary, product, sum, order, equality, conjunction, expression}
-use Rattle.slicc_grammar.specs.Parts.{Part}
+use Rattle.slicc_grammar.specs.Parts.{Part, ◌▸◌, of, optional, comma, sign, string, type, word}
 use Rattle.slicc_grammar.specs.TokenKinds.{kind_of, number, sign_kind, word_kind}
 use Rattle.slicc_lex.specs.declared.token.Token.{Token}
 
@@ -65,3 +66,20 @@ pub record IsSimple (kind : TokenKind) (span : Span) (e : Expr) : Type 0 where
   pub spells : expr e ≡ node span (token kind none)
   pub tight : 8 ≤ level_of e
   pub is_kind : has simple_kinds (kind_of kind) ≡ true
+
+-- what is inside the parentheses of a cast
+abbrev pub mode_part : Part
+mode_part = optional (string ▸ comma)
+
+abbrev pub cast_head : Part
+cast_head = type ▸ comma ▸ mode_part
+
+abbrev pub cast_inner : Part
+cast_inner = cast_head ▸ of Form.expression ▸ sign CloseParenthesis
+
+abbrev pub cast_part : Part
+cast_part = word StaticCast ▸ nested (sign_kind OpenParenthesis ∷ []) (cast_inner done)
+
+-- what is between an opening sign and a closing one
+abbrev pub enclosed : Sign → Sign → Part → Part
+enclosed opener closer inside = nested (sign_kind opener ∷ []) ((inside ▸ sign closer) done)

@@ -39,7 +39,7 @@ fn is_number(tokens: &[Token]) -> bool
 }
 
 /// Whether the first token is an expression by itself and isn't a name.
-fn begins_simple(tokens: &[Token]) -> bool
+pub fn begins_simple(tokens: &[Token]) -> bool
     ensures { result ≡ is_ahead simple_kinds (symbols tokens.now) }
 {
     is_number(tokens)
