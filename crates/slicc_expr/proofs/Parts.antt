@@ -1,11 +1,12 @@
 -- How parts of the grammar are read one behind another, and how a fault in one is a fault of those around it.
-use Rattle.std.proofs.Common.{◌≡◌, ℕ, zero, suc, ◌-◌, ◌<◌, ◌≤◌, true, false, Bool, cond, List, [], ◌∷◌, ◌++◌, length, refl, sym, subst, ap, Some, arith}
+use Rattle.std.proofs.Common.{◌≡◌, ℕ, zero, suc, ◌-◌, ◌<◌, ◌≤◌, true, false, Bool, cond, List, [], ◌∷◌, ◌++◌, length, refl, sym, subst, ap, Some, IsTrue, arith, Result, Ok, Err}
+use Rattle.std.specs.Result.{MatchResult}
 use Rattle.std.specs.List.{slice_get}
 use Rattle.slicc_ast.specs.declared.tree.span.Span.{Span}
 use Rattle.std.proofs.lemmas.Bool.{false≢true}
 use Rattle.slicc_ast.specs.declared.tree.token.TokenKind.{TokenKind}
 use Rattle.slicc_ast.specs.declared.tree.token.TokenKind.TheVariants.{Name as Named, Quoted}
-use Rattle.slicc_ast.specs.Outline.{Outline, node, Parts, none, token, part}
+use Rattle.slicc_ast.specs.Outline.{Outline, node, Parts, none, token, part, provided}
 use Rattle.grammar_rows.specs.Faults.{Stop}
 use Rattle.grammar_rows.specs.Faults.Stop.{Bad, Deep, Short}
 use Rattle.grammar_rows.specs.Grammar.{Row, first_of}
@@ -26,9 +27,6 @@ use Rattle.slicc_expr.specs.Reading.IsNode.{spelled}
 use Rattle.slicc_expr.specs.Reading.AreParts.{nothing, one, inside, allowed}
 use Rattle.slicc_expr.specs.Reading.Refuses.{no_memory, stops}
 use Rattle.slicc_grammar.proofs.Leading.{name_is_one}
-use Rattle.slicc_ast.specs.declared.tree.expression.Expr.{Expr}
-use Rattle.slicc_ast.specs.Expressions.{expr}
-use Rattle.slicc_expr.specs.Levels.{IsSimple, simple_kinds}
 use Rattle.slicc_expr.proofs.Refusals.{deep_at}
 use Rattle.slicc_expr.proofs.Spans.{token_covers}
 
@@ -91,6 +89,12 @@ pub as_node : {room : ℕ} {g : Part} {parts : Parts → Parts} {tokens left : L
     → Covers span tokens left → AreRead room g parts tokens left → IsRead room g (node span (parts none)) tokens tokens left
 as_node span covers r = record { passes = r.passes; is_node = spelled covers (r.spells none _ nothing); within = r.within }
 
+-- a node that begins with another one, which was read before, and goes on with the parts that were read
+pub as_node_behind : {room : ℕ} {g : Part} {first : Outline} {parts : Parts → Parts} {start tokens left : List Token} (span : Span)
+    → Covers span start left → IsNode first start tokens → AreRead room g parts tokens left
+    → IsRead room g (node span (part first (parts none))) start tokens left
+as_node_behind span covers first r = record { passes = r.passes; is_node = spelled covers (inside first (r.spells none _ nothing)); within = r.within }
+
 -- one part behind another
 infixr 70 ◌then◌
 pub ◌then◌ : {room : ℕ} {g h : Part} {p q : Parts → Parts} {tokens between left : List Token}
@@ -135,21 +139,6 @@ pub at_no_alternative : {room : ℕ} {tokens : List Token} {fault : Fault} (n : 
     → Refuses room (form n) tokens fault
 at_no_alternative {room = room} {tokens = tokens} n ahead is = stops (refusal table room (symbols tokens)) (fails_unformed table room n (symbols tokens) refl ahead) is
 
--- a nesting that is opened, with what is inside it
-pub opened : {room : ℕ} {g : Part} {p : Parts → Parts} {behind left : List Token} (kinds : List ℕ) (kind : TokenKind) (t : Token) (tokens : List Token)
-    → 0 < room → tokens ≡ t ∷ behind → has kinds (kind_of t.kind) ≡ true → t.kind ≡ kind
-    → AreRead (room - 1) g p behind left → AreRead room (nested kinds (g done)) (λ others. token kind (p others)) tokens left
-opened {room = zero} kinds kind t tokens some is has_kind same r = absurd (omega arith)
-opened {room = suc room} {g = g} {p = p} {behind = behind} {left = left} kinds kind t tokens some is has_kind same r =
-    let smaller : suc room - 1 ≡ room = omega arith in
-    let read : AreRead room g p behind left = subst (λ n. AreRead n g p behind left) smaller r in
-    subst (λ ts. AreRead (suc room) (nested kinds (g done)) (λ others. token kind (p others)) ts left) (sym is)
-    (record {
-      passes = passes_nested table room kinds g (kind_of t.kind) (symbols behind) (symbols left) has_kind read.passes;
-      spells = λ others end m. one same (read.spells others end m);
-      within = (let one : length left ≤ length behind = read.within in omega arith);
-    })
-
 -- a name, where it is read and copied
 pub name_read : (room : ℕ) (text found : List ℕ) (t : Token) (tokens left : List Token)
     → tokens ≡ t ∷ left → t.kind ≡ Named found → text ≡ found
@@ -172,9 +161,43 @@ pub as_tree : {room : ℕ} {g : Part} {o : Outline} {start tokens left : List To
     → outline ≡ o → IsRead room g o start tokens left → IsRead room g outline start tokens left
 as_tree {room = room} {g = g} {start = start} {tokens = tokens} {left = left} outline is r = subst (λ x. IsRead room g x start tokens left) (sym is) r
 
--- a primary expression of one token
-pub simple_read : (room : ℕ) (e : Expr) (t : Token) (tokens left : List Token)
-    → tokens ≡ t ∷ left → IsSimple t.kind t.span e
-    → IsRead room (token_row simple_kinds) (expr e) tokens tokens left
-simple_read room e t tokens left is simple =
-    as_tree (expr e) simple.spells (as_node t.span (token_covers t tokens left is) (token_read room simple_kinds t.kind t tokens left is simple.is_kind refl))
+-- a result that is a call's own
+pub match_map : {A E : Type 0} {P R : A → Type 0} {Q S : E → Type 0} (r : Result A E)
+    → MatchResult r P Q → ((a : A) → P a → R a) → ((e : E) → Q e → S e) → MatchResult r R S
+match_map (Ok a) m ok err = ok a m
+match_map (Err e) m ok err = err e m
+
+-- parts under a condition that holds
+pub allow : {room : ℕ} {g : Part} {p : Parts → Parts} {tokens left : List Token} {condition : Bool}
+    → IsTrue condition → AreRead room g p tokens left → AreRead room g (λ others. provided condition (p others)) tokens left
+allow holds r = record { passes = r.passes; spells = λ others end m. allowed holds (r.spells others end m); within = r.within }
+
+-- a node that begins with another one under a condition
+pub as_allowed_behind : {room : ℕ} {g : Part} {first : Outline} {parts : Parts → Parts} {start tokens left : List Token} {condition : Bool} (span : Span)
+    → Covers span start left → IsTrue condition → IsNode first start tokens → AreRead room g parts tokens left
+    → IsRead room g (node span (provided condition (part first (parts none)))) start tokens left
+as_allowed_behind span covers holds first r =
+    record { passes = r.passes; is_node = spelled covers (allowed holds (inside first (r.spells none _ nothing))); within = r.within }
+
+-- a node, where its form is read by one of its alternatives
+pub of_alternative : {room : ℕ} {g : Part} {o : Outline} {start tokens left : List Token} (n : Form) (place : ℕ)
+    → slice_get (table.alternatives n) place ≡ Some (g done) → is_ahead (first_of table (g done)) (symbols tokens) ≡ true
+    → IsRead room g o start tokens left → IsRead room (form n) o start tokens left
+of_alternative {room = room} {g = g} {tokens = tokens} {left = left} n place at ahead r =
+    record { passes = passes_form table room n place g (symbols tokens) (symbols left) at ahead r.passes; is_node = r.is_node; within = r.within }
+
+-- a node that goes on with what is read behind another one
+pub read_behind : {room : ℕ} {g h : Part} {first o : Outline} {start other tokens between left : List Token}
+    → IsRead room g first other tokens between → IsRead room h o start between left → IsRead room (g ▸ h) o start tokens left
+read_behind {room = room} {g = g} {h = h} {tokens = tokens} {between = between} {left = left} a b =
+    record {
+      passes = passes_both table room g h (symbols tokens) (symbols between) (symbols left) a.passes b.passes;
+      is_node = b.is_node;
+      within = (let x : length left ≤ length between = b.within in let y : length between ≤ length tokens = a.within in omega arith);
+    }
+
+pub behind_read : {room : ℕ} {g h : Part} {first : Outline} {start tokens between : List Token} {fault : Fault}
+    → IsRead room g first start tokens between → Refuses room h between fault → Refuses room (g ▸ h) tokens fault
+behind_read a no_memory = no_memory
+behind_read {room = room} {g = g} {h = h} {tokens = tokens} {between = between} a (stops stop fails is) =
+    stops stop (fails_second table room g h (symbols tokens) (symbols between) stop a.passes fails) is

@@ -50,6 +50,13 @@ pub record AreRead (room : ℕ) (g : Part) (parts : Parts → Parts) (tokens lef
   pub spells : (others : Parts) (end : List Token) → AreParts others left end → AreParts (parts others) tokens end
   pub within : length left ≤ length tokens
 
+-- What is left of a part, from the first tokens on, is another part from the later ones on: a loop that reads a repeated part
+-- has come so far.
+pub record Leads (room : ℕ) (g : Part) (tokens : List Token) (h : Part) (now : List Token) : Type 0 where
+  pub passes : (left : List ℕ) → Passes table room h (symbols now) left → Passes table room g (symbols tokens) left
+  pub fails : (stop : Stop) → Fails table room h (symbols now) stop → Fails table room g (symbols tokens) stop
+  pub within : length now ≤ length tokens
+
 -- the first token is this sign, which opens a nesting, and one more is allowed
 pub record IsOpened (room : ℕ) (opener : Sign) (tokens left : List Token) : Type 0 where
   pub first : Token

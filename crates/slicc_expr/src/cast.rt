@@ -1,7 +1,7 @@
 //! What stands before the expression of a cast.
 ghost use Rattle.std.specs.Prelude.{◌≡◌, ◌<◌, length, IfOk, MatchResult};
 ghost use Rattle.slicc_ast.specs.Expressions.{mode_parts};
-ghost use Rattle.slicc_ast.specs.Names.{sign as sign_of, type_name};
+ghost use Rattle.slicc_ast.specs.Names.{sign as sign_of, type_name as type_of};
 ghost use Rattle.slicc_ast.specs.Outline.{token};
 ghost use Rattle.slicc_ast.specs.declared.tree.token.Sign.TheVariants.{Comma as CommaSign};
 ghost use Rattle.slicc_ast.specs.declared.tree.token.TokenKind.TheVariants.{Quoted as QuotedKind};
@@ -10,7 +10,7 @@ ghost use Rattle.slicc_expr.specs.Reading.{AreRead, Refuses};
 ghost use Rattle.slicc_expr.specs.Levels.{cast_head as cast_head_part, mode_part};
 
 use crate::fault::Fault;
-use crate::leaf::{is_string, name, sign, string, type_of};
+use crate::leaf::{is_string, sign, string, type_name};
 use slicc_ast::Text;
 use slicc_ast::tree::{Sign, TypeName};
 use slicc_lex::Token;
@@ -22,12 +22,12 @@ pub fn cast_target(
     room: u32,
     tokens: &[Token],
 ) -> Result<(TypeName, &[Token]), Fault>
-    ensures read { MatchResult result (λ read. AreRead room (type_part ▸ comma) (λ others. type_name read.0 (sign_of CommaSign others)) tokens.now read.1.now) (Refuses room (type_part ▸ comma) tokens.now) }
+    ensures read { MatchResult result (λ read. AreRead room (type_part ▸ comma) (λ others. type_of read.0 (sign_of CommaSign others)) tokens.now read.1.now) (Refuses room (type_part ▸ comma) tokens.now) }
     ensures shorter { IfOk result (λ read. length read.1.now < length tokens.now) }
 {
-    match name(alloc, room, tokens) {
+    match type_name(alloc, room, tokens) {
         Ok((target, behind)) => match sign(room, Sign::Comma, behind) {
-            Ok(left) => Ok((type_of(target), left)),
+            Ok(left) => Ok((target, left)),
             Err(fault) => Err(fault),
         },
         Err(fault) => Err(fault),
@@ -70,7 +70,7 @@ pub fn cast_head(
     room: u32,
     tokens: &[Token],
 ) -> Result<(TypeName, Option<Text>, &[Token]), Fault>
-    ensures read { MatchResult result (λ read. AreRead room cast_head_part (λ others. type_name read.0 (sign_of CommaSign (mode_parts read.1 others))) tokens.now read.2.now) (Refuses room cast_head_part tokens.now) }
+    ensures read { MatchResult result (λ read. AreRead room cast_head_part (λ others. type_of read.0 (sign_of CommaSign (mode_parts read.1 others))) tokens.now read.2.now) (Refuses room cast_head_part tokens.now) }
     ensures shorter { IfOk result (λ read. length read.2.now < length tokens.now) }
 {
     match cast_target(alloc, room, tokens) {

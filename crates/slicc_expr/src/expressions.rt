@@ -17,8 +17,8 @@ ghost use Rattle.slicc_lex.specs.Syntax.{symbols};
 ghost use Rattle.slicc_expr.specs.Levels.{cast_inner, cast_part, chains, enclosed as enclosed_part, form_at};
 ghost use Rattle.slicc_expr.specs.Reading.{AreRead, IsNode, IsRead, Refuses};
 
-use crate::fault::Fault;
 use crate::cast::cast_head;
+use crate::fault::Fault;
 use crate::leaf::{is_name, is_sign, is_word, name, open, refuse, sign, span, word};
 use crate::nodes;
 use crate::operator_signs::operator;
@@ -27,6 +27,16 @@ use slicc_ast::Text;
 use slicc_ast::tree::{Args, Expr, Name, Sign, TypeName, Word};
 use slicc_lex::Token;
 use std::alloc::Global;
+
+/// A node that was made, with the tokens that are left behind it.
+macro_rules! with_left {
+    ($made:expr, $left:expr) => {
+        match $made {
+            Ok(made) => Ok((made, $left)),
+            Err(_) => Err(Fault::NoMemory),
+        }
+    };
+}
 
 /// How many levels of operators there are.
 pub const LEVELS: u8 = 6;
@@ -41,12 +51,7 @@ pub fn expression(alloc: Global, room: u32, tokens: &[Token]) -> Result<(Expr, &
 
 /// An expression with operators of the levels below this height alone.
 #[cycle(expression)]
-fn level(
-    alloc: Global,
-    room: u32,
-    height: u8,
-    tokens: &[Token],
-) -> Result<(Expr, &[Token]), Fault>
+fn level(alloc: Global, room: u32, height: u8, tokens: &[Token]) -> Result<(Expr, &[Token]), Fault>
     requires { height ≤ 6 }
     ensures read { MatchResult result (λ read. IsRead room (of (form_at height)) (expr read.0) tokens.now tokens.now read.1.now) (Refuses room (of (form_at height)) tokens.now) }
     ensures tight { IfOk result (λ read. 7 ≤ height + level_of read.0) }
@@ -80,12 +85,15 @@ pub fn operators<'t>(
     let mut joined = first;
     let mut left = tokens;
     let mut at: u8 = 0;
-    while at < height {
+    'levels: while at < height {
         match operator(at, left) {
             None => at += 1,
             Some((operator, behind)) => match level(alloc, room, at, behind) {
                 Ok((operand, after)) => {
-                    joined = nodes::binary(alloc, operator, joined, operand, span(start, after))?;
+                    match nodes::binary(alloc, operator, joined, operand, span(start, after)) {
+                        Ok(more) => joined = more,
+                        Err(_) => return Err(Fault::NoMemory),
+                    }
                     left = after;
                 }
                 Err(fault) => return Err(fault),
@@ -140,7 +148,7 @@ fn not(alloc: Global, room: u32, tokens: &[Token]) -> Result<(Expr, &[Token]), F
 {
     match open(room, Sign::Not, tokens) {
         Ok(behind) => match level(alloc, room - 1, 0, behind) {
-            Ok((operand, left)) => Ok((nodes::not(alloc, operand, span(tokens, left))?, left)),
+            Ok((operand, left)) => with_left!(nodes::not(alloc, operand, span(tokens, left)), left),
             Err(fault) => Err(fault),
         },
         Err(fault) => Err(fault),
@@ -156,7 +164,10 @@ fn negate(alloc: Global, room: u32, tokens: &[Token]) -> Result<(Expr, &[Token])
 {
     match open(room, Sign::Minus, tokens) {
         Ok(behind) => match level(alloc, room - 1, 0, behind) {
-            Ok((operand, left)) => Ok((nodes::negate(alloc, operand, span(tokens, left))?, left)),
+            Ok((operand, left)) => with_left!(
+                nodes::negate(alloc, operand, span(tokens, left)),
+                left
+            ),
             Err(fault) => Err(fault),
         },
         Err(fault) => Err(fault),
@@ -235,18 +246,18 @@ fn argument_list(alloc: Global, room: u32, tokens: &[Token]) -> Result<(Args, &[
         return Ok((Args { items, span }, tokens));
     }
     let mut left = match level(alloc, room, LEVELS, tokens) {
-        Ok((first, after)) => {
-            items.push(first)?;
-            after
-        }
+        Ok((first, after)) => match items.push(first) {
+            Ok(()) => after,
+            Err(_) => return Err(Fault::NoMemory),
+        },
         Err(fault) => return Err(fault),
     };
-    while is_sign(Sign::Comma, left) {
+    'commas: while is_sign(Sign::Comma, left) {
         match next_argument(alloc, room, left) {
-            Ok((next, after)) => {
-                items.push(next)?;
-                left = after;
-            }
+            Ok((next, after)) => match items.push(next) {
+                Ok(()) => left = after,
+                Err(_) => return Err(Fault::NoMemory),
+            },
             Err(fault) => return Err(fault),
         }
     }
@@ -282,7 +293,7 @@ fn suffixes<'t>(
 {
     let mut value = value;
     let mut left = tokens;
-    while is_sign(Sign::Dot, left) || is_sign(Sign::OpenBracket, left) {
+    'more: while begins_suffix(left) {
         match suffix(alloc, room, start, value, left) {
             Ok((more, after)) => {
                 value = more;
@@ -292,6 +303,12 @@ fn suffixes<'t>(
         }
     }
     Ok((value, left))
+}
+
+fn begins_suffix(tokens: &[Token]) -> bool
+    ensures { result ≡ is_ahead (sign_kind Dot ∷ sign_kind OpenBracket ∷ []) (symbols tokens.now) }
+{
+    is_sign(Sign::Dot, tokens) || is_sign(Sign::OpenBracket, tokens)
 }
 
 /// A member, a call or an index behind a primary expression.
@@ -314,10 +331,7 @@ fn suffix<'t>(
         return dotted(alloc, room, start, value, tokens);
     }
     match enclosed(alloc, room, Sign::OpenBracket, Sign::CloseBracket, tokens) {
-        Ok((key, left)) => Ok((
-            nodes::index(alloc, value, key, span(start, left))?,
-            left,
-        )),
+        Ok((key, left)) => with_left!(nodes::index(alloc, value, key, span(start, left)), left),
         Err(fault) => Err(fault),
     }
 }
@@ -340,14 +354,16 @@ fn dotted<'t>(
     match dot_name(alloc, room, tokens) {
         Ok((name, behind)) => {
             if !is_sign(Sign::OpenParenthesis, behind) {
-                let made = nodes::field(alloc, value, name, span(start, behind))?;
-                return Ok((made, behind));
+                return with_left!(
+                    nodes::field(alloc, value, name, span(start, behind)),
+                    behind
+                );
             }
             match arguments(alloc, room, behind) {
-                Ok((arguments, left)) => {
-                    let made = nodes::method(alloc, value, name, arguments, span(start, left))?;
-                    Ok((made, left))
-                }
+                Ok((arguments, left)) => with_left!(
+                    nodes::method(alloc, value, name, arguments, span(start, left)),
+                    left
+                ),
                 Err(fault) => Err(fault),
             }
         }
@@ -458,7 +474,7 @@ fn group(alloc: Global, room: u32, tokens: &[Token]) -> Result<(Expr, &[Token]),
         Sign::CloseParenthesis,
         tokens,
     ) {
-        Ok((inner, left)) => Ok((nodes::group(alloc, inner, span(tokens, left))?, left)),
+        Ok((inner, left)) => with_left!(nodes::group(alloc, inner, span(tokens, left)), left),
         Err(fault) => Err(fault),
     }
 }
@@ -473,12 +489,15 @@ fn validity(alloc: Global, room: u32, tokens: &[Token]) -> Result<(Expr, &[Token
 {
     if is_word(Word::IsValid, tokens) {
         return match tested(alloc, room, Word::IsValid, tokens) {
-            Ok((value, left)) => Ok((nodes::is_valid(alloc, value, span(tokens, left))?, left)),
+            Ok((value, left)) => with_left!(
+                nodes::is_valid(alloc, value, span(tokens, left)),
+                left
+            ),
             Err(fault) => Err(fault),
         };
     }
     match tested(alloc, room, Word::IsInvalid, tokens) {
-        Ok((value, left)) => Ok((nodes::is_invalid(alloc, value, span(tokens, left))?, left)),
+        Ok((value, left)) => with_left!(nodes::is_invalid(alloc, value, span(tokens, left)), left),
         Err(fault) => Err(fault),
     }
 }
@@ -516,10 +535,10 @@ fn cast(alloc: Global, room: u32, tokens: &[Token]) -> Result<(Expr, &[Token]), 
     match word(room, Word::StaticCast, tokens) {
         Ok(behind) => match open(room, Sign::OpenParenthesis, behind) {
             Ok(inner) => match converted(alloc, room - 1, inner) {
-                Ok((target, mode, value, left)) => {
-                    let made = nodes::cast(alloc, target, mode, value, span(tokens, left))?;
-                    Ok((made, left))
-                }
+                Ok((target, mode, value, left)) => with_left!(
+                    nodes::cast(alloc, target, mode, value, span(tokens, left)),
+                    left
+                ),
                 Err(fault) => Err(fault),
             },
             Err(fault) => Err(fault),

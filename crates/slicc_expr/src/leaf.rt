@@ -9,7 +9,7 @@ ghost use Rattle.slicc_ast.specs.Outline.{last_end, node, none, token};
 ghost use Rattle.slicc_ast.specs.declared.tree.token.TokenKind.TheVariants.{Name as Named, Quoted as QuotedKind, Sign as SignOf, Word as WordOf};
 ghost use Rattle.slicc_grammar.specs.Ahead.{openers};
 ghost use Rattle.slicc_grammar.specs.Form.{Form};
-ghost use Rattle.slicc_grammar.specs.Parts.{name as name_part, names_of, sign as sign_part, string as string_part, word as word_part};
+ghost use Rattle.slicc_grammar.specs.Parts.{name as name_part, names_of, sign as sign_part, string as string_part, type as type_part, word as word_part};
 ghost use Rattle.slicc_grammar.specs.Table.{table};
 ghost use Rattle.slicc_grammar.specs.TokenKinds.{kind_of, quoted, sign_kind, word_kind};
 ghost use Rattle.slicc_lex.specs.Spells.{token_spans};
@@ -180,26 +180,42 @@ pub fn open(room: u32, opener: Sign, tokens: &[Token]) -> Result<&[Token], Fault
     }
 }
 
-/// A name.
-pub fn name(alloc: Global, room: u32, tokens: &[Token]) -> Result<(Name, &[Token]), Fault>
-    ensures read { MatchResult result (λ read. IsRead room name_part (node read.0.span (token (Named read.0.text) none)) tokens.now tokens.now read.1.now) (Refuses room name_part tokens.now) }
-    ensures shorter { IfOk result (λ read. length read.1.now < length tokens.now) }
+/// The text and the place of a name.
+fn name_text(alloc: Global, room: u32, tokens: &[Token]) -> Result<(Text, Span, &[Token]), Fault>
+    ensures read { MatchResult result (λ read. IsRead room name_part (node read.1 (token (Named read.0) none)) tokens.now tokens.now read.2.now) (Refuses room name_part tokens.now) }
+    ensures shorter { IfOk result (λ read. length read.2.now < length tokens.now) }
 {
     let Some((first, left)) = split_first(tokens) else {
         return Err(refuse(room, tokens));
     };
     match name_of(&first.kind) {
         Some(text) => match Seq::copied(alloc, text) {
-            Ok(text) => Ok((
-                Name {
-                    text,
-                    span: first.span,
-                },
-                left,
-            )),
+            Ok(text) => Ok((text, first.span, left)),
             Err(_) => Err(Fault::NoMemory),
         },
         None => Err(refuse(room, tokens)),
+    }
+}
+
+/// A name.
+pub fn name(alloc: Global, room: u32, tokens: &[Token]) -> Result<(Name, &[Token]), Fault>
+    ensures read { MatchResult result (λ read. IsRead room name_part (node read.0.span (token (Named read.0.text) none)) tokens.now tokens.now read.1.now) (Refuses room name_part tokens.now) }
+    ensures shorter { IfOk result (λ read. length read.1.now < length tokens.now) }
+{
+    match name_text(alloc, room, tokens) {
+        Ok((text, span, left)) => Ok((Name { text, span }, left)),
+        Err(fault) => Err(fault),
+    }
+}
+
+/// The name of a type.
+pub fn type_name(alloc: Global, room: u32, tokens: &[Token]) -> Result<(TypeName, &[Token]), Fault>
+    ensures read { MatchResult result (λ read. IsRead room type_part (node read.0.span (token (Named read.0.text) none)) tokens.now tokens.now read.1.now) (Refuses room type_part tokens.now) }
+    ensures shorter { IfOk result (λ read. length read.1.now < length tokens.now) }
+{
+    match name_text(alloc, room, tokens) {
+        Ok((text, span, left)) => Ok((TypeName { text, span }, left)),
+        Err(fault) => Err(fault),
     }
 }
 
@@ -235,17 +251,6 @@ pub fn string(alloc: Global, room: u32, tokens: &[Token]) -> Result<(Text, &[Tok
             Err(_) => Err(Fault::NoMemory),
         },
         None => Err(refuse(room, tokens)),
-    }
-}
-
-/// A name as that of a type.
-pub fn type_of(name: Name) -> TypeName
-    ensures text { result.text ≡ name.text }
-    ensures span { result.span ≡ name.span }
-{
-    TypeName {
-        text: name.text,
-        span: name.span,
     }
 }
 

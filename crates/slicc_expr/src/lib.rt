@@ -13,6 +13,6 @@ pub use expressions::{after_name, expression, opening, operators};
 pub use fault::{Fault, SyntaxFault};
 pub use leaf::{
     is_name, is_sign, is_string, is_word, name, open, refuse, sign, span, split_first, string,
-    type_of, word,
+    type_name, word,
 };
 pub use values::{begins_expression, begins_opening};

@@ -1,6 +1,5 @@
 //! Primary expressions of one or two tokens, and what expressions begin with.
-ghost use Rattle.std.specs.Prelude.{◌≡◌, ◌∷◌, ◌<◌, [], ◌≤◌, false, length, IfOk, MatchOption, MatchResult};
-ghost use Rattle.grammar_rows.specs.Grammar.Row.{token as token_row};
+ghost use Rattle.std.specs.Prelude.{◌≡◌, ◌∷◌, ◌<◌, [], ◌≤◌, false, true, length, IfOk, MatchOption, MatchResult};
 ghost use Rattle.grammar_rows.specs.Kinds.{has, is_ahead};
 ghost use Rattle.slicc_ast.specs.Expressions.{expr, level_of};
 ghost use Rattle.slicc_ast.specs.Names.{word as word_of};
@@ -8,7 +7,8 @@ ghost use Rattle.slicc_ast.specs.Outline.{node, none, token};
 ghost use Rattle.slicc_ast.specs.declared.tree.token.TokenKind.TheVariants.{Word as WordOf};
 ghost use Rattle.slicc_ast.specs.declared.tree.token.Word.TheVariants.{New as NewWord};
 ghost use Rattle.slicc_grammar.specs.Ahead.{first_of_constant, first_of_expression, first_of_opening};
-ghost use Rattle.slicc_grammar.specs.Parts.{◌▸◌, name as name_part, word as word_part};
+ghost use Rattle.slicc_grammar.specs.Parts.{◌▸◌, name as name_part, of, word as word_part};
+ghost use Rattle.slicc_grammar.specs.Form.Form.{constant as constant_form};
 ghost use Rattle.slicc_grammar.specs.TokenKinds.{kind_of, number, word_kind};
 ghost use Rattle.slicc_lex.specs.Syntax.{symbols};
 ghost use Rattle.slicc_expr.specs.Reading.{IsRead, Refuses};
@@ -104,7 +104,8 @@ fn value_of(kind: &TokenKind, span: Span) -> Option<Expr>
 
 /// A number, or a word that stands for a value.
 pub fn simple(room: u32, tokens: &[Token]) -> Result<(Expr, &[Token]), Fault>
-    ensures read { MatchResult result (λ read. IsRead room (token_row simple_kinds) (expr read.0) tokens.now tokens.now read.1.now) (Refuses room (token_row simple_kinds) tokens.now) }
+    requires { is_ahead simple_kinds (symbols tokens.now) ≡ true }
+    ensures read { MatchResult result (λ read. IsRead room (of constant_form) (expr read.0) tokens.now tokens.now read.1.now) (Refuses room (of constant_form) tokens.now) }
     ensures tight { IfOk result (λ read. 8 ≤ level_of read.0) }
     ensures shorter { IfOk result (λ read. length read.1.now < length tokens.now) }
 {

@@ -1,7 +1,7 @@
 use Rattle.slicc_grammar.specs.Parts.{names_of}
 use Rattle.slicc_expr.specs.Reading.Refuses.{no_memory}
 use Rattle.slicc_expr.proofs.Parts.{name_read, other_token_refused, no_token_refused}
-use Rattle.slicc_expr.proofs.leaf.name.Goals as goal
+use Rattle.slicc_expr.proofs.leaf.name_text.Goals as goal
 
 pub returns-in_default-clause-read : goal.returns-in_default-clause-read
 returns-in_default-clause-read c = no_token_refused c.args.room names_of c.args.tokens.now c.refuse.result c.in_default.ensures c.refuse.ensures
