@@ -5,3 +5,6 @@ pub mod Parts
 pub mod Choices
 pub mod Ahead
 pub mod Loops
+pub mod Spelled
+pub mod Endless
+pub mod Border

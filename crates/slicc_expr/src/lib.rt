@@ -7,6 +7,7 @@ mod fault;
 mod leaf;
 mod nodes;
 mod operator_signs;
+mod reading;
 mod values;
 
 pub use expressions::{after_name, expression, opening, operators};
@@ -15,4 +16,5 @@ pub use leaf::{
     is_name, is_sign, is_string, is_word, name, open, refuse, sign, span, split_first, string,
     type_name, word,
 };
+pub use reading::expr;
 pub use values::{begins_expression, begins_opening};
