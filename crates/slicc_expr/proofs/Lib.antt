@@ -4,6 +4,7 @@ pub mod Spans
 pub mod Parts
 pub mod Choices
 pub mod Ahead
+pub mod PairLists
 pub mod Loops
 pub mod Spelled
 pub mod Endless

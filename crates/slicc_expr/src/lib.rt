@@ -1,6 +1,7 @@
 //! Reads tokens as expressions and statements of SLICC, or finds the first token with which they can't go on.
 #![tactic(auto)]
 
+mod attributes;
 mod cast;
 mod expressions;
 mod fault;
@@ -10,6 +11,7 @@ mod operator_signs;
 mod reading;
 mod values;
 
+pub use attributes::{pair, pairs};
 pub use expressions::{after_name, expression, opening, operators};
 pub use fault::{Fault, SyntaxFault};
 pub use leaf::{
