@@ -1,3 +1,5 @@
+ghost use Rattle.std.specs.Prelude.{◌≤◌, length};
+
 use slicc_ast::tree::{Expr, Operator, Span};
 use slicc_expr::SyntaxFault::{Deep, Syntax};
 use slicc_expr::{SyntaxFault, expr};
@@ -193,28 +195,54 @@ fn root(e: &Expr) -> (&'static str, u32) {
     }
 }
 
+/// The expression at the front of a text, and the place behind it.
+fn at_front(alloc: Global, text: &[u8]) -> Option<(Expr, u32)>
+    requires { length text.now ≤ 1000 }
+{
+    match lex(alloc, 0, text) {
+        Ok(tokens) => expr(alloc, &tokens, 0, 0).ok(),
+        Err(_) => None,
+    }
+}
+
+/// The fault of a text from a place on.
+fn fault_from(alloc: Global, text: &[u8], at: u32, depth: u32) -> Option<SyntaxFault>
+    requires size { length text.now ≤ 1000 }
+    requires nesting { depth ≤ 64 }
+{
+    match lex(alloc, 0, text) {
+        Ok(tokens) => {
+            if at as usize >= tokens.len() {
+                return None;
+            }
+            expr(alloc, &tokens, at, depth).err()
+        }
+        Err(_) => None,
+    }
+}
+
 /// Whether the text is read as the row says.
 fn is_read(alloc: Global, row: &(&[u8], u32, &'static str, u32)) -> bool {
-    let Ok(tokens) = lex(alloc, 0, row.0) else {
+    if row.0.len() > 1000 {
         return false;
-    };
-    match expr(alloc, &tokens, 0, 0) {
-        Ok((tree, next)) => {
+    }
+    match at_front(alloc, row.0) {
+        Some((tree, next)) => {
             let (word, start) = root(&tree);
             next == row.1 && word == row.2 && start == row.3
         }
-        Err(_) => false,
+        None => false,
     }
 }
 
 /// Whether the text is refused as the row says.
 fn is_refused(alloc: Global, row: &(&[u8], u32, u32, SyntaxFault)) -> bool {
-    let Ok(tokens) = lex(alloc, 0, row.0) else {
+    if row.0.len() > 1000 || row.2 > 64 {
         return false;
-    };
-    match expr(alloc, &tokens, row.1, row.2) {
-        Ok(_) => false,
-        Err(fault) => fault == row.3,
+    }
+    match fault_from(alloc, row.0, row.1, row.2) {
+        Some(fault) => fault == row.3,
+        None => false,
     }
 }
 

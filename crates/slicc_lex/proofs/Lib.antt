@@ -11,5 +11,6 @@ pub mod FoundStrings
 pub mod FoundSigns
 pub mod FoundGaps
 pub mod Lexed
+pub mod EndedTokens
 pub mod OnePiece
 pub mod OneReading
