@@ -35,7 +35,9 @@ fn value_of(alloc: Global, token: &Token) -> Result<Option<PairValue>, NoMemory>
 
 /// A string, a number or a name.
 fn pair_value(alloc: Global, room: u32, tokens: &[Token]) -> Result<(PairValue, &[Token]), Fault>
-    ensures read { MatchResult result (λ read. AreRead room value (value_parts read.0) tokens.now read.1.now) (Refuses room value tokens.now) }
+    ensures read { MatchResult result
+        (λ read. AreRead room value (value_parts read.0) tokens.now read.1.now)
+        (Refuses room value tokens.now) }
     ensures shorter { IfOk result (λ read. length read.1.now < length tokens.now) }
 {
     let Some((first, left)) = split_first(tokens) else {
@@ -50,7 +52,9 @@ fn pair_value(alloc: Global, room: u32, tokens: &[Token]) -> Result<(PairValue, 
 
 /// `=` and a value.
 fn assigned(alloc: Global, room: u32, tokens: &[Token]) -> Result<(PairValue, &[Token]), Fault>
-    ensures read { MatchResult result (λ read. AreRead room (sign_part Equals ▸ value) (λ others. sign_of Equals (value_parts read.0 others)) tokens.now read.1.now) (Refuses room (sign_part Equals ▸ value) tokens.now) }
+    ensures read { MatchResult result
+        (λ read. AreRead room (sign_part Equals ▸ value) (λ others. sign_of Equals (value_parts read.0 others)) tokens.now read.1.now)
+        (Refuses room (sign_part Equals ▸ value) tokens.now) }
     ensures shorter { IfOk result (λ read. length read.1.now < length tokens.now) }
 {
     match sign(room, Sign::Equals, tokens) {
@@ -61,7 +65,9 @@ fn assigned(alloc: Global, room: u32, tokens: &[Token]) -> Result<(PairValue, &[
 
 /// An attribute: a name with a value, or a string.
 pub fn pair(alloc: Global, room: u32, tokens: &[Token]) -> Result<(Pair, &[Token]), Fault>
-    ensures read { MatchResult result (λ read. IsRead room (of pair_form) (pair_of read.0) tokens.now tokens.now read.1.now) (Refuses room (of pair_form) tokens.now) }
+    ensures read { MatchResult result
+        (λ read. IsRead room (of pair_form) (pair_of read.0) tokens.now tokens.now read.1.now)
+        (Refuses room (of pair_form) tokens.now) }
     ensures shorter { IfOk result (λ read. length read.1.now < length tokens.now) }
 {
     if is_name(tokens) {
@@ -77,7 +83,9 @@ pub fn pair(alloc: Global, room: u32, tokens: &[Token]) -> Result<(Pair, &[Token
 }
 
 fn named_pair(alloc: Global, room: u32, tokens: &[Token]) -> Result<(Pair, &[Token]), Fault>
-    ensures read { MatchResult result (λ read. IsRead room (name_part ▸ sign_part Equals ▸ value) (pair_of read.0) tokens.now tokens.now read.1.now) (Refuses room (name_part ▸ sign_part Equals ▸ value) tokens.now) }
+    ensures read { MatchResult result
+        (λ read. IsRead room (name_part ▸ sign_part Equals ▸ value) (pair_of read.0) tokens.now tokens.now read.1.now)
+        (Refuses room (name_part ▸ sign_part Equals ▸ value) tokens.now) }
     ensures shorter { IfOk result (λ read. length read.1.now < length tokens.now) }
 {
     match name(alloc, room, tokens) {
@@ -94,7 +102,9 @@ fn named_pair(alloc: Global, room: u32, tokens: &[Token]) -> Result<(Pair, &[Tok
 
 /// A comma and an attribute.
 fn next_pair(alloc: Global, room: u32, tokens: &[Token]) -> Result<(Pair, &[Token]), Fault>
-    ensures read { MatchResult result (λ read. AreRead room (comma ▸ of pair_form) (λ others. sign_of Comma (part (pair_of read.0) others)) tokens.now read.1.now) (Refuses room (comma ▸ of pair_form) tokens.now) }
+    ensures read { MatchResult result
+        (λ read. AreRead room (comma ▸ of pair_form) (λ others. sign_of Comma (part (pair_of read.0) others)) tokens.now read.1.now)
+        (Refuses room (comma ▸ of pair_form) tokens.now) }
     ensures shorter { IfOk result (λ read. length read.1.now < length tokens.now) }
 {
     match sign(room, Sign::Comma, tokens) {
@@ -105,7 +115,9 @@ fn next_pair(alloc: Global, room: u32, tokens: &[Token]) -> Result<(Pair, &[Toke
 
 /// Any number of attributes, each behind a comma.
 pub fn pairs(alloc: Global, room: u32, tokens: &[Token]) -> Result<(Pairs, &[Token]), Fault>
-    ensures { MatchResult result (λ read. IsRead room pairs_part (node read.0.span (pair_list read.0.items.items)) tokens.now tokens.now read.1.now) (Refuses room pairs_part tokens.now) }
+    ensures { MatchResult result
+        (λ read. IsRead room pairs_part (node read.0.span (pair_list read.0.items.items)) tokens.now tokens.now read.1.now)
+        (Refuses room pairs_part tokens.now) }
 {
     let mut items = Vec::new(alloc);
     let mut left = tokens;

@@ -22,7 +22,9 @@ pub fn cast_target(
     room: u32,
     tokens: &[Token],
 ) -> Result<(TypeName, &[Token]), Fault>
-    ensures read { MatchResult result (λ read. AreRead room (type_part ▸ comma) (λ others. type_of read.0 (sign_of CommaSign others)) tokens.now read.1.now) (Refuses room (type_part ▸ comma) tokens.now) }
+    ensures read { MatchResult result
+        (λ read. AreRead room (type_part ▸ comma) (λ others. type_of read.0 (sign_of CommaSign others)) tokens.now read.1.now)
+        (Refuses room (type_part ▸ comma) tokens.now) }
     ensures shorter { IfOk result (λ read. length read.1.now < length tokens.now) }
 {
     match type_name(alloc, room, tokens) {
@@ -36,7 +38,9 @@ pub fn cast_target(
 
 /// A string and a comma.
 fn cast_mode(alloc: Global, room: u32, tokens: &[Token]) -> Result<(Text, &[Token]), Fault>
-    ensures { MatchResult result (λ read. AreRead room (string_part ▸ comma) (λ others. token (QuotedKind read.0) (sign_of CommaSign others)) tokens.now read.1.now) (Refuses room (string_part ▸ comma) tokens.now) }
+    ensures { MatchResult result
+        (λ read. AreRead room (string_part ▸ comma) (λ others. token (QuotedKind read.0) (sign_of CommaSign others)) tokens.now read.1.now)
+        (Refuses room (string_part ▸ comma) tokens.now) }
 {
     match string(alloc, room, tokens) {
         Ok((mode, behind)) => match sign(room, Sign::Comma, behind) {
@@ -53,7 +57,9 @@ fn optional_mode(
     room: u32,
     tokens: &[Token],
 ) -> Result<(Option<Text>, &[Token]), Fault>
-    ensures { MatchResult result (λ read. AreRead room mode_part (mode_parts read.0) tokens.now read.1.now) (Refuses room mode_part tokens.now) }
+    ensures { MatchResult result
+        (λ read. AreRead room mode_part (mode_parts read.0) tokens.now read.1.now)
+        (Refuses room mode_part tokens.now) }
 {
     if !is_string(tokens) {
         return Ok((None, tokens));
@@ -70,7 +76,9 @@ pub fn cast_head(
     room: u32,
     tokens: &[Token],
 ) -> Result<(TypeName, Option<Text>, &[Token]), Fault>
-    ensures read { MatchResult result (λ read. AreRead room cast_head_part (λ others. type_of read.0 (sign_of CommaSign (mode_parts read.1 others))) tokens.now read.2.now) (Refuses room cast_head_part tokens.now) }
+    ensures read { MatchResult result
+        (λ read. AreRead room cast_head_part (λ others. type_of read.0 (sign_of CommaSign (mode_parts read.1 others))) tokens.now read.2.now)
+        (Refuses room cast_head_part tokens.now) }
     ensures shorter { IfOk result (λ read. length read.2.now < length tokens.now) }
 {
     match cast_target(alloc, room, tokens) {

@@ -43,7 +43,9 @@ pub const LEVELS: u8 = 6;
 
 /// An expression.
 pub fn expression(alloc: Global, room: u32, tokens: &[Token]) -> Result<(Expr, &[Token]), Fault>
-    ensures read { MatchResult result (λ read. IsRead room (of expression_form) (expr read.0) tokens.now tokens.now read.1.now) (Refuses room (of expression_form) tokens.now) }
+    ensures read { MatchResult result
+        (λ read. IsRead room (of expression_form) (expr read.0) tokens.now tokens.now read.1.now)
+        (Refuses room (of expression_form) tokens.now) }
     ensures shorter { IfOk result (λ read. length read.1.now < length tokens.now) }
 {
     level(alloc, room, LEVELS, tokens)
@@ -53,7 +55,9 @@ pub fn expression(alloc: Global, room: u32, tokens: &[Token]) -> Result<(Expr, &
 #[cycle(expression)]
 fn level(alloc: Global, room: u32, height: u8, tokens: &[Token]) -> Result<(Expr, &[Token]), Fault>
     requires { height ≤ 6 }
-    ensures read { MatchResult result (λ read. IsRead room (of (form_at height)) (expr read.0) tokens.now tokens.now read.1.now) (Refuses room (of (form_at height)) tokens.now) }
+    ensures read { MatchResult result
+        (λ read. IsRead room (of (form_at height)) (expr read.0) tokens.now tokens.now read.1.now)
+        (Refuses room (of (form_at height)) tokens.now) }
     ensures tight { IfOk result (λ read. 7 ≤ height + level_of read.0) }
     ensures shorter { IfOk result (λ read. length read.1.now < length tokens.now) }
 {
@@ -79,7 +83,9 @@ pub fn operators<'t>(
     requires within { height ≤ 6 }
     requires first { IsNode (expr first) start.now tokens.now }
     requires tight { 7 ≤ level_of first }
-    ensures read { MatchResult result (λ read. IsRead room (chains height 0) (expr read.0) start.now tokens.now read.1.now) (Refuses room (chains height 0) tokens.now) }
+    ensures read { MatchResult result
+        (λ read. IsRead room (chains height 0) (expr read.0) start.now tokens.now read.1.now)
+        (Refuses room (chains height 0) tokens.now) }
     ensures tight { IfOk result (λ read. 7 ≤ height + level_of read.0) }
 {
     let mut joined = first;
@@ -106,7 +112,9 @@ pub fn operators<'t>(
 #[cycle(expression)]
 fn unary(alloc: Global, room: u32, tokens: &[Token]) -> Result<(Expr, &[Token]), Fault>
     requires { is_ahead first_of_expression (symbols tokens.now) ≡ true }
-    ensures read { MatchResult result (λ read. IsRead room (of unary_form) (expr read.0) tokens.now tokens.now read.1.now) (Refuses room (of unary_form) tokens.now) }
+    ensures read { MatchResult result
+        (λ read. IsRead room (of unary_form) (expr read.0) tokens.now tokens.now read.1.now)
+        (Refuses room (of unary_form) tokens.now) }
     ensures tight { IfOk result (λ read. 7 ≤ level_of read.0) }
     ensures shorter { IfOk result (λ read. length read.1.now < length tokens.now) }
 {
@@ -123,7 +131,9 @@ fn unary(alloc: Global, room: u32, tokens: &[Token]) -> Result<(Expr, &[Token]),
 #[cycle(expression)]
 pub fn opening(alloc: Global, room: u32, tokens: &[Token]) -> Result<(Expr, &[Token]), Fault>
     requires { is_ahead first_of_opening (symbols tokens.now) ≡ true }
-    ensures read { MatchResult result (λ read. IsRead room (of opening_form) (expr read.0) tokens.now tokens.now read.1.now) (Refuses room (of opening_form) tokens.now) }
+    ensures read { MatchResult result
+        (λ read. IsRead room (of opening_form) (expr read.0) tokens.now tokens.now read.1.now)
+        (Refuses room (of opening_form) tokens.now) }
     ensures tight { IfOk result (λ read. 7 ≤ level_of read.0) }
     ensures shorter { IfOk result (λ read. length read.1.now < length tokens.now) }
 {
@@ -142,7 +152,9 @@ pub fn opening(alloc: Global, room: u32, tokens: &[Token]) -> Result<(Expr, &[To
 /// `!` and its operand.
 #[cycle(expression)]
 fn not(alloc: Global, room: u32, tokens: &[Token]) -> Result<(Expr, &[Token]), Fault>
-    ensures read { MatchResult result (λ read. IsRead room (prefixed_part NotSign (of unary_form)) (expr read.0) tokens.now tokens.now read.1.now) (Refuses room (prefixed_part NotSign (of unary_form)) tokens.now) }
+    ensures read { MatchResult result
+        (λ read. IsRead room (prefixed_part NotSign (of unary_form)) (expr read.0) tokens.now tokens.now read.1.now)
+        (Refuses room (prefixed_part NotSign (of unary_form)) tokens.now) }
     ensures tight { IfOk result (λ read. 7 ≤ level_of read.0) }
     ensures shorter { IfOk result (λ read. length read.1.now < length tokens.now) }
 {
@@ -158,7 +170,9 @@ fn not(alloc: Global, room: u32, tokens: &[Token]) -> Result<(Expr, &[Token]), F
 /// `-` and its operand.
 #[cycle(expression)]
 fn negate(alloc: Global, room: u32, tokens: &[Token]) -> Result<(Expr, &[Token]), Fault>
-    ensures read { MatchResult result (λ read. IsRead room (prefixed_part MinusSign (of unary_form)) (expr read.0) tokens.now tokens.now read.1.now) (Refuses room (prefixed_part MinusSign (of unary_form)) tokens.now) }
+    ensures read { MatchResult result
+        (λ read. IsRead room (prefixed_part MinusSign (of unary_form)) (expr read.0) tokens.now tokens.now read.1.now)
+        (Refuses room (prefixed_part MinusSign (of unary_form)) tokens.now) }
     ensures tight { IfOk result (λ read. 7 ≤ level_of read.0) }
     ensures shorter { IfOk result (λ read. length read.1.now < length tokens.now) }
 {
@@ -184,7 +198,9 @@ pub fn after_name<'t>(
     tokens: &'t [Token],
 ) -> Result<(Expr, &'t [Token]), Fault>
     requires { IsNode (node owner.span (token (Named owner.text) none)) start.now tokens.now }
-    ensures read { MatchResult result (λ read. IsRead room (optional (of name_end) ▸ repeated (of suffix_form)) (expr read.0) start.now tokens.now read.1.now) (Refuses room (optional (of name_end) ▸ repeated (of suffix_form)) tokens.now) }
+    ensures read { MatchResult result
+        (λ read. IsRead room (optional (of name_end) ▸ repeated (of suffix_form)) (expr read.0) start.now tokens.now read.1.now)
+        (Refuses room (optional (of name_end) ▸ repeated (of suffix_form)) tokens.now) }
     ensures tight { IfOk result (λ read. 8 ≤ level_of read.0) }
 {
     match named(alloc, room, start, owner, tokens) {
@@ -202,7 +218,9 @@ fn named<'t>(
     tokens: &'t [Token],
 ) -> Result<(Expr, &'t [Token]), Fault>
     requires { IsNode (node owner.span (token (Named owner.text) none)) start.now tokens.now }
-    ensures read { MatchResult result (λ read. IsRead room (optional (of name_end)) (expr read.0) start.now tokens.now read.1.now) (Refuses room (optional (of name_end)) tokens.now) }
+    ensures read { MatchResult result
+        (λ read. IsRead room (optional (of name_end)) (expr read.0) start.now tokens.now read.1.now)
+        (Refuses room (optional (of name_end)) tokens.now) }
     ensures tight { IfOk result (λ read. 8 ≤ level_of read.0) }
 {
     if is_sign(Sign::Colon, tokens) {
@@ -220,7 +238,9 @@ fn named<'t>(
 /// Arguments in parentheses.
 #[cycle(expression)]
 fn arguments(alloc: Global, room: u32, tokens: &[Token]) -> Result<(Args, &[Token]), Fault>
-    ensures read { MatchResult result (λ read. AreRead room (parentheses (optional (of arguments_form))) (λ others. sign_of OpenParenthesis (part (args_of read.0) (sign_of CloseParenthesis others))) tokens.now read.1.now) (Refuses room (parentheses (optional (of arguments_form))) tokens.now) }
+    ensures read { MatchResult result
+        (λ read. AreRead room (parentheses (optional (of arguments_form))) (λ others. sign_of OpenParenthesis (part (args_of read.0) (sign_of CloseParenthesis others))) tokens.now read.1.now)
+        (Refuses room (parentheses (optional (of arguments_form))) tokens.now) }
     ensures shorter { IfOk result (λ read. length read.1.now < length tokens.now) }
 {
     match open(room, Sign::OpenParenthesis, tokens) {
@@ -238,7 +258,9 @@ fn arguments(alloc: Global, room: u32, tokens: &[Token]) -> Result<(Args, &[Toke
 /// Expressions with a comma between each two, or nothing where no expression begins.
 #[cycle(expression)]
 fn argument_list(alloc: Global, room: u32, tokens: &[Token]) -> Result<(Args, &[Token]), Fault>
-    ensures { MatchResult result (λ read. IsRead room (optional (of arguments_form)) (args_of read.0) tokens.now tokens.now read.1.now) (Refuses room (optional (of arguments_form)) tokens.now) }
+    ensures { MatchResult result
+        (λ read. IsRead room (optional (of arguments_form)) (args_of read.0) tokens.now tokens.now read.1.now)
+        (Refuses room (optional (of arguments_form)) tokens.now) }
 {
     let mut items = Vec::new(alloc);
     if !begins_expression(tokens) {
@@ -268,7 +290,9 @@ fn argument_list(alloc: Global, room: u32, tokens: &[Token]) -> Result<(Args, &[
 /// A comma and an expression.
 #[cycle(expression)]
 fn next_argument(alloc: Global, room: u32, tokens: &[Token]) -> Result<(Expr, &[Token]), Fault>
-    ensures read { MatchResult result (λ read. AreRead room (comma ▸ of expression_form) (λ others. sign_of Comma (part (expr read.0) others)) tokens.now read.1.now) (Refuses room (comma ▸ of expression_form) tokens.now) }
+    ensures read { MatchResult result
+        (λ read. AreRead room (comma ▸ of expression_form) (λ others. sign_of Comma (part (expr read.0) others)) tokens.now read.1.now)
+        (Refuses room (comma ▸ of expression_form) tokens.now) }
     ensures shorter { IfOk result (λ read. length read.1.now < length tokens.now) }
 {
     match sign(room, Sign::Comma, tokens) {
@@ -288,7 +312,9 @@ fn suffixes<'t>(
 ) -> Result<(Expr, &'t [Token]), Fault>
     requires value { IsNode (expr value) start.now tokens.now }
     requires tight { 8 ≤ level_of value }
-    ensures read { MatchResult result (λ read. IsRead room (repeated (of suffix_form)) (expr read.0) start.now tokens.now read.1.now) (Refuses room (repeated (of suffix_form)) tokens.now) }
+    ensures read { MatchResult result
+        (λ read. IsRead room (repeated (of suffix_form)) (expr read.0) start.now tokens.now read.1.now)
+        (Refuses room (repeated (of suffix_form)) tokens.now) }
     ensures tight { IfOk result (λ read. 8 ≤ level_of read.0) }
 {
     let mut value = value;
@@ -323,7 +349,9 @@ fn suffix<'t>(
     requires value { IsNode (expr value) start.now tokens.now }
     requires tight { 8 ≤ level_of value }
     requires begins { is_ahead (sign_kind Dot ∷ sign_kind OpenBracket ∷ []) (symbols tokens.now) ≡ true }
-    ensures read { MatchResult result (λ read. IsRead room (of suffix_form) (expr read.0) start.now tokens.now read.1.now) (Refuses room (of suffix_form) tokens.now) }
+    ensures read { MatchResult result
+        (λ read. IsRead room (of suffix_form) (expr read.0) start.now tokens.now read.1.now)
+        (Refuses room (of suffix_form) tokens.now) }
     ensures tight { IfOk result (λ read. 8 ≤ level_of read.0) }
     ensures shorter { IfOk result (λ read. length read.1.now < length tokens.now) }
 {
@@ -347,7 +375,9 @@ fn dotted<'t>(
 ) -> Result<(Expr, &'t [Token]), Fault>
     requires value { IsNode (expr value) start.now tokens.now }
     requires tight { 8 ≤ level_of value }
-    ensures read { MatchResult result (λ read. IsRead room (sign_part Dot ▸ name_part ▸ optional (parentheses (optional (of arguments_form)))) (expr read.0) start.now tokens.now read.1.now) (Refuses room (sign_part Dot ▸ name_part ▸ optional (parentheses (optional (of arguments_form)))) tokens.now) }
+    ensures read { MatchResult result
+        (λ read. IsRead room (sign_part Dot ▸ name_part ▸ optional (parentheses (optional (of arguments_form)))) (expr read.0) start.now tokens.now read.1.now)
+        (Refuses room (sign_part Dot ▸ name_part ▸ optional (parentheses (optional (of arguments_form)))) tokens.now) }
     ensures tight { IfOk result (λ read. 8 ≤ level_of read.0) }
     ensures shorter { IfOk result (λ read. length read.1.now < length tokens.now) }
 {
@@ -373,7 +403,9 @@ fn dotted<'t>(
 
 /// `.` and a name.
 fn dot_name(alloc: Global, room: u32, tokens: &[Token]) -> Result<(Name, &[Token]), Fault>
-    ensures read { MatchResult result (λ read. AreRead room (sign_part Dot ▸ name_part) (λ others. sign_of Dot (name_of read.0 others)) tokens.now read.1.now) (Refuses room (sign_part Dot ▸ name_part) tokens.now) }
+    ensures read { MatchResult result
+        (λ read. AreRead room (sign_part Dot ▸ name_part) (λ others. sign_of Dot (name_of read.0 others)) tokens.now read.1.now)
+        (Refuses room (sign_part Dot ▸ name_part) tokens.now) }
     ensures shorter { IfOk result (λ read. length read.1.now < length tokens.now) }
 {
     match sign(room, Sign::Dot, tokens) {
@@ -391,7 +423,9 @@ fn member<'t>(
     tokens: &'t [Token],
 ) -> Result<(Expr, &'t [Token]), Fault>
     requires { IsNode (node owner.span (token (Named owner.text) none)) start.now tokens.now }
-    ensures read { MatchResult result (λ read. IsRead room (colon ▸ name_part) (expr read.0) start.now tokens.now read.1.now) (Refuses room (colon ▸ name_part) tokens.now) }
+    ensures read { MatchResult result
+        (λ read. IsRead room (colon ▸ name_part) (expr read.0) start.now tokens.now read.1.now)
+        (Refuses room (colon ▸ name_part) tokens.now) }
     ensures tight { IfOk result (λ read. 8 ≤ level_of read.0) }
 {
     match sign(room, Sign::Colon, tokens) {
@@ -422,7 +456,9 @@ fn enclosed(
     closer: Sign,
     tokens: &[Token],
 ) -> Result<(Expr, &[Token]), Fault>
-    ensures read { MatchResult result (λ read. AreRead room (enclosed_part opener closer (of expression_form)) (λ others. sign_of opener (part (expr read.0) (sign_of closer others))) tokens.now read.1.now) (Refuses room (enclosed_part opener closer (of expression_form)) tokens.now) }
+    ensures read { MatchResult result
+        (λ read. AreRead room (enclosed_part opener closer (of expression_form)) (λ others. sign_of opener (part (expr read.0) (sign_of closer others))) tokens.now read.1.now)
+        (Refuses room (enclosed_part opener closer (of expression_form)) tokens.now) }
     ensures shorter { IfOk result (λ read. length read.1.now < length tokens.now) }
 {
     match open(room, opener, tokens) {
@@ -441,7 +477,9 @@ fn enclosed(
 #[cycle(expression)]
 fn constant(alloc: Global, room: u32, tokens: &[Token]) -> Result<(Expr, &[Token]), Fault>
     requires { is_ahead first_of_constant (symbols tokens.now) ≡ true }
-    ensures read { MatchResult result (λ read. IsRead room (of constant_form) (expr read.0) tokens.now tokens.now read.1.now) (Refuses room (of constant_form) tokens.now) }
+    ensures read { MatchResult result
+        (λ read. IsRead room (of constant_form) (expr read.0) tokens.now tokens.now read.1.now)
+        (Refuses room (of constant_form) tokens.now) }
     ensures tight { IfOk result (λ read. 8 ≤ level_of read.0) }
     ensures shorter { IfOk result (λ read. length read.1.now < length tokens.now) }
 {
@@ -463,7 +501,9 @@ fn constant(alloc: Global, room: u32, tokens: &[Token]) -> Result<(Expr, &[Token
 /// An expression in parentheses.
 #[cycle(expression)]
 fn group(alloc: Global, room: u32, tokens: &[Token]) -> Result<(Expr, &[Token]), Fault>
-    ensures read { MatchResult result (λ read. IsRead room (parentheses (of expression_form)) (expr read.0) tokens.now tokens.now read.1.now) (Refuses room (parentheses (of expression_form)) tokens.now) }
+    ensures read { MatchResult result
+        (λ read. IsRead room (parentheses (of expression_form)) (expr read.0) tokens.now tokens.now read.1.now)
+        (Refuses room (parentheses (of expression_form)) tokens.now) }
     ensures tight { IfOk result (λ read. 8 ≤ level_of read.0) }
     ensures shorter { IfOk result (λ read. length read.1.now < length tokens.now) }
 {
@@ -483,7 +523,9 @@ fn group(alloc: Global, room: u32, tokens: &[Token]) -> Result<(Expr, &[Token]),
 #[cycle(expression)]
 fn validity(alloc: Global, room: u32, tokens: &[Token]) -> Result<(Expr, &[Token]), Fault>
     requires { is_ahead (word_kind IsValidWord ∷ word_kind IsInvalidWord ∷ []) (symbols tokens.now) ≡ true }
-    ensures read { MatchResult result (λ read. IsRead room (of constant_form) (expr read.0) tokens.now tokens.now read.1.now) (Refuses room (of constant_form) tokens.now) }
+    ensures read { MatchResult result
+        (λ read. IsRead room (of constant_form) (expr read.0) tokens.now tokens.now read.1.now)
+        (Refuses room (of constant_form) tokens.now) }
     ensures tight { IfOk result (λ read. 8 ≤ level_of read.0) }
     ensures shorter { IfOk result (λ read. length read.1.now < length tokens.now) }
 {
@@ -510,7 +552,9 @@ fn tested(
     which: Word,
     tokens: &[Token],
 ) -> Result<(Expr, &[Token]), Fault>
-    ensures read { MatchResult result (λ read. AreRead room (word_part which ▸ parentheses (of expression_form)) (λ others. word_of which (sign_of OpenParenthesis (part (expr read.0) (sign_of CloseParenthesis others)))) tokens.now read.1.now) (Refuses room (word_part which ▸ parentheses (of expression_form)) tokens.now) }
+    ensures read { MatchResult result
+        (λ read. AreRead room (word_part which ▸ parentheses (of expression_form)) (λ others. word_of which (sign_of OpenParenthesis (part (expr read.0) (sign_of CloseParenthesis others)))) tokens.now read.1.now)
+        (Refuses room (word_part which ▸ parentheses (of expression_form)) tokens.now) }
     ensures shorter { IfOk result (λ read. length read.1.now < length tokens.now) }
 {
     match word(room, which, tokens) {
@@ -528,7 +572,9 @@ fn tested(
 /// `static_cast`, with a type, perhaps a string, and an expression in parentheses.
 #[cycle(expression)]
 fn cast(alloc: Global, room: u32, tokens: &[Token]) -> Result<(Expr, &[Token]), Fault>
-    ensures read { MatchResult result (λ read. IsRead room cast_part (expr read.0) tokens.now tokens.now read.1.now) (Refuses room cast_part tokens.now) }
+    ensures read { MatchResult result
+        (λ read. IsRead room cast_part (expr read.0) tokens.now tokens.now read.1.now)
+        (Refuses room cast_part tokens.now) }
     ensures tight { IfOk result (λ read. 8 ≤ level_of read.0) }
     ensures shorter { IfOk result (λ read. length read.1.now < length tokens.now) }
 {
@@ -554,7 +600,9 @@ fn converted(
     room: u32,
     tokens: &[Token],
 ) -> Result<(TypeName, Option<Text>, Expr, &[Token]), Fault>
-    ensures read { MatchResult result (λ read. AreRead room cast_inner (λ others. type_name read.0 (sign_of Comma (mode_parts read.1 (part (expr read.2) (sign_of CloseParenthesis others))))) tokens.now read.3.now) (Refuses room cast_inner tokens.now) }
+    ensures read { MatchResult result
+        (λ read. AreRead room cast_inner (λ others. type_name read.0 (sign_of Comma (mode_parts read.1 (part (expr read.2) (sign_of CloseParenthesis others))))) tokens.now read.3.now)
+        (Refuses room cast_inner tokens.now) }
     ensures shorter { IfOk result (λ read. length read.3.now < length tokens.now) }
 {
     match cast_head(alloc, room, tokens) {

@@ -132,7 +132,9 @@ pub fn refuse(room: u32, tokens: &[Token]) -> Fault
 
 /// The tokens behind a sign.
 pub fn sign(room: u32, sign: Sign, tokens: &[Token]) -> Result<&[Token], Fault>
-    ensures read { MatchResult result (λ left. AreRead room (sign_part sign) (sign_of sign) tokens.now left.now) (Refuses room (sign_part sign) tokens.now) }
+    ensures read { MatchResult result
+        (λ left. AreRead room (sign_part sign) (sign_of sign) tokens.now left.now)
+        (Refuses room (sign_part sign) tokens.now) }
     ensures shorter { IfOk result (λ left. length left.now < length tokens.now) }
 {
     match split_first(tokens) {
@@ -148,7 +150,9 @@ pub fn sign(room: u32, sign: Sign, tokens: &[Token]) -> Result<&[Token], Fault>
 
 /// The tokens behind a reserved word.
 pub fn word(room: u32, word: Word, tokens: &[Token]) -> Result<&[Token], Fault>
-    ensures read { MatchResult result (λ left. AreRead room (word_part word) (word_of word) tokens.now left.now) (Refuses room (word_part word) tokens.now) }
+    ensures read { MatchResult result
+        (λ left. AreRead room (word_part word) (word_of word) tokens.now left.now)
+        (Refuses room (word_part word) tokens.now) }
     ensures shorter { IfOk result (λ left. length left.now < length tokens.now) }
 {
     match split_first(tokens) {
@@ -182,7 +186,9 @@ pub fn open(room: u32, opener: Sign, tokens: &[Token]) -> Result<&[Token], Fault
 
 /// The text and the place of a name.
 fn name_text(alloc: Global, room: u32, tokens: &[Token]) -> Result<(Text, Span, &[Token]), Fault>
-    ensures read { MatchResult result (λ read. IsRead room name_part (node read.1 (token (Named read.0) none)) tokens.now tokens.now read.2.now) (Refuses room name_part tokens.now) }
+    ensures read { MatchResult result
+        (λ read. IsRead room name_part (node read.1 (token (Named read.0) none)) tokens.now tokens.now read.2.now)
+        (Refuses room name_part tokens.now) }
     ensures shorter { IfOk result (λ read. length read.2.now < length tokens.now) }
 {
     let Some((first, left)) = split_first(tokens) else {
@@ -199,7 +205,9 @@ fn name_text(alloc: Global, room: u32, tokens: &[Token]) -> Result<(Text, Span, 
 
 /// A name.
 pub fn name(alloc: Global, room: u32, tokens: &[Token]) -> Result<(Name, &[Token]), Fault>
-    ensures read { MatchResult result (λ read. IsRead room name_part (node read.0.span (token (Named read.0.text) none)) tokens.now tokens.now read.1.now) (Refuses room name_part tokens.now) }
+    ensures read { MatchResult result
+        (λ read. IsRead room name_part (node read.0.span (token (Named read.0.text) none)) tokens.now tokens.now read.1.now)
+        (Refuses room name_part tokens.now) }
     ensures shorter { IfOk result (λ read. length read.1.now < length tokens.now) }
 {
     match name_text(alloc, room, tokens) {
@@ -210,7 +218,9 @@ pub fn name(alloc: Global, room: u32, tokens: &[Token]) -> Result<(Name, &[Token
 
 /// The name of a type.
 pub fn type_name(alloc: Global, room: u32, tokens: &[Token]) -> Result<(TypeName, &[Token]), Fault>
-    ensures read { MatchResult result (λ read. IsRead room type_part (node read.0.span (token (Named read.0.text) none)) tokens.now tokens.now read.1.now) (Refuses room type_part tokens.now) }
+    ensures read { MatchResult result
+        (λ read. IsRead room type_part (node read.0.span (token (Named read.0.text) none)) tokens.now tokens.now read.1.now)
+        (Refuses room type_part tokens.now) }
     ensures shorter { IfOk result (λ read. length read.1.now < length tokens.now) }
 {
     match name_text(alloc, room, tokens) {
@@ -239,7 +249,9 @@ fn string_of(kind: &TokenKind) -> Option<&[u8]>
 
 /// The text of a string.
 pub fn string(alloc: Global, room: u32, tokens: &[Token]) -> Result<(Text, &[Token]), Fault>
-    ensures read { MatchResult result (λ read. AreRead room string_part (token (QuotedKind read.0)) tokens.now read.1.now) (Refuses room string_part tokens.now) }
+    ensures read { MatchResult result
+        (λ read. AreRead room string_part (token (QuotedKind read.0)) tokens.now read.1.now)
+        (Refuses room string_part tokens.now) }
     ensures shorter { IfOk result (λ read. length read.1.now < length tokens.now) }
 {
     let Some((first, left)) = split_first(tokens) else {

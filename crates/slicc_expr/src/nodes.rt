@@ -17,7 +17,8 @@ pub fn binary(
     right: Expr,
     span: Span,
 ) -> Result<Expr, NoMemory>
-    ensures spells { IfOk result (λ e. expr e ≡ node span (provided (nat_le (operator_level operator) (level_of left)) (provided (nat_lt (operator_level operator) (level_of right)) (part (expr left) (sign (operator_sign operator) (part (expr right) none)))))) }
+    ensures spells { IfOk result (λ e. expr e ≡ node span
+        (provided (nat_le (operator_level operator) (level_of left)) (provided (nat_lt (operator_level operator) (level_of right)) (part (expr left) (sign (operator_sign operator) (part (expr right) none)))))) }
     ensures level { IfOk result (λ e. level_of e ≡ operator_level operator) }
 {
     let left = Box::new(alloc, left)?;
@@ -31,21 +32,24 @@ pub fn binary(
 }
 
 pub fn not(alloc: Global, operand: Expr, span: Span) -> Result<Expr, NoMemory>
-    ensures spells { IfOk result (λ e. expr e ≡ node span (provided (nat_le 7 (level_of operand)) (sign NotSign (part (expr operand) none)))) }
+    ensures spells { IfOk result (λ e. expr e ≡ node span
+        (provided (nat_le 7 (level_of operand)) (sign NotSign (part (expr operand) none)))) }
     ensures level { IfOk result (λ e. level_of e ≡ 7) }
 {
     Ok(Expr::Not(Box::new(alloc, operand)?, span))
 }
 
 pub fn negate(alloc: Global, operand: Expr, span: Span) -> Result<Expr, NoMemory>
-    ensures spells { IfOk result (λ e. expr e ≡ node span (provided (nat_le 7 (level_of operand)) (sign MinusSign (part (expr operand) none)))) }
+    ensures spells { IfOk result (λ e. expr e ≡ node span
+        (provided (nat_le 7 (level_of operand)) (sign MinusSign (part (expr operand) none)))) }
     ensures level { IfOk result (λ e. level_of e ≡ 7) }
 {
     Ok(Expr::Negate(Box::new(alloc, operand)?, span))
 }
 
 pub fn field(alloc: Global, value: Expr, name: Name, span: Span) -> Result<Expr, NoMemory>
-    ensures spells { IfOk result (λ e. expr e ≡ node span (provided (nat_le 8 (level_of value)) (part (expr value) (sign Dot (name_of name none))))) }
+    ensures spells { IfOk result (λ e. expr e ≡ node span
+        (provided (nat_le 8 (level_of value)) (part (expr value) (sign Dot (name_of name none))))) }
     ensures level { IfOk result (λ e. level_of e ≡ 8) }
 {
     Ok(Expr::Field {
@@ -62,7 +66,8 @@ pub fn method(
     arguments: Args,
     span: Span,
 ) -> Result<Expr, NoMemory>
-    ensures spells { IfOk result (λ e. expr e ≡ node span (provided (nat_le 8 (level_of value)) (part (expr value) (sign Dot (name_of name (sign OpenParenthesis (part (args arguments) (sign CloseParenthesis none)))))))) }
+    ensures spells { IfOk result (λ e. expr e ≡ node span
+        (provided (nat_le 8 (level_of value)) (part (expr value) (sign Dot (name_of name (sign OpenParenthesis (part (args arguments) (sign CloseParenthesis none)))))))) }
     ensures level { IfOk result (λ e. level_of e ≡ 8) }
 {
     Ok(Expr::Method {
@@ -74,7 +79,8 @@ pub fn method(
 }
 
 pub fn index(alloc: Global, value: Expr, key: Expr, span: Span) -> Result<Expr, NoMemory>
-    ensures spells { IfOk result (λ e. expr e ≡ node span (provided (nat_le 8 (level_of value)) (part (expr value) (sign OpenBracket (part (expr key) (sign CloseBracket none)))))) }
+    ensures spells { IfOk result (λ e. expr e ≡ node span
+        (provided (nat_le 8 (level_of value)) (part (expr value) (sign OpenBracket (part (expr key) (sign CloseBracket none)))))) }
     ensures level { IfOk result (λ e. level_of e ≡ 8) }
 {
     let value = Box::new(alloc, value)?;
@@ -94,14 +100,16 @@ pub fn call(name: Name, arguments: Args, span: Span) -> Expr
 }
 
 pub fn is_valid(alloc: Global, value: Expr, span: Span) -> Result<Expr, NoMemory>
-    ensures spells { IfOk result (λ e. expr e ≡ node span (word IsValidWord (sign OpenParenthesis (part (expr value) (sign CloseParenthesis none))))) }
+    ensures spells { IfOk result (λ e. expr e ≡ node span
+        (word IsValidWord (sign OpenParenthesis (part (expr value) (sign CloseParenthesis none))))) }
     ensures level { IfOk result (λ e. level_of e ≡ 8) }
 {
     Ok(Expr::IsValid(Box::new(alloc, value)?, span))
 }
 
 pub fn is_invalid(alloc: Global, value: Expr, span: Span) -> Result<Expr, NoMemory>
-    ensures spells { IfOk result (λ e. expr e ≡ node span (word IsInvalidWord (sign OpenParenthesis (part (expr value) (sign CloseParenthesis none))))) }
+    ensures spells { IfOk result (λ e. expr e ≡ node span
+        (word IsInvalidWord (sign OpenParenthesis (part (expr value) (sign CloseParenthesis none))))) }
     ensures level { IfOk result (λ e. level_of e ≡ 8) }
 {
     Ok(Expr::IsInvalid(Box::new(alloc, value)?, span))
@@ -114,7 +122,8 @@ pub fn cast(
     value: Expr,
     span: Span,
 ) -> Result<Expr, NoMemory>
-    ensures spells { IfOk result (λ e. expr e ≡ node span (word StaticCast (sign OpenParenthesis (type_name target (sign Comma (mode_parts mode (part (expr value) (sign CloseParenthesis none)))))))) }
+    ensures spells { IfOk result (λ e. expr e ≡ node span
+        (word StaticCast (sign OpenParenthesis (type_name target (sign Comma (mode_parts mode (part (expr value) (sign CloseParenthesis none)))))))) }
     ensures level { IfOk result (λ e. level_of e ≡ 8) }
 {
     Ok(Expr::Cast {
@@ -126,7 +135,8 @@ pub fn cast(
 }
 
 pub fn group(alloc: Global, inner: Expr, span: Span) -> Result<Expr, NoMemory>
-    ensures spells { IfOk result (λ e. expr e ≡ node span (sign OpenParenthesis (part (expr inner) (sign CloseParenthesis none)))) }
+    ensures spells { IfOk result (λ e. expr e ≡ node span
+        (sign OpenParenthesis (part (expr inner) (sign CloseParenthesis none)))) }
     ensures level { IfOk result (λ e. level_of e ≡ 8) }
 {
     Ok(Expr::Group(Box::new(alloc, inner)?, span))

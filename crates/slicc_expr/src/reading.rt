@@ -46,7 +46,9 @@ pub fn expr(
     requires nesting { depth ≤ 64 }
     requires size { length tokens.now ≤ 1048577 }
     requires ended { AreEnded tokens.now }
-    ensures { MatchResult result (λ read. IsReadAs expression_form depth tokens.now at (expr read.0) read.1) (IsFaultFrom expression_form depth tokens.now at) }
+    ensures { MatchResult result
+        (λ read. IsReadAs expression_form depth tokens.now at (expr read.0) read.1)
+        (IsFaultFrom expression_form depth tokens.now at) }
 {
     let count = tokens.len();
     let (_, from) = tokens.as_slice().split_at(at as usize);

@@ -105,7 +105,9 @@ fn value_of(kind: &TokenKind, span: Span) -> Option<Expr>
 /// A number, or a word that stands for a value.
 pub fn simple(room: u32, tokens: &[Token]) -> Result<(Expr, &[Token]), Fault>
     requires { is_ahead simple_kinds (symbols tokens.now) ≡ true }
-    ensures read { MatchResult result (λ read. IsRead room (of constant_form) (expr read.0) tokens.now tokens.now read.1.now) (Refuses room (of constant_form) tokens.now) }
+    ensures read { MatchResult result
+        (λ read. IsRead room (of constant_form) (expr read.0) tokens.now tokens.now read.1.now)
+        (Refuses room (of constant_form) tokens.now) }
     ensures tight { IfOk result (λ read. 8 ≤ level_of read.0) }
     ensures shorter { IfOk result (λ read. length read.1.now < length tokens.now) }
 {
@@ -120,7 +122,9 @@ pub fn simple(room: u32, tokens: &[Token]) -> Result<(Expr, &[Token]), Fault>
 
 /// `new` and a name.
 pub fn new_entry(alloc: Global, room: u32, tokens: &[Token]) -> Result<(Expr, &[Token]), Fault>
-    ensures read { MatchResult result (λ read. IsRead room (word_part NewWord ▸ name_part) (expr read.0) tokens.now tokens.now read.1.now) (Refuses room (word_part NewWord ▸ name_part) tokens.now) }
+    ensures read { MatchResult result
+        (λ read. IsRead room (word_part NewWord ▸ name_part) (expr read.0) tokens.now tokens.now read.1.now)
+        (Refuses room (word_part NewWord ▸ name_part) tokens.now) }
     ensures tight { IfOk result (λ read. 8 ≤ level_of read.0) }
     ensures shorter { IfOk result (λ read. length read.1.now < length tokens.now) }
 {
