@@ -1,5 +1,5 @@
 -- What the token ahead begins, and expressions by their levels.
-use Rattle.std.proofs.Common.{◌≡◌, ◌⊎◌, inl, inr, ℕ, zero, suc, ◌+◌, ◌≤◌, ◌<◌, nat_lt, ◌||◌, ◌==◌, nat_le, Some, true, false, Bool, IsTrue, List, [], ◌∷◌, ◌++◌, length, refl, sym, subst, ap, ◌∙◌, arith, rules}
+use Rattle.std.proofs.Common.{◌≡◌, ◌⊎◌, inl, inr, ℕ, zero, suc, ◌+◌, ◌≤◌, ◌<◌, nat_lt, ◌||◌, ◌==◌, nat_le, Some, true, false, Bool, IsTrue, List, [], ◌∷◌, ◌++◌, refl, sym, subst, ◌∙◌, arith, rules}
 use Rattle.std.specs.List.{slice_get}
 use Rattle.std.proofs.lemmas.Bool.{false≢true}
 use Rattle.slicc_ast.specs.declared.tree.expression.Expr.{Expr}
@@ -7,15 +7,12 @@ use Rattle.slicc_ast.specs.declared.tree.token.Sign.TheVariants.{Colon, Dot, Min
 use Rattle.slicc_ast.specs.declared.tree.token.Word.TheVariants.{True, False, Ood, IsInvalid, IsValid}
 use Rattle.slicc_ast.specs.Expressions.{expr}
 use Rattle.slicc_ast.specs.Outline.{Outline, token}
-use Rattle.grammar_rows.specs.Grammar.{Row}
-use Rattle.grammar_rows.specs.Grammar.Row.{done, form, token as token_row}
+use Rattle.grammar_rows.specs.Grammar.Row.{done, token as token_row}
 use Rattle.grammar_rows.specs.Kinds.{has, is_ahead}
-use Rattle.grammar_rows.specs.Reader.{refusal, Passes}
-use Rattle.grammar_rows.proofs.Steps.{passes_form, passes_token}
+use Rattle.grammar_rows.specs.Reader.{refusal}
 use Rattle.slicc_grammar.specs.Ahead.{first_of_constant, first_of_expression, first_of_opening}
-use Rattle.slicc_grammar.specs.Form.{Form}
 use Rattle.slicc_grammar.specs.Form.Form.{constant, unary, product, sum, order, equality, conjunction, expression}
-use Rattle.slicc_grammar.specs.Parts.{Part, of, names_of}
+use Rattle.slicc_grammar.specs.Parts.{of, names_of}
 use Rattle.slicc_grammar.specs.Table.{table}
 use Rattle.slicc_grammar.specs.TokenKinds.{kind_of, number, sign_kind, word_kind}
 use Rattle.slicc_lex.specs.declared.token.Token.{Token}

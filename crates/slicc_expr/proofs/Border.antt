@@ -1,25 +1,20 @@
 -- From what the reader of a form comes to, to the answer with places.
-use Rattle.std.proofs.Common.{◌≡◌, ℕ, zero, suc, ◌+◌, ◌-◌, ◌<◌, ◌≤◌, true, List, [], ◌∷◌, ◌++◌, length, map, take, drop, refl, sym, subst, ap, ◌∙◌, arith, length-append}
-use Rattle.std.proofs.Math.Seq.{take-append_seam, drop-append_seam}
-use Rattle.std.proofs.lemmas.List.{take-append-drop, drop-append-le, length-drop}
+use Rattle.std.proofs.Common.{◌≡◌, ℕ, ◌+◌, ◌-◌, ◌<◌, ◌≤◌, true, List, [], ◌∷◌, ◌++◌, length, drop, refl, sym, subst, ap, ◌∙◌, arith, length-append}
+use Rattle.std.proofs.lemmas.List.{drop-append-le, length-drop}
 use Rattle.slicc_ast.specs.declared.tree.token.TokenKind.TheVariants.{End}
 use Rattle.slicc_ast.specs.Outline.{Outline}
-use Rattle.grammar_rows.specs.Faults.{IsFirstFault, IsStop, Stop}
+use Rattle.grammar_rows.specs.Faults.{IsFirstFault, Stop}
 use Rattle.grammar_rows.specs.Faults.Stop.{Passed, Bad, Deep, Short}
-use Rattle.grammar_rows.specs.Faults.IsStop.{one_too_deep, whole, opener_too_deep, not_viable, too_short}
-use Rattle.grammar_rows.specs.Grammar.Row.{done, form}
-use Rattle.grammar_rows.specs.Grammar.Rows.{end}
+use Rattle.grammar_rows.specs.Faults.IsStop.{one_too_deep, opener_too_deep, not_viable, too_short}
 use Rattle.slicc_grammar.specs.Form.{Form}
 use Rattle.slicc_grammar.specs.Parts.{of}
-use Rattle.slicc_grammar.specs.TokenKinds.{kind_of}
 use Rattle.slicc_grammar.specs.Written.{written}
 use Rattle.slicc_grammar.proofs.Readers.{passed, failed}
 use Rattle.slicc_lex.specs.declared.token.Token.{Token}
 use Rattle.slicc_lex.specs.Syntax.{symbols, nesting_limit, AreEnded, IsReadAs, IsStoppedAt}
 use Rattle.slicc_expr.specs.declared.fault.Fault.{Fault}
-use Rattle.slicc_expr.specs.declared.fault.SyntaxFault.{SyntaxFault}
 use Rattle.slicc_expr.specs.Answers.{IsFaultFrom, placed}
-use Rattle.slicc_expr.specs.Reading.{IsRead, IsStopOf, Refuses}
+use Rattle.slicc_expr.specs.Reading.{IsRead, Refuses}
 use Rattle.slicc_expr.specs.Reading.IsStopOf.{is_bad, is_deep, is_short}
 use Rattle.slicc_expr.specs.Reading.Refuses.{no_memory, stops}
 use Rattle.slicc_expr.proofs.Endless.{is_inner, never_ended}

@@ -1,30 +1,20 @@
 -- How optional and repeated parts and nestings are read.
-use Rattle.std.proofs.Common.{◌≡◌, ℕ, zero, suc, ◌-◌, ◌<◌, ◌≤◌, true, false, Bool, cond, List, [], ◌∷◌, ◌++◌, length, refl, sym, subst, ap, Some, arith, Result, Ok, Err}
-use Rattle.std.specs.Result.{MatchResult}
-use Rattle.std.specs.List.{slice_get}
-use Rattle.slicc_ast.specs.declared.tree.span.Span.{Span}
-use Rattle.std.proofs.lemmas.Bool.{false≢true}
-use Rattle.slicc_ast.specs.declared.tree.token.TokenKind.{TokenKind}
-use Rattle.slicc_ast.specs.declared.tree.token.TokenKind.TheVariants.{Name as Named, Quoted}
-use Rattle.slicc_ast.specs.Outline.{Outline, node, Parts, none, token, part}
-use Rattle.grammar_rows.specs.Faults.{Stop}
-use Rattle.grammar_rows.specs.Faults.Stop.{Bad, Deep, Short}
+use Rattle.std.proofs.Common.{◌≡◌, ℕ, zero, suc, ◌-◌, ◌≤◌, true, false, List, [], ◌∷◌, length, refl, sym, subst, arith}
+use Rattle.slicc_ast.specs.Outline.{Outline, Parts}
 use Rattle.grammar_rows.specs.Grammar.{Row, first_of}
-use Rattle.grammar_rows.specs.Grammar.Row.{done, form, maybe, many, nested, token as token_row}
+use Rattle.grammar_rows.specs.Grammar.Row.{done, maybe, many, nested}
 use Rattle.grammar_rows.specs.Kinds.{has, is_ahead}
-use Rattle.grammar_rows.specs.Reader.{refusal, Fails, Passes}
-use Rattle.grammar_rows.proofs.Steps.{passes_nothing, passes_both, passes_token, passes_form, passes_present, passes_absent, passes_again, passes_enough, passes_nested, fails_first, fails_second, fails_token, fails_form, fails_unformed, fails_present, fails_again, fails_later, fails_nested, fails_unopened, fails_deep}
+use Rattle.grammar_rows.specs.Reader.{Fails, Passes}
+use Rattle.grammar_rows.proofs.Steps.{passes_both, passes_present, passes_absent, passes_nested, fails_second, fails_present, fails_nested}
 use Rattle.slicc_grammar.specs.Form.{Form}
-use Rattle.slicc_grammar.specs.Parts.{Part, ◌▸◌, names_of}
+use Rattle.slicc_grammar.specs.Parts.{Part, ◌▸◌}
 use Rattle.slicc_grammar.specs.Table.{table}
-use Rattle.slicc_grammar.specs.TokenKinds.{kind_of, quoted}
+use Rattle.slicc_grammar.specs.TokenKinds.{kind_of}
 use Rattle.slicc_lex.specs.declared.token.Token.{Token}
 use Rattle.slicc_lex.specs.Syntax.{symbols}
 use Rattle.slicc_expr.specs.declared.fault.Fault.{Fault}
-use Rattle.slicc_expr.specs.declared.fault.Fault.TheVariants.{Syntax, Deep as TooDeep, NoMemory}
-use Rattle.slicc_expr.specs.Reading.{Covers, IsNode, AreParts, IsRead, AreRead, IsStopOf, Refuses}
-use Rattle.slicc_expr.specs.Reading.IsNode.{spelled}
-use Rattle.slicc_expr.specs.Reading.AreParts.{nothing, one, inside, allowed}
+use Rattle.slicc_expr.specs.Reading.{IsNode, IsRead, AreRead, Refuses}
+use Rattle.slicc_expr.specs.Reading.AreParts.{one}
 use Rattle.slicc_expr.specs.Reading.Refuses.{no_memory, stops}
 use Rattle.slicc_ast.specs.declared.tree.token.Sign.{Sign}
 use Rattle.slicc_ast.specs.declared.tree.token.Sign.TheVariants.{OpenBrace, CloseBrace, OpenParenthesis, CloseParenthesis, OpenBracket, CloseBracket, Semicolon, Colon, Comma, Dot, Equals, Assign, Equal, Unequal, Less, Greater, LessOrEqual, GreaterOrEqual, Plus, Minus, Star, Not, And, Or}

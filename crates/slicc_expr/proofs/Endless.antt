@@ -1,9 +1,9 @@
 -- No form but a file has the end token in it, so that a list with the end token at its end is never too short.
-use Rattle.std.proofs.Common.{◌≡◌, ℕ, suc, zero, ◌==◌, ◌&&◌, ◌||◌, not, Bool, true, false, List, [], ◌∷◌, ◌++◌, refl, sym, subst, ap, ◌∙◌, Some}
+use Rattle.std.proofs.Common.{◌≡◌, ℕ, suc, zero, ◌==◌, ◌&&◌, ◌||◌, not, Bool, true, false, List, [], ◌∷◌, ◌++◌, refl, sym, subst, ◌∙◌, Some}
 use Rattle.std.proofs.lemmas.Bool.{eqb-true, false≢true, and_parts, not-true}
 use Rattle.std.specs.List.{list_all, slice_get}
 use Rattle.grammar_rows.specs.Kinds.{has}
-use Rattle.grammar_rows.specs.Grammar.{Row, Rows, Grammar}
+use Rattle.grammar_rows.specs.Grammar.{Row, Rows}
 use Rattle.grammar_rows.specs.Grammar.Row.{done, token, form, maybe, many, nested}
 use Rattle.grammar_rows.specs.Grammar.Rows.{end, next, up}
 use Rattle.grammar_rows.specs.Matches.{Begins, Matches, Extent}

@@ -1,6 +1,5 @@
 -- What the loops of expressions have read so far, and how each goes on.
-use Rattle.std.proofs.Common.{◌≡◌, ℕ, zero, suc, ◌+◌, ◌-◌, ◌<◌, ◌≤◌, true, false, nat_le, nat_lt, List, [], ◌∷◌, ◌++◌, length, refl, sym, subst, ap, ◌∙◌, Some, IsTrue, arith}
-use Rattle.std.specs.List.{slice_get}
+use Rattle.std.proofs.Common.{◌≡◌, ℕ, suc, ◌+◌, ◌-◌, ◌<◌, ◌≤◌, true, false, nat_le, nat_lt, List, [], ◌∷◌, ◌++◌, length, refl, sym, subst, ap, ◌∙◌, arith}
 use Rattle.slicc_ast.specs.declared.tree.expression.Expr.{Expr}
 use Rattle.slicc_ast.specs.declared.tree.expression.Operator.{Operator}
 use Rattle.slicc_ast.specs.declared.tree.span.Span.{Span}
@@ -26,7 +25,7 @@ use Rattle.slicc_expr.specs.declared.fault.Fault.{Fault}
 use Rattle.slicc_expr.specs.Levels.{chain, chains, form_at, kinds_at, IsOperator}
 use Rattle.slicc_expr.specs.Reading.{Covers, IsNode, AreParts, IsRead, AreRead, Leads, Refuses}
 use Rattle.slicc_expr.specs.Reading.IsNode.{spelled}
-use Rattle.slicc_expr.specs.Reading.AreParts.{nothing, one, inside, allowed}
+use Rattle.slicc_expr.specs.Reading.AreParts.{nothing, inside, allowed}
 use Rattle.slicc_expr.proofs.Parts.{◌then◌, as_node, as_part, behind, of_alternative, token_read}
 use Rattle.slicc_expr.proofs.Ahead.{le_true, lt_true}
 use Rattle.slicc_expr.proofs.Choices.{absent, leads_here, leads_behind, once_more, fault_in_more, no_more, all_of, present_read}

@@ -1,5 +1,5 @@
 -- How attributes are read.
-use Rattle.std.proofs.Common.{◌≡◌, ℕ, ◌≤◌, ◌||◌, ◌==◌, true, false, Bool, List, [], ◌∷◌, ◌++◌, length, refl, sym, subst, ap, ◌∙◌, arith}
+use Rattle.std.proofs.Common.{◌≡◌, ℕ, ◌||◌, ◌==◌, true, false, Bool, List, [], ◌∷◌, ◌++◌, refl, sym, subst, ap}
 use Rattle.std.proofs.lemmas.Bool.{false≢true}
 use Rattle.slicc_ast.specs.declared.tree.declaration.Pair.{Pair}
 use Rattle.slicc_ast.specs.declared.tree.declaration.PairValue.{PairValue}
@@ -9,23 +9,21 @@ use Rattle.slicc_ast.specs.declared.tree.token.Sign.TheVariants.{Comma}
 use Rattle.slicc_ast.specs.declared.tree.token.TokenKind.TheVariants.{Name as Named, Number, Quoted}
 use Rattle.slicc_ast.specs.Declarations.{pair as pair_outline, pair_list, pair_value}
 use Rattle.slicc_ast.specs.Names.{sign}
-use Rattle.slicc_ast.specs.Outline.{node, Parts, none, part, token}
+use Rattle.slicc_ast.specs.Outline.{node, Parts, none, part}
 use Rattle.grammar_rows.specs.Grammar.Row.{done, token as token_row}
 use Rattle.grammar_rows.specs.Kinds.{has, is_ahead}
-use Rattle.grammar_rows.proofs.Steps.{passes_token}
 use Rattle.slicc_grammar.proofs.Leading.{name_is_one}
 use Rattle.slicc_grammar.specs.Form.Form.{pair}
 use Rattle.slicc_grammar.specs.Parts.{Part, ◌▸◌, comma, names_of, of, pairs}
-use Rattle.slicc_grammar.specs.Table.{table}
 use Rattle.slicc_grammar.specs.TokenKinds.{kind_of, name_kind, number, quoted, sign_kind}
 use Rattle.slicc_lex.specs.declared.token.Token.{Token}
 use Rattle.slicc_lex.specs.Syntax.{symbols}
 use Rattle.slicc_expr.specs.declared.fault.Fault.{Fault}
 use Rattle.slicc_expr.specs.Attributes.{IsValue, value_kinds}
-use Rattle.slicc_expr.specs.Reading.{Covers, IsNode, AreParts, IsRead, AreRead, Leads, Refuses}
+use Rattle.slicc_expr.specs.Reading.{Covers, AreParts, IsRead, AreRead, Leads, Refuses}
 use Rattle.slicc_expr.specs.Reading.IsNode.{spelled}
-use Rattle.slicc_expr.specs.Reading.AreParts.{nothing, one, inside}
-use Rattle.slicc_expr.proofs.Parts.{as_part, token_read}
+use Rattle.slicc_expr.specs.Reading.AreParts.{nothing, inside}
+use Rattle.slicc_expr.proofs.Parts.{token_read}
 use Rattle.slicc_expr.proofs.Choices.{leads_here, once_more, fault_in_more, no_more, all_of}
 use Rattle.slicc_expr.proofs.Spans.{token_covers}
 

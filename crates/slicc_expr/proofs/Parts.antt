@@ -1,5 +1,5 @@
 -- How parts of the grammar are read one behind another, and how a fault in one is a fault of those around it.
-use Rattle.std.proofs.Common.{◌≡◌, ℕ, zero, suc, ◌-◌, ◌<◌, ◌≤◌, true, false, Bool, cond, List, [], ◌∷◌, ◌++◌, length, refl, sym, subst, ap, Some, IsTrue, arith, Result, Ok, Err}
+use Rattle.std.proofs.Common.{◌≡◌, ℕ, zero, suc, ◌≤◌, true, false, Bool, List, [], ◌∷◌, length, refl, sym, subst, Some, IsTrue, arith, Result, Ok, Err}
 use Rattle.std.specs.Result.{MatchResult}
 use Rattle.std.specs.List.{slice_get}
 use Rattle.slicc_ast.specs.declared.tree.span.Span.{Span}
@@ -7,13 +7,12 @@ use Rattle.std.proofs.lemmas.Bool.{false≢true}
 use Rattle.slicc_ast.specs.declared.tree.token.TokenKind.{TokenKind}
 use Rattle.slicc_ast.specs.declared.tree.token.TokenKind.TheVariants.{Name as Named, Quoted}
 use Rattle.slicc_ast.specs.Outline.{Outline, node, Parts, none, token, part, provided}
-use Rattle.grammar_rows.specs.Faults.{Stop}
-use Rattle.grammar_rows.specs.Faults.Stop.{Bad, Deep, Short}
+use Rattle.grammar_rows.specs.Faults.Stop.{Deep}
 use Rattle.grammar_rows.specs.Grammar.{Row, first_of}
-use Rattle.grammar_rows.specs.Grammar.Row.{done, form, maybe, many, nested, token as token_row}
+use Rattle.grammar_rows.specs.Grammar.Row.{done, form, nested, token as token_row}
 use Rattle.grammar_rows.specs.Kinds.{has, is_ahead}
-use Rattle.grammar_rows.specs.Reader.{refusal, Fails, Passes}
-use Rattle.grammar_rows.proofs.Steps.{passes_nothing, passes_both, passes_token, passes_form, passes_present, passes_absent, passes_again, passes_enough, passes_nested, fails_first, fails_second, fails_token, fails_form, fails_unformed, fails_present, fails_again, fails_later, fails_nested, fails_unopened, fails_deep}
+use Rattle.grammar_rows.specs.Reader.{refusal}
+use Rattle.grammar_rows.proofs.Steps.{passes_both, passes_token, passes_form, fails_first, fails_second, fails_token, fails_form, fails_unformed, fails_unopened, fails_deep}
 use Rattle.slicc_grammar.specs.Form.{Form}
 use Rattle.slicc_grammar.specs.Parts.{Part, ◌▸◌, names_of}
 use Rattle.slicc_grammar.specs.Table.{table}
@@ -21,8 +20,8 @@ use Rattle.slicc_grammar.specs.TokenKinds.{kind_of, quoted}
 use Rattle.slicc_lex.specs.declared.token.Token.{Token}
 use Rattle.slicc_lex.specs.Syntax.{symbols}
 use Rattle.slicc_expr.specs.declared.fault.Fault.{Fault}
-use Rattle.slicc_expr.specs.declared.fault.Fault.TheVariants.{Syntax, Deep as TooDeep, NoMemory}
-use Rattle.slicc_expr.specs.Reading.{Covers, IsNode, AreParts, IsRead, AreRead, IsStopOf, Refuses}
+use Rattle.slicc_expr.specs.declared.fault.Fault.TheVariants.{Deep as TooDeep}
+use Rattle.slicc_expr.specs.Reading.{Covers, IsNode, IsRead, AreRead, IsStopOf, Refuses}
 use Rattle.slicc_expr.specs.Reading.IsNode.{spelled}
 use Rattle.slicc_expr.specs.Reading.AreParts.{nothing, one, inside, allowed}
 use Rattle.slicc_expr.specs.Reading.Refuses.{no_memory, stops}

@@ -1,17 +1,14 @@
 -- The fault at a token that isn't one that must come.
-use Rattle.std.proofs.Common.{◌≡◌, ℕ, zero, suc, ◌<◌, true, false, Bool, cond, List, [], ◌∷◌, length, refl, sym, subst, ap, arith}
+use Rattle.std.proofs.Common.{◌≡◌, ℕ, zero, suc, ◌<◌, true, false, cond, List, [], ◌∷◌, length, refl, sym, subst, ap, arith}
 use Rattle.std.proofs.lemmas.Bool.{false≢true}
-use Rattle.grammar_rows.specs.Faults.{Stop}
-use Rattle.grammar_rows.specs.Faults.Stop.{Bad, Deep, Short}
-use Rattle.grammar_rows.specs.Kinds.{has, is_ahead}
+use Rattle.grammar_rows.specs.Faults.Stop.{Bad, Deep}
+use Rattle.grammar_rows.specs.Kinds.{is_ahead}
 use Rattle.grammar_rows.specs.Reader.{refusal}
 use Rattle.slicc_grammar.specs.Ahead.{openers}
 use Rattle.slicc_grammar.specs.Table.{table}
-use Rattle.slicc_grammar.specs.TokenKinds.{kind_of}
 use Rattle.slicc_lex.specs.declared.token.Token.{Token}
 use Rattle.slicc_lex.specs.Syntax.{symbols}
-use Rattle.slicc_expr.specs.declared.fault.Fault.{Fault}
-use Rattle.slicc_expr.specs.declared.fault.Fault.TheVariants.{Syntax, Deep as TooDeep, NoMemory}
+use Rattle.slicc_expr.specs.declared.fault.Fault.TheVariants.{Syntax, Deep as TooDeep}
 use Rattle.slicc_expr.specs.Reading.{IsStopOf}
 use Rattle.slicc_expr.specs.Reading.IsStopOf.{is_bad, is_deep, is_short}
 

@@ -1,11 +1,9 @@
 -- A node that was read is spelled by the tokens up to those that are left.
-use Rattle.std.proofs.Common.{◌≡◌, ℕ, ◌&&◌, Bool, true, false, List, [], ◌∷◌, ◌++◌, map, refl, sym, subst, ap, ◌∙◌, append_assoc}
-use Rattle.slicc_ast.specs.declared.tree.span.Span.{Span}
-use Rattle.slicc_ast.specs.declared.tree.token.TokenKind.{TokenKind}
-use Rattle.slicc_ast.specs.Outline.{Outline, node, Parts, none, token, part, provided, covering, kinds_of, kinds_in, is_allowed, are_allowed, IsPlaced, ArePlaced}
+use Rattle.std.proofs.Common.{◌≡◌, ◌&&◌, Bool, true, false, List, [], ◌∷◌, ◌++◌, refl, sym, ap, ◌∙◌, append_assoc}
+use Rattle.slicc_ast.specs.Outline.{Outline, Parts, kinds_of, kinds_in, is_allowed, are_allowed, IsPlaced, ArePlaced}
 use Rattle.slicc_lex.specs.declared.token.Token.{Token}
 use Rattle.slicc_lex.specs.Spells.{SpellsNode, token_kinds, token_spans}
-use Rattle.slicc_expr.specs.Reading.{Covers, IsNode, AreParts}
+use Rattle.slicc_expr.specs.Reading.{IsNode, AreParts}
 use Rattle.slicc_expr.specs.Reading.IsNode.{spelled}
 use Rattle.slicc_expr.specs.Reading.AreParts.{nothing, one, inside, allowed}
 

@@ -1,5 +1,5 @@
 -- How deep the cycle of functions goes: each call has fewer tokens left, or comes later in this order.
-use Rattle.std.proofs.Common.{◌≡◌, ◌+◌, ◌-◌, ◌*◌, ◌≤◌, length}
+use Rattle.std.proofs.Common.{◌+◌, ◌-◌, ◌*◌, length}
 use Rattle.slicc_expr.proofs.Loops.{AreItems, IsOperand, IsPrimary}
 use Rattle.slicc_expr.proofs.expressions.+expression.Given as goal
 

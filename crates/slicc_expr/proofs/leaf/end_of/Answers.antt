@@ -1,4 +1,4 @@
-use Rattle.std.proofs.Common.{arith, length, ◌-◌, ◌≡◌, ◌+◌, suc, sym}
+use Rattle.std.proofs.Common.{length, ◌-◌, sym}
 use Rattle.slicc_expr.proofs.Spans.{last_is, some_at}
 use Rattle.slicc_expr.proofs.leaf.end_of.Goals as goal
 

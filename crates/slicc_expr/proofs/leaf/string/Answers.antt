@@ -1,5 +1,4 @@
 use Rattle.std.proofs.Common.{◌∷◌, []}
-use Rattle.slicc_ast.specs.declared.tree.token.TokenKind.TheVariants.{Quoted}
 use Rattle.slicc_grammar.specs.TokenKinds.{quoted}
 use Rattle.slicc_expr.specs.Reading.Refuses.{no_memory}
 use Rattle.slicc_expr.proofs.Parts.{string_read, other_token_refused, no_token_refused}

@@ -1,4 +1,4 @@
-use Rattle.std.proofs.Common.{refl, sym, ◌∙◌, ◌≡◌, drop, length, ◌-◌, subst, ap}
+use Rattle.std.proofs.Common.{refl, sym, ◌∙◌, drop, length, ◌-◌, subst, ap}
 use Rattle.slicc_ast.specs.Expressions.{expr}
 use Rattle.slicc_grammar.specs.Form.Form.{expression}
 use Rattle.slicc_expr.specs.Answers.{IsFaultFrom, placed}
