@@ -11,6 +11,7 @@ pub mod FoundStrings
 pub mod FoundSigns
 pub mod FoundGaps
 pub mod Lexed
+pub mod EndedTokens
 pub mod OnePiece
 pub mod OneReading
 pub mod OneTree

@@ -1,4 +1,4 @@
-ghost use Rattle.std.specs.Prelude.{◌≡◌, ℕ, List, Result};
+ghost use Rattle.std.specs.Prelude.{◌≡◌, ◌≤◌, ◌+◌, ℕ, List, Result, Ok, length};
 ghost use Rattle.slicc_ast.specs.Expressions.{expr};
 ghost use Rattle.slicc_ast.specs.Outline.{shape_of};
 ghost use Rattle.slicc_ast.specs.Statements.{block_outline};
@@ -6,6 +6,7 @@ ghost use Rattle.slicc_ast.specs.Trees.{tree};
 ghost use Rattle.slicc_ast.specs.declared.tree.expression.Expr.{Expr as ExprRecord};
 ghost use Rattle.slicc_ast.specs.declared.tree.item.Tree.{Tree as TreeRecord};
 ghost use Rattle.slicc_ast.specs.declared.tree.statement.Block.{Block as BlockRecord};
+ghost use Rattle.slicc_lex.specs.Syntax.{AreEnded};
 ghost use Rattle.slicc_lex.specs.declared.token.Token.{Token as Lexeme};
 ghost use Rattle.slicc_lex.specs.declared.fault.LexFault.{LexFault as Fault};
 ghost use Rattle.slicc_lex.specs.Spells.{Spells, SpellsNode};
@@ -21,4 +22,10 @@ pub fn spelled_trees_are_one()
     ensures file { (tokens : List Lexeme) (t u : TreeRecord) → Spells t tokens → Spells u tokens → shape_of (tree t) ≡ shape_of (tree u) }
     ensures block { (tokens : List Lexeme) (b c : BlockRecord) → SpellsNode (block_outline b) tokens → SpellsNode (block_outline c) tokens → shape_of (block_outline b) ≡ shape_of (block_outline c) }
     ensures expression { (tokens : List Lexeme) (e f : ExprRecord) → SpellsNode (expr e) tokens → SpellsNode (expr f) tokens → shape_of (expr e) ≡ shape_of (expr f) }
+{}
+
+/// The last of a text's tokens is the end token, and there are at most as many others as bytes.
+pub fn tokens_are_ended()
+    ensures ended { (file : ℕ) (bytes : List ℕ) (tokens : List Lexeme) → Reads file 0 bytes (Ok tokens) → AreEnded tokens }
+    ensures few { (file : ℕ) (bytes : List ℕ) (tokens : List Lexeme) → Reads file 0 bytes (Ok tokens) → length tokens ≤ length bytes + 1 }
 {}

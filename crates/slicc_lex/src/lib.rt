@@ -16,7 +16,7 @@ mod token;
 mod word;
 
 pub use fault::LexFault;
-pub use laws::{readings_are_one, spelled_trees_are_one};
+pub use laws::{readings_are_one, spelled_trees_are_one, tokens_are_ended};
 pub use lexer::lex;
 pub use place::{Place, place_of};
 pub use ruby_base::{NoMemory, Seq, Text};
