@@ -2,7 +2,7 @@
 -- taken. Where a token of it opens a nesting above 64, the answer is the first such token; else, where it is the whole form,
 -- the answer is the form; else the answer is the token behind it, which opens a nesting above 64 or is bad. These are the
 -- cases of `IsStop`, with as many nestings allowed as are left of 64.
-use Rattle.std.specs.Prelude.{◌≡◌, ◌+◌, ◌-◌, ◌≤◌, ◌++◌, ℕ, List, [], ◌∷◌, length, map, drop}
+use Rattle.std.specs.Prelude.{◌≡◌, ◌+◌, ◌-◌, ◌++◌, ℕ, List, [], ◌∷◌, length, map, drop}
 use Rattle.slicc_ast.specs.declared.tree.token.TokenKind.TheVariants.{End}
 use Rattle.slicc_ast.specs.Outline.{Outline}
 use Rattle.grammar_rows.specs.Faults.{IsFirstFault, Stop}
