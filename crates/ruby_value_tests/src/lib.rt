@@ -2,4 +2,8 @@
 #![tactic(auto)]
 
 #[cfg(test)]
-mod tests;
+mod fields;
+#[cfg(test)]
+mod kinds;
+#[cfg(test)]
+mod lists;

@@ -1,0 +1,130 @@
+// Numbers, kinds and their defaults.
+use ruby_value::{
+    Block, Fault, Fields, Kind, NetDest, NoMemory, Text, Value, add, default_of, mul, sub,
+};
+use std::alloc::{AllocError, Global};
+use std::test::Fail;
+
+/// A calculation over two numbers.
+enum Calculation {
+    Add(i64, i64),
+    Sub(i64, i64),
+    Mul(i64, i64),
+}
+
+/// Calculations and their answers.
+const CALCULATIONS: &[(Calculation, Option<i64>)] = &[
+    (Calculation::Add(i64::MAX - 1, 1), Some(i64::MAX)),
+    (Calculation::Add(i64::MAX, 1), None),
+    (Calculation::Add(i64::MIN, -1), None),
+    (Calculation::Add(-7, 3), Some(-4)),
+    (Calculation::Sub(i64::MIN + 1, 1), Some(i64::MIN)),
+    (Calculation::Sub(i64::MIN, 1), None),
+    (Calculation::Sub(0, i64::MIN), None),
+    (Calculation::Sub(3, 7), Some(-4)),
+    (Calculation::Mul(i64::MIN, -1), None),
+    (Calculation::Mul(1 << 62, 2), None),
+    (Calculation::Mul(-(1 << 62), 2), Some(i64::MIN)),
+    (Calculation::Mul(-3, 5), Some(-15)),
+];
+
+fn calculated(calculation: &Calculation) -> Option<i64> {
+    match calculation {
+        Calculation::Add(a, b) => add(*a, *b),
+        Calculation::Sub(a, b) => sub(*a, *b),
+        Calculation::Mul(a, b) => mul(*a, *b),
+    }
+}
+
+#[test]
+fn sums_differences_and_products_end_at_64_bits(rt: HostRuntime) {
+    for row in CALCULATIONS {
+        assert_eq!(rt; calculated(&row.0), row.1);
+    }
+}
+
+const KINDS: &[Kind] = &[
+    Kind::Bool,
+    Kind::Int,
+    Kind::Enum(3, 2),
+    Kind::Addr,
+    Kind::Machine,
+    Kind::Dest,
+    Kind::Block,
+    Kind::Entry(1),
+    Kind::Tbe(2),
+];
+
+/// The default of the kind at this place.
+fn wanted(alloc: Global, place: usize) -> Value {
+    match place {
+        0 => Value::Bool(false),
+        1 => Value::Int(0),
+        2 => Value::Enum(3, 2),
+        3 => Value::Addr(0),
+        4 => Value::Machine(0),
+        5 => Value::Dest(NetDest::new(alloc)),
+        6 => Value::Block(Block { bytes: [0; 64] }),
+        7 => Value::Entry(None),
+        _ => Value::Tbe(None),
+    }
+}
+
+/// Whether the value equals the wanted one and its own copy, and is of its kind.
+fn is_wanted(value: &Value, want: &Value, kind: &Kind) -> bool {
+    let copy: Result<Value, AllocError> = value.clone();
+    let is_copied = match &copy {
+        Ok(copy) => value.equals(copy),
+        Err(_) => false,
+    };
+    is_copied && *value == *want && value.has_kind(kind) && value.shares_kind(want)
+}
+
+/// Whether the default of the kind at this place is the wanted one, also as the field there.
+fn is_default_so(alloc: Global, place: usize, kind: &Kind) -> Result<bool, NoMemory> {
+    let fields = Fields::of_kinds(alloc, KINDS)?;
+    let value = default_of(alloc, kind);
+    let want = wanted(alloc, place);
+    let held = fields.as_slice();
+    let is_field = place < held.len() && held[place] == want && held.len() == 9;
+    let is_value = match &value {
+        Ok(value) => is_wanted(value, &want, kind),
+        Err(_) => false,
+    };
+    Ok(is_field && is_value)
+}
+
+#[test]
+fn each_kind_has_its_default(rt: HostRuntime) -> Result<(), Fail> {
+    for (place, kind) in KINDS.iter().enumerate() {
+        assert_eq!(rt;
+            is_default_so(rt.alloc(), place, kind)?,
+            true,
+            "kind {place}"
+        );
+    }
+    Ok(())
+}
+
+/// Whether the copy of a fault has its text.
+fn is_text_copied(alloc: Global, given: &[u8]) -> Result<bool, NoMemory> {
+    let fault = Fault::Error(Text::copied(alloc, given)?);
+    let copy = Fault::copied(alloc, &fault);
+    drop(fault);
+    Ok(match &copy? {
+        Fault::Error(text) => text.as_slice() == given,
+        _ => false,
+    })
+}
+
+/// Whether the copy of a fault without a text is the same.
+fn is_probe_copied(alloc: Global) -> Result<bool, NoMemory> {
+    Ok(matches!(&Fault::copied(alloc, &Fault::Probe)?, Fault::Probe))
+}
+
+#[test]
+fn a_fault_is_copied_with_its_text(rt: HostRuntime) -> Result<(), Fail> {
+    let are_copied = is_text_copied(rt.alloc(), b"no such state")? && is_probe_copied(rt.alloc())?;
+    assert_eq!(rt; are_copied, true);
+    Ok(())
+}
