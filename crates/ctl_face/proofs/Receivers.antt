@@ -10,7 +10,7 @@ use Rattle.ruby_value.specs.declared.setup.MachineSetup.{MachineSetup}
 use Rattle.ruby_value.specs.declared.value.Value.{Value}
 use Rattle.ruby_value.specs.HasKinds.{has_kinds}
 use Rattle.ctl_face.specs.Acts.{Copy}
-use Rattle.ctl_face.specs.ActsFit.{IsRouted}
+use Rattle.ctl_face.specs.ActsFit.{IsRouted, IsSentOn}
 use Rattle.ctl_face.specs.Ctl.{Mail}
 use Rattle.ctl_face.specs.Fits.{IsLawful}
 use Rattle.ctl_face.specs.FitsReceiver.{FitsReceiver}
@@ -109,6 +109,6 @@ posted_fit machines stand v at fit stands is lawful =
     All-weaker (IsRouted v.machine v.actor.routes) (FitsReceiver machines stand) (λ c routed. one c routed (slice_get v.machine.buffers routed.on) refl routed.sends) v.acts.posted lawful.acts.0.routed
   where
     one : (c : Copy) (routed : IsRouted v.machine v.actor.routes c) (o : Option BufferSetup) → slice_get v.machine.buffers routed.on ≡ o
-        → IsSomeAnd o (λ (s : BufferSetup). (network_of s.place ≡ Some routed.network) × IsTrue (has_kinds s.kinds c.message.fields)) → FitsReceiver machines stand c
+        → IsSomeAnd o (IsSentOn routed.network routed.destination c.message.fields) → FitsReceiver machines stand c
     one c routed None there none = absurd none
-    one c routed (Some s) there sends = routed_fits machines stand v.actor at v.machine fit stands is routed.on c.message.fields s there sends.1 routed.network c sends.0 routed.receives refl
+    one c routed (Some s) there sends = routed_fits machines stand v.actor at v.machine fit stands is routed.on c.message.fields s there sends.1 routed.network c (ap network_of sends.0) routed.receives refl

@@ -119,6 +119,7 @@ module _ (actor : Actor) (start : Mail) (network latency : ℕ) (fields : List V
         each = All-push IsCopy s.copies copy before.each (record {
           buffer = named (receiving_buffer actor.routes receiver network) routed;
           fields_sent = refl;
+          not_recycled = refl;
           timely = timely (is_ordered actor.routes network) _ _ (last_at (lasts_on s.mail.network_last network) receiver) _ copy refl (ap (λ (j : ℕ). now + latency + path + j) word) (before.lasts receiver);
         });
         sent = (let here = before.sent in omega arith);
@@ -166,6 +167,7 @@ own_added actor ordered mail buffer latency fields now =
     let is : IsOwnCopy ordered mail buffer latency fields now copy = record {
       buffer = refl;
       fields_sent = refl;
+      not_recycled = refl;
       timely = timely ordered (now + latency) (now + latency) (last_at mail.local_last buffer) (last_at mail.local_last buffer) copy refl refl (omega arith);
     } in
     let same = delivered_drawn (eqb actor.me actor.me) mail copy.message in

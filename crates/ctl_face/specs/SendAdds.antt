@@ -36,6 +36,7 @@ jitter_of actor mail c =
 pub record IsNetworkCopy (actor : Actor) (mail : Mail) (network latency : ℕ) (fields : List Value) (now : ℕ) (c : Copy) : Type 0 where
   pub buffer : receiving_buffer actor.routes c.receiver network ≡ Some c.message.buffer
   pub fields_sent : c.message.fields ≡ fields
+  pub not_recycled : c.message.recycled ≡ false
   pub timely :
       IsTimely (is_ordered actor.routes network) (now + latency + path_to actor.routes actor.me c.receiver + jitter_of actor mail c)
       (last_at (lasts_on mail.network_last network) c.receiver) c
@@ -43,6 +44,7 @@ pub record IsNetworkCopy (actor : Actor) (mail : Mail) (network latency : ℕ) (
 pub record IsOwnCopy (ordered : Bool) (mail : Mail) (own latency : ℕ) (fields : List Value) (now : ℕ) (c : Copy) : Type 0 where
   pub buffer : c.message.buffer ≡ own
   pub fields_sent : c.message.fields ≡ fields
+  pub not_recycled : c.message.recycled ≡ false
   pub timely : IsTimely ordered (now + latency) (last_at mail.local_last own) c
 
 -- copies for these receivers, each of which is as P says, and what they add to the counts
