@@ -19,7 +19,7 @@ use Rattle.ctl_face.specs.LocalView.{Actor, LocalView}
 use Rattle.ctl_face.specs.OfMachine.{TakesFields}
 use Rattle.ctl_face.specs.RoutesFit.{AgreeOnTypes, AreNumbered, IsFrom, ReceivesFrom, RoutesFit, StandsAt}
 use Rattle.ctl_face.specs.Routing.{receiving_buffer}
-use Rattle.ctl_face.specs.Send.{Sending, send}
+use Rattle.ctl_face.specs.Send.{Sending, receivers_of, send}
 use Rattle.ctl_face.specs.SendAdds.{IsNetworkCopy, IsOwnCopy, SendAdds}
 use Rattle.ctl_face.proofs.Lines.{All-found}
 use Rattle.ctl_face.proofs.Sendings.{other_takes}
@@ -87,11 +87,11 @@ module _ (machines : List MachineSetup) (stand : List (ℕ × ℕ)) (actor : Act
 
   each_fits : (p : BufferPlace) (latency now : ℕ) (mail : Mail) (sending : Sending) → s.place ≡ p → SendAdds p s.ordered actor mail buffer latency fields now sending → All (FitsReceiver machines stand) sending.copies
   each_fits place.Local latency now mail sending at_place adds =
-      all_for (IsOwnCopy s.ordered mail buffer latency fields now) (FitsReceiver machines stand) actor.me (own_copy_fits s.ordered latency now mail) sending.copies adds.to adds.each
+      all_for (IsOwnCopy s.ordered mail buffer latency fields now) (FitsReceiver machines stand) actor.me (own_copy_fits s.ordered latency now mail) sending.copies adds.0.to adds.0.each
   each_fits (place.To network destination) latency now mail sending at_place adds =
-      All-weaker (IsNetworkCopy actor mail network latency fields now) (FitsReceiver machines stand) (λ c copy. routed_fits network c (ap network_of at_place) copy.buffer copy.fields_sent) sending.copies adds.each
+      All-weaker (IsNetworkCopy actor mail network latency (receivers_of destination fields) fields now) (FitsReceiver machines stand) (λ c copy. routed_fits network c (ap network_of at_place) copy.buffer copy.fields_sent) sending.copies adds.0.each
   each_fits (place.From network) latency now mail sending at_place adds =
-      All-weaker (λ (c : Copy). ⊥) (FitsReceiver machines stand) (λ c no. absurd no) sending.copies adds.each
+      All-weaker (λ (c : Copy). ⊥) (FitsReceiver machines stand) (λ c no. absurd no) sending.copies adds.0.each
 
 pub sends_fit : (machines : List MachineSetup) (stand : List (ℕ × ℕ)) (actor : Actor) (at : ℕ) (m : MachineSetup) (mail : Mail) (buffer : ℕ) (latency : ℤ) (fields : List Value) (now : ℕ) (sending : Sending)
     → RoutesFit machines stand actor.routes → StandsAt stand at actor.me → slice_get machines at ≡ Some m → TakesFields m.buffers buffer fields
