@@ -40,7 +40,7 @@ is_parameters size.Parameters = true
 is_parameters _ = false
 
 -- the last table, and no other, is that of the parameters
-pub record EndInParameters (tables : List TableSetup) : Type 0 where
+pub record ParametersAreLast (tables : List TableSetup) : Type 0 where
   pub some : 0 < length tables
   pub last_alone :
       (table : ℕ) → IfSome (slice_get tables table) (λ (s : TableSetup). is_parameters s.size ≡ (table + 1 == length tables))
@@ -75,6 +75,6 @@ pub record ShareTypes (buffers : List BufferSetup) : Type 0 where
 
 pub record IsMachine (machine : MachineSetup) : Type 0 where
   pub tables : All IsTableSetup machine.tables
-  pub parameters : EndInParameters machine.tables
+  pub parameters : ParametersAreLast machine.tables
   pub buffers : All IsBufferSetup machine.buffers
   pub one_type : ShareTypes machine.buffers

@@ -2,7 +2,7 @@
 // the tests takes memory.
 ghost use Rattle.std.specs.Prelude.{◌≡◌, ◌↔◌, ◌≤◌, IsTrue, IfSome, Some, slice_get};
 ghost use Rattle.std.specs.List.{All};
-ghost use Rattle.ctl_face.specs.IsMachine.{AgreeOnType, ArePlain, EndInParameters, HasPlaces, IsBufferSetup, IsMachine, IsTableSetup, ShareTypes, is_parameters as is_parameters_of, network_of as network_of_place, receivers_field as receivers_field_of};
+ghost use Rattle.ctl_face.specs.IsMachine.{AgreeOnType, ArePlain, ParametersAreLast, HasPlaces, IsBufferSetup, IsMachine, IsTableSetup, ShareTypes, is_parameters as is_parameters_of, network_of as network_of_place, receivers_field as receivers_field_of};
 ghost use Rattle.ctl_face.specs.RoutesFit.{AreFrom, AreWithinLimits, HasRoutes, IsFrom, IsNamed, KeepsOrder, NamesBuffers, ReceivesFrom, longest_path};
 
 use crate::Routes;
@@ -45,7 +45,7 @@ fn is_parameters(size: TableSize) -> bool
 
 // Whether the last table, and no other, is that of the parameters.
 fn end_in_parameters(tables: &[TableSetup]) -> bool
-    ensures { IsTrue result ↔ EndInParameters tables.now }
+    ensures { IsTrue result ↔ ParametersAreLast tables.now }
 {
     for (table, s) in tables.iter().enumerate() {
         if is_parameters(s.size) != (table + 1 == tables.len()) {
