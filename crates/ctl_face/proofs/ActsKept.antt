@@ -1,7 +1,7 @@
 -- What holds of the copies that a scan has sent holds after each act.
-use Rattle.std.proofs.Common.{◌≡◌, ℕ, ℤ, zero, suc, ◌+◌, ◌<◌, Bool, true, false, cond, eqb, not, List, [], ◌∷◌, ◌++◌, map, filter, length, All, IsTrue, refl, sym, ap, subst, ◌∙◌, arith, length-append, Option, None, Some, Result, Ok, Err, nat_abs, slice_get, unwrap_or}
-use Rattle.std.proofs.lemmas.List.{length-map, map-append}
-use Rattle.std.proofs.lemmas.List.Elements.{All-append, All-filter, All-map, All-nil, All-weaker, filter-append}
+use Rattle.std.proofs.Common.{◌≡◌, ℕ, ℤ, zero, suc, ◌+◌, ◌<◌, Bool, true, false, cond, eqb, not, List, [], ◌∷◌, ◌++◌, map, filter, length, All, Contains, IsTrue, refl, sym, ap, subst, ◌∙◌, arith, length-append, Option, None, Some, Result, Ok, Err, nat_abs, slice_get, unwrap_or}
+use Rattle.std.proofs.lemmas.List.{get_or-map, length-map, map-append}
+use Rattle.std.proofs.lemmas.List.Elements.{All-append, All-contains, All-contains_itself, All-filter, All-map, All-nil, All-weaker, filter-append}
 use Rattle.std.proofs.lemmas.Bool.{eq-eqb}
 use Rattle.std.specs.Option.{option_map}
 use Rattle.std.specs.Prelude.{count_by}
@@ -27,7 +27,6 @@ use Rattle.ctl_face.specs.Ctl.{InboxMessage, Mail, Requests}
 use Rattle.ctl_face.specs.Enqueue.{after_sending, enqueue, for_others}
 use Rattle.ctl_face.specs.Fits.{NumbersAscend}
 use Rattle.ctl_face.specs.Front.{IsFront}
-use Rattle.ctl_face.specs.IsMachine.{network_of}
 use Rattle.ctl_face.specs.Latency.{is_latency}
 use Rattle.ctl_face.specs.LocalView.{Actor, LocalView}
 use Rattle.ctl_face.specs.Mailing.{incoming_message}
@@ -35,7 +34,7 @@ use Rattle.ctl_face.specs.OfMachine.{message_kinds}
 use Rattle.ctl_face.specs.Pop.{mail_without, pop}
 use Rattle.ctl_face.specs.Ready.{front_now}
 use Rattle.ctl_face.specs.Recycle.{mail_with_recycled, message_arriving_again, recycle}
-use Rattle.ctl_face.specs.Send.{Sending, no_copies, send}
+use Rattle.ctl_face.specs.Send.{Sending, no_copies, receivers_of, send}
 use Rattle.ctl_face.specs.SendAdds.{AddsCopies, IsNetworkCopy, SendAdds, numbers_from}
 use Rattle.ctl_face.specs.Stall.{mail_with_waiting, message_waiting_under, stall}
 use Rattle.ctl_face.specs.Table.{Table}
@@ -179,17 +178,35 @@ own_aside P me (c ∷ []) is =
     rw (eq-eqb c.receiver me same) (All-nil P)
 own_aside P me (c ∷ d ∷ rest) is = absurd (cc is)
 
+among_receivers : (copies : List Copy) (c : Copy) → Contains copies c → Contains (map (λ (x : Copy). x.receiver) copies) c.receiver
+among_receivers copies c there =
+    let within = there.1 in
+    let same = length-map copies (λ (x : Copy). x.receiver) in
+    (there.0, omega arith, get_or-map (λ (x : Copy). x.receiver) copies there.0 c c.receiver within ∙ ap (λ (x : Copy). x.receiver) there.2)
+
 routed_copies : (machine : MachineSetup) (actor : Actor) (mail : Mail) (buffer latency now : ℕ) (fields : List Value) (on : BufferSetup) (p : BufferPlace) (s : Sending) → slice_get machine.buffers buffer ≡ Some on → IsTrue (has_kinds on.kinds fields) → on.place ≡ p
     → SendAdds p on.ordered actor mail buffer latency fields now s → All (IsRouted machine actor.routes) (for_others actor.me s.copies)
-routed_copies machine actor mail buffer latency now fields on place.Local s is takes at adds = own_aside (IsRouted machine actor.routes) actor.me s.copies adds.to
+routed_copies machine actor mail buffer latency now fields on place.Local s is takes at adds = own_aside (IsRouted machine actor.routes) actor.me s.copies adds.0.to
 routed_copies machine actor mail buffer latency now fields on (place.To network destination) s is takes at adds =
-    let on_network : network_of on.place ≡ Some network = ap network_of at in
     All-filter (λ (c : Copy). not (eqb c.receiver actor.me)) (IsRouted machine actor.routes) s.copies
-    (All-weaker (IsNetworkCopy actor mail network latency fields now) (IsRouted machine actor.routes)
-    (λ c copy. record { network = network; on = buffer; sends = rw (is, copy.fields_sent) (on_network, takes); receives = copy.buffer }) s.copies adds.each)
+    (All-weaker (Contains s.copies) (IsRouted machine actor.routes) routed s.copies (All-contains_itself s.copies))
+  where
+    routed : (c : Copy) → Contains s.copies c → IsRouted machine actor.routes c
+    routed c there =
+        let copy = All-contains (IsNetworkCopy actor mail network latency (receivers_of destination fields) fields now) s.copies c adds.0.each there in
+        let among = subst (λ (rs : List ℕ). Contains rs c.receiver) adds.0.to (among_receivers s.copies c there) in
+        record {
+          network = network;
+          destination = destination;
+          on = buffer;
+          sends = rw (is, copy.fields_sent) (at, takes);
+          named = rw copy.fields_sent among;
+          receives = copy.buffer;
+          not_recycled = copy.not_recycled;
+        }
 routed_copies machine actor mail buffer latency now fields on (place.From network) s is takes at adds =
     All-filter (λ (c : Copy). not (eqb c.receiver actor.me)) (IsRouted machine actor.routes) s.copies
-    (All-weaker (λ (c : Copy). ⊥) (IsRouted machine actor.routes) (λ c none. absurd none) s.copies adds.each)
+    (All-weaker (λ (c : Copy). ⊥) (IsRouted machine actor.routes) (λ c none. absurd none) s.copies adds.0.each)
 
 sending_acts : (v : LocalView) (buffer : ℕ) (latency : ℤ) (fields : List Value) (sent : SentFits v.machine v.actor v.now v.start.mail.sent v.ctl.mail.sent v.acts.sent v.acts.posted) (o : Option BufferSetup) → slice_get v.machine.buffers buffer ≡ o
     → IsTrue (has_kinds (unwrap_or (option_map (λ (b : BufferSetup). b.kinds) o) []) fields) → (s : Sending) → send v.machine v.actor v.ctl.mail buffer latency fields v.now ≡ Ok s
@@ -205,9 +222,9 @@ sending_acts v buffer latency fields before (Some on) is takes s sent =
 
     go : (p : BufferPlace) → on.place ≡ p → SendAdds p on.ordered v.actor v.ctl.mail buffer (nat_abs latency) fields v.now s
         → SentFits v.machine v.actor v.now v.start.mail.sent s.mail.sent (v.acts.sent ++ map note_of s.copies) (v.acts.posted ++ for_others v.actor.me s.copies)
-    go place.Local at adds = more_sent v before s _ _ _ adds later (routed place.Local at adds)
-    go (place.To network destination) at adds = more_sent v before s _ _ _ adds later (routed (place.To network destination) at adds)
-    go (place.From network) at adds = more_sent v before s _ _ _ adds later (routed (place.From network) at adds)
+    go place.Local at adds = more_sent v before s _ _ _ adds.0 later (routed place.Local at adds)
+    go (place.To network destination) at adds = more_sent v before s _ _ _ adds.0 later (routed (place.To network destination) at adds)
+    go (place.From network) at adds = more_sent v before s _ _ _ adds.0 later (routed (place.From network) at adds)
 sending_acts v buffer latency fields before None is takes s sent = none (is_latency latency) (rw is at sent)
   where
     none : (b : Bool) → cond b (Ok (no_copies v.ctl.mail)) (Err Latency) ≡ Ok s → SentFits v.machine v.actor v.now v.start.mail.sent s.mail.sent (v.acts.sent ++ map note_of s.copies) (v.acts.posted ++ for_others v.actor.me s.copies)

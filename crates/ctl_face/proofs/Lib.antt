@@ -8,6 +8,7 @@ pub mod FieldKinds
 pub mod Fronts
 pub mod Held
 pub mod Inboxes
+pub mod LastArrivals
 pub mod LawfulAfter
 pub mod Lines
 pub mod MailKept

@@ -1,12 +1,10 @@
 -- What a send adds: one copy for each receiver, and what this adds to the counts.
-use Rattle.std.proofs.Common.{◌≡◌, ℕ, ℤ, zero, suc, ◌+◌, ◌-◌, ◌≤◌, Bool, true, false, cond, eqb, not, max, List, [], ◌∷◌, ◌++◌, map, length, All, refl, sym, ap, subst, ◌∙◌, arith, append_assoc, length-append, Option, None, Some, Ok, Err, unwrap_or, is_some, nat_abs, slice_get}
-use Rattle.std.proofs.lemmas.Bool.{and_parts, eqb-true, not-false}
-use Rattle.std.proofs.lemmas.List.{append-nil, map-append}
-use Rattle.std.proofs.lemmas.List.Elements.{All-nil, All-cons, All-push}
+use Rattle.std.proofs.Common.{◌≡◌, ℕ, ℤ, zero, suc, ◌+◌, ◌-◌, ◌≤◌, Bool, true, false, cond, eqb, not, max, List, [], ◌∷◌, ◌++◌, map, length, All, refl, sym, ap, subst, ◌∙◌, arith, append_assoc, length-append, Option, None, Some, Ok, Err, unwrap_or, is_some, nat_abs, slice_get, Contains, get_or, length-set, get_or-append-add}
+use Rattle.std.proofs.lemmas.Bool.{and_parts, not-false}
+use Rattle.std.proofs.lemmas.List.{append-nil, get_or_append_left, map-append}
+use Rattle.std.proofs.lemmas.List.Elements.{All-nil, All-cons, All-push, Contains-append_left, Contains-push}
 use Rattle.std.specs.Bool.{nat_lt}
-use Rattle.std.specs.Cmp.{nat_cmp_total, unsigned_tied}
-use Rattle.std.specs.FinMap as finite
-use Rattle.std.specs.List.{fold, list_all, slice_set}
+use Rattle.std.specs.List.{fold, list_all}
 use Rattle.ruby_value.specs.declared.fault.Fault.TheVariants.{Latency, Route, Copies}
 use Rattle.ruby_value.specs.declared.message.Message.{Message}
 use Rattle.ruby_value.specs.declared.message.MsgNo.{MsgNo}
@@ -23,7 +21,8 @@ use Rattle.ctl_face.specs.LocalView.{Actor}
 use Rattle.ctl_face.specs.Mailing.{mail_with_delivery}
 use Rattle.ctl_face.specs.Routing.{is_ordered, path_to, receiving_buffer}
 use Rattle.ctl_face.specs.Send.{Sending, copy_limit, has_jitter, local_arrival, local_copy, network_arrival, next_copy, no_copies, receivers_of, send, sending_from, sending_on, with_network_copy}
-use Rattle.ctl_face.specs.SendAdds.{AddsCopies, IsNetworkCopy, IsOwnCopy, IsTimely, SendAdds, numbers_from}
+use Rattle.ctl_face.specs.SendAdds.{AddsCopies, AllDiffer, IsNetworkCopy, IsOwnCopy, NetworkLasts, OwnLasts, SendAdds, arrival_after, mail_with_own, numbers_from}
+use Rattle.ctl_face.proofs.LastArrivals.{inbox_after, inserted_elsewhere, inserted_here, lasts_after, marks_after, no_lasts, no_less, not_moved}
 use Rattle.ctl_face.proofs.Cases.{Good, good_ok, good_err, good_cond}
 use Rattle.pcg_words.specs.Below.{below}
 
@@ -34,25 +33,6 @@ numbers_push sender count (suc n) =
     let more : suc n + 1 ≡ suc (n + 1) = omega arith in
     rw (same, more) (ap (λ (ns : List MsgNo). record { sender = sender; count = count } ∷ ns) (numbers_push sender (count + 1) n))
 
--- a last arrival is written where there is a place for it
-at_written : (P : Lasts → Type 0) (networks : List Lasts) (network : ℕ) (w : Lasts) → P (lasts_on networks network) → P w → P (lasts_on (slice_set networks network w) network)
-at_written P [] network w before after = before
-at_written P (l ∷ networks) zero w before after = after
-at_written P (l ∷ networks) (suc network) w before after = at_written P networks network w before after
-
-inserted_last : (lasts : Lasts) (receiver arrival q : ℕ) → last_at lasts receiver ≤ arrival → last_at lasts q ≤ last_at (finite.insert lasts receiver arrival) q
-inserted_last lasts receiver arrival q behind =
-    rw (finite.get-insert nat_cmp_total lasts receiver arrival q, unsigned_tied q receiver)
-    (elim (eqb q receiver) as (λ b. eqb q receiver ≡ b → last_at lasts q ≤ unwrap_or (cond b (Some arrival) (finite.get lasts q)) 0) [
-      | true ↦ λ same. subst (λ (r : ℕ). last_at lasts r ≤ arrival) (sym (eqb-true q receiver same)) behind
-      | false ↦ λ _. omega arith
-    ] refl)
-
-no_less : (networks : List Lasts) (network receiver arrival q : ℕ) → last_at (lasts_on networks network) receiver ≤ arrival → last_at (lasts_on networks network) q ≤ last_at (lasts_on (with_last networks network receiver arrival) network) q
-no_less networks network receiver arrival q behind =
-    let before = lasts_on networks network in
-    at_written (λ (l : Lasts). last_at before q ≤ last_at l q) networks network (finite.insert before receiver arrival) (omega arith) (inserted_last before receiver arrival q behind)
-
 delivered_drawn : (mine : Bool) (mail : Mail) (m : Message) → (mail_with_delivery mine mail m).drawn ≡ mail.drawn
 delivered_drawn true mail m = refl
 delivered_drawn false mail m = refl
@@ -61,17 +41,38 @@ delivered_lasts : (mine : Bool) (mail : Mail) (m : Message) → (mail_with_deliv
 delivered_lasts true mail m = refl
 delivered_lasts false mail m = refl
 
+delivered_own : (mine : Bool) (mail : Mail) (m : Message) → (mail_with_delivery mine mail m).local_last ≡ mail.local_last
+delivered_own true mail m = refl
+delivered_own false mail m = refl
+
 same_word : (b : Bool) (seed me bound drawn sent d s n : ℕ) → sent ≡ s + n → drawn ≡ d + cond b n 0 → cond b (below seed me drawn bound) 0 ≡ cond b (below seed me (d + (sent - s)) bound) 0
 same_word true seed me bound drawn sent d s n sent_is drawn_is = let same : drawn ≡ d + (sent - s) = omega arith in ap (λ (k : ℕ). below seed me k bound) same
 same_word false seed me bound drawn sent d s n sent_is drawn_is = refl
 
-timely : (ordered : Bool) (sum cycle last first : ℕ) (c : Copy) → c.message.arrival ≡ cond ordered (max sum last) sum → sum ≡ cycle → first ≤ last → IsTimely ordered cycle first c
-timely true sum cycle last first c is same above = record { in_time = rw is (omega arith); exact = λ wrong. absurd (cc wrong); in_order = λ _. rw is (omega arith) }
-timely false sum cycle last first c is same above = record { in_time = rw is (omega arith); exact = λ _. is ∙ same; in_order = λ wrong. absurd (cc wrong) }
+-- a copy that is raised to the last arrival isn't earlier than one that is raised to an earlier one, and comes at the same time
+-- where that is the same
+not_before : (ordered : Bool) (sum due last first arrival : ℕ) → arrival ≡ cond ordered (max sum last) sum → sum ≡ due → first ≤ last → arrival_after ordered due first ≤ arrival
+not_before true sum due last first arrival is same above = omega arith
+not_before false sum due last first arrival is same above = omega arith
 
-module _ (actor : Actor) (start : Mail) (network latency : ℕ) (fields : List Value) (now : ℕ) where
+exactly : (ordered : Bool) (sum due last first arrival : ℕ) → arrival ≡ cond ordered (max sum last) sum → sum ≡ due → (ordered ≡ true → last ≡ first) → arrival ≡ arrival_after ordered due first
+exactly true sum due last first arrival is same alone = is ∙ ap (max sum) (alone refl) ∙ ap (λ (k : ℕ). max k first) same
+exactly false sum due last first arrival is same alone = is ∙ same
+
+-- of receivers that differ, the next isn't among those that are done
+not_among : (done rest : List ℕ) (receiver : ℕ) → AllDiffer (done ++ receiver ∷ rest) → Contains done receiver → ⊥
+not_among done rest receiver differ there =
+    let within = there.1 in
+    let long = length-append done (receiver ∷ rest) in
+    let more : length (receiver ∷ rest) ≡ length rest + 1 = omega arith in
+    let before : get_or (done ++ receiver ∷ rest) there.0 receiver ≡ receiver = get_or_append_left done (receiver ∷ rest) receiver there.0 within ∙ there.2 in
+    let zero_more : length done + 0 ≡ length done = omega arith in
+    let here : get_or (done ++ receiver ∷ rest) (length done) receiver ≡ receiver = ap (λ (k : ℕ). get_or (done ++ receiver ∷ rest) k receiver) (sym zero_more) ∙ get_or-append-add done (receiver ∷ rest) 0 receiver in
+    differ there.0 (length done) receiver within (omega arith) (before ∙ sym here)
+
+module _ (actor : Actor) (start : Mail) (network latency : ℕ) (receivers : List ℕ) (fields : List Value) (now : ℕ) where
   abbrev IsCopy : Copy → Type 0
-  IsCopy = IsNetworkCopy actor start network latency fields now
+  IsCopy = IsNetworkCopy actor start network latency receivers fields now
 
   -- after copies for some receivers
   record Done (done : List ℕ) (s : Sending) : Type 0 where
@@ -81,7 +82,12 @@ module _ (actor : Actor) (start : Mail) (network latency : ℕ) (fields : List V
     sent : s.mail.sent ≡ start.sent + length done
     copies_counted : s.mail.copies ≡ start.copies + length done
     drawn : s.mail.drawn ≡ start.drawn + cond (has_jitter actor) (length done) 0
-    lasts : (q : ℕ) → last_at (lasts_on start.network_last network) q ≤ last_at (lasts_on s.mail.network_last network) q
+    inbox : s.mail.inbox ≡ (mail_with_own actor.me start s.copies).inbox
+    marks : s.mail.marks ≡ (mail_with_own actor.me start s.copies).marks
+    risen : (q : ℕ) → last_at (lasts_on start.network_last network) q ≤ last_at (lasts_on s.mail.network_last network) q
+    others : is_ordered actor.routes network ≡ true → (q : ℕ) → (Contains done q → ⊥) → last_at (lasts_on s.mail.network_last network) q ≡ last_at (lasts_on start.network_last network) q
+    networks : length s.mail.network_last ≡ length start.network_last
+    lasts : NetworkLasts (is_ordered actor.routes network) network start s.mail s.copies
 
   one_drawn : (b : Bool) (drawn n : ℕ) → drawn ≡ start.drawn + cond b n 0 → cond b (drawn + 1) drawn ≡ start.drawn + cond b (n + 1) 0
   one_drawn true drawn n is = omega arith
@@ -96,12 +102,23 @@ module _ (actor : Actor) (start : Mail) (network latency : ℕ) (fields : List V
       omega arith
   lasts_kept false networks receiver sum q before = before
 
+  others_kept : (b : Bool) (networks : List Lasts) (done : List ℕ) (receiver arrival : ℕ) → ((q : ℕ) → (Contains done q → ⊥) → last_at (lasts_on networks network) q ≡ last_at (lasts_on start.network_last network) q)
+      → (q : ℕ) → (Contains (done ++ receiver ∷ []) q → ⊥) → last_at (lasts_on (cond b (with_last networks network receiver arrival) networks) network) q ≡ last_at (lasts_on start.network_last network) q
+  others_kept true networks done receiver arrival before q apart =
+      not_moved networks network receiver arrival q (λ same. apart (subst (Contains (done ++ receiver ∷ [])) (sym same) (Contains-push done receiver)))
+      ∙ before q (λ there. apart (Contains-append_left done (receiver ∷ []) q there))
+  others_kept false networks done receiver arrival before q apart = before q (λ there. apart (Contains-append_left done (receiver ∷ []) q there))
+
+  networks_kept : (b : Bool) (networks : List Lasts) (receiver arrival : ℕ) → length networks ≡ length start.network_last → length (cond b (with_last networks network receiver arrival) networks) ≡ length start.network_last
+  networks_kept true networks receiver arrival same = length-set networks network _ ∙ same
+  networks_kept false networks receiver arrival same = same
+
   named : (o : Option ℕ) → is_some o ≡ true → o ≡ Some (unwrap_or o 0)
   named None wrong = absurd (cc wrong)
   named (Some b) is = refl
 
-  one_done : (done : List ℕ) (s : Sending) (receiver : ℕ) → is_some (receiving_buffer actor.routes receiver network) ≡ true → Done done s → Done (done ++ receiver ∷ []) (with_network_copy actor network latency fields now s receiver)
-  one_done done s receiver routed before =
+  one_done : (done : List ℕ) (s : Sending) (receiver : ℕ) → is_some (receiving_buffer actor.routes receiver network) ≡ true → (AllDiffer receivers → Contains done receiver → ⊥) → Done done s → Done (done ++ receiver ∷ []) (with_network_copy actor network latency fields now s receiver)
+  one_done done s receiver routed apart before =
       let arrival = network_arrival actor s.mail network latency now receiver in
       let buffer = unwrap_or (receiving_buffer actor.routes receiver network) 0 in
       let copy = next_copy actor s.mail receiver buffer arrival fields in
@@ -111,6 +128,11 @@ module _ (actor : Actor) (start : Mail) (network latency : ℕ) (fields : List V
       let word = same_word (has_jitter actor) actor.seed actor.me (actor.routes.jitter + 1) s.mail.drawn s.mail.sent start.drawn start.sent (length done) before.sent before.drawn in
       let same_drawn = delivered_drawn is_mine s.mail copy.message in
       let same_lasts = delivered_lasts is_mine s.mail copy.message in
+      let ordered = is_ordered actor.routes network in
+      let after = (with_network_copy actor network latency fields now s receiver).mail in
+      let due = ap (λ (j : ℕ). now + latency + path + j) word in
+      let last = last_at (lasts_on s.mail.network_last network) receiver in
+      let first = last_at (lasts_on start.network_last network) receiver in
       record {
         to = map-append _ s.copies (copy ∷ []) ∙ ap (λ (rs : List ℕ). rs ++ receiver ∷ []) before.to;
         numbers = map-append _ s.copies (copy ∷ []) ∙ ap (λ (ns : List MsgNo). ns ++ record { sender = actor.me; count = s.mail.sent } ∷ []) before.numbers
@@ -119,21 +141,30 @@ module _ (actor : Actor) (start : Mail) (network latency : ℕ) (fields : List V
         each = All-push IsCopy s.copies copy before.each (record {
           buffer = named (receiving_buffer actor.routes receiver network) routed;
           fields_sent = refl;
-          timely = timely (is_ordered actor.routes network) _ _ (last_at (lasts_on s.mail.network_last network) receiver) _ copy refl (ap (λ (j : ℕ). now + latency + path + j) word) (before.lasts receiver);
+          not_recycled = refl;
+          no_earlier = not_before ordered _ _ last first arrival refl due (before.risen receiver);
+          exact = λ differ. exactly ordered _ _ last first arrival refl due (λ is. before.others is receiver (apart (differ is)));
         });
         sent = (let here = before.sent in omega arith);
         copies_counted = (let here = before.copies_counted in omega arith);
         drawn = rw (same_drawn, longer) (one_drawn (has_jitter actor) s.mail.drawn (length done) before.drawn);
-        lasts = λ q. rw same_lasts (lasts_kept (is_ordered actor.routes network) s.mail.network_last receiver _ q (before.lasts q));
+        inbox = inbox_after actor.me start s.mail s.copies copy before.inbox;
+        marks = marks_after actor.me start s.mail s.copies copy before.marks;
+        risen = λ q. rw same_lasts (lasts_kept ordered s.mail.network_last receiver _ q (before.risen q));
+        others = λ is q among. rw same_lasts (others_kept ordered s.mail.network_last done receiver arrival (before.others is) q among);
+        networks = rw same_lasts (networks_kept ordered s.mail.network_last receiver arrival before.networks);
+        lasts = lasts_after network start ordered s.mail s.copies copy _ before.networks refl before.lasts after
+            (ap (λ (ls : List Lasts). cond ordered (with_last ls network receiver arrival) ls) same_lasts) (delivered_own is_mine s.mail copy.message);
       }
 
   all_done : (members done : List ℕ) (s : Sending) → list_all (λ receiver. is_some (receiving_buffer actor.routes receiver network)) members ≡ true
-      → Done done s → Done (done ++ members) (fold (with_network_copy actor network latency fields now) s members)
-  all_done [] done s routed before = subst (λ (rs : List ℕ). Done rs s) (sym (append-nil done)) before
-  all_done (receiver ∷ members) done s routed before =
+      → receivers ≡ done ++ members → Done done s → Done (done ++ members) (fold (with_network_copy actor network latency fields now) s members)
+  all_done [] done s routed whole before = subst (λ (rs : List ℕ). Done rs s) (sym (append-nil done)) before
+  all_done (receiver ∷ members) done s routed whole before =
       let both = and_parts (is_some (receiving_buffer actor.routes receiver network)) (list_all (λ r. is_some (receiving_buffer actor.routes r network)) members) routed in
       subst (λ (rs : List ℕ). Done rs (fold (with_network_copy actor network latency fields now) s (receiver ∷ members))) (append_assoc done (receiver ∷ []) members)
-      (all_done members (done ++ receiver ∷ []) (with_network_copy actor network latency fields now s receiver) both.1 (one_done done s receiver both.0 before))
+      (all_done members (done ++ receiver ∷ []) (with_network_copy actor network latency fields now s receiver) both.1 (whole ∙ sym (append_assoc done (receiver ∷ []) members))
+      (one_done done s receiver both.0 (λ differ. not_among done members receiver (subst AllDiffer whole differ)) before))
 
   none_drawn : (b : Bool) → start.drawn ≡ start.drawn + cond b 0 0
   none_drawn true = omega arith
@@ -147,36 +178,69 @@ module _ (actor : Actor) (start : Mail) (network latency : ℕ) (fields : List V
     sent = omega arith;
     copies_counted = omega arith;
     drawn = none_drawn (has_jitter actor);
-    lasts = λ q. omega arith;
+    inbox = refl;
+    marks = refl;
+    risen = λ q. omega arith;
+    others = λ _ q _. refl;
+    networks = refl;
+    lasts = no_lasts network start (is_ordered actor.routes network);
   }
 
-  network_adds : (members : List ℕ) → list_all (λ receiver. is_some (receiving_buffer actor.routes receiver network)) members ≡ true
-      → AddsCopies actor start members (cond (has_jitter actor) (length members) 0) IsCopy (fold (with_network_copy actor network latency fields now) (no_copies start) members)
-  network_adds members routed =
-      let done = all_done members [] (no_copies start) routed none_done in
-      record { to = done.to; numbers = done.numbers; each = done.each; sent = done.sent; copies_counted = done.copies_counted; drawn = done.drawn }
+  pub network_adds : list_all (λ receiver. is_some (receiving_buffer actor.routes receiver network)) receivers ≡ true
+      → (let sending = fold (with_network_copy actor network latency fields now) (no_copies start) receivers in
+      AddsCopies actor start receivers (cond (has_jitter actor) (length receivers) 0) IsCopy sending × NetworkLasts (is_ordered actor.routes network) network start sending.mail sending.copies)
+  network_adds routed =
+      let done = all_done receivers [] (no_copies start) routed refl none_done in (
+        record { to = done.to; numbers = done.numbers; each = done.each; sent = done.sent; copies_counted = done.copies_counted; drawn = done.drawn; inbox = done.inbox; marks = done.marks },
+        done.lasts,
+      )
 
 pub nothing_added : (actor : Actor) (mail : Mail) → AddsCopies actor mail [] 0 (λ c. ⊥) (no_copies mail)
-nothing_added actor mail = record { to = refl; numbers = refl; each = All-nil (λ c. ⊥); sent = omega arith; copies_counted = omega arith; drawn = omega arith }
+nothing_added actor mail = record { to = refl; numbers = refl; each = All-nil (λ c. ⊥); sent = omega arith; copies_counted = omega arith; drawn = omega arith; inbox = refl; marks = refl }
+
+own_lasts : (ordered : Bool) (actor : Actor) (mail : Mail) (buffer latency : ℕ) (fields : List Value) (now : ℕ)
+    → (let sending = local_copy actor ordered mail buffer latency fields now in OwnLasts ordered buffer mail sending.mail sending.copies)
+own_lasts true actor mail buffer latency fields now =
+    let arrival = local_arrival true mail buffer latency now in
+    let copy = next_copy actor mail actor.me buffer arrival fields in
+    record {
+      in_order = λ _. inserted_here mail.local_last buffer arrival ∙ (let same : arrival ≡ max (last_at mail.local_last buffer) arrival = omega arith in same);
+      other_buffers = λ other apart. inserted_elsewhere mail.local_last buffer arrival other apart;
+      unordered = λ wrong. absurd (cc wrong);
+      networks = delivered_lasts (eqb actor.me actor.me) mail copy.message;
+    }
+own_lasts false actor mail buffer latency fields now =
+    let copy = next_copy actor mail actor.me buffer (local_arrival false mail buffer latency now) fields in
+    record {
+      in_order = λ wrong. absurd (cc wrong);
+      other_buffers = λ _ _. refl;
+      unordered = λ _. refl;
+      networks = delivered_lasts (eqb actor.me actor.me) mail copy.message;
+    }
 
 own_added : (actor : Actor) (ordered : Bool) (mail : Mail) (buffer latency : ℕ) (fields : List Value) (now : ℕ) → AddsCopies actor mail (actor.me ∷ []) 0 (IsOwnCopy ordered mail buffer latency fields now) (local_copy actor ordered mail buffer latency fields now)
 own_added actor ordered mail buffer latency fields now =
     let copy = next_copy actor mail actor.me buffer (local_arrival ordered mail buffer latency now) fields in
     let P = IsOwnCopy ordered mail buffer latency fields now in
-    let is : IsOwnCopy ordered mail buffer latency fields now copy = record {
-      buffer = refl;
-      fields_sent = refl;
-      timely = timely ordered (now + latency) (now + latency) (last_at mail.local_last buffer) (last_at mail.local_last buffer) copy refl refl (omega arith);
-    } in
+    let is : P copy = record { buffer = refl; fields_sent = refl; not_recycled = refl; arrival = refl } in
     let same = delivered_drawn (eqb actor.me actor.me) mail copy.message in
-    record { to = refl; numbers = refl; each = All-cons P copy [] is (All-nil P); sent = refl; copies_counted = refl; drawn = same ∙ (omega arith) }
+    record {
+      to = refl;
+      numbers = refl;
+      each = All-cons P copy [] is (All-nil P);
+      sent = refl;
+      copies_counted = refl;
+      drawn = same ∙ (omega arith);
+      inbox = inbox_after actor.me mail mail [] copy refl;
+      marks = marks_after actor.me mail mail [] copy refl;
+    }
 
 on_adds : (p : BufferPlace) (ordered : Bool) (actor : Actor) (mail : Mail) (buffer latency : ℕ) (fields : List Value) (now : ℕ) → Good (SendAdds p ordered actor mail buffer latency fields now) (sending_on p ordered actor mail buffer latency fields now)
 on_adds place.Local ordered actor mail buffer latency fields now =
     let P = SendAdds place.Local ordered actor mail buffer latency fields now in
     let sending = local_copy actor ordered mail buffer latency fields now in
     good_cond P (nat_lt copy_limit (mail.copies + 1)) (Err Copies) (Ok sending) (λ _. good_err P Copies)
-    (λ _. good_ok P sending (own_added actor ordered mail buffer latency fields now))
+    (λ _. good_ok P sending (own_added actor ordered mail buffer latency fields now, own_lasts ordered actor mail buffer latency fields now))
 on_adds (place.To network destination) ordered actor mail buffer latency fields now =
     let P = SendAdds (place.To network destination) ordered actor mail buffer latency fields now in
     let members = receivers_of destination fields in
@@ -185,9 +249,9 @@ on_adds (place.To network destination) ordered actor mail buffer latency fields 
     let many = nat_lt copy_limit (mail.copies + length members) in
     good_cond P (not routed) (Err Route) (cond many (Err Copies) (Ok sending)) (λ _. good_err P Route)
     (λ are_routed. good_cond P many (Err Copies) (Ok sending) (λ _. good_err P Copies)
-    (λ _. good_ok P sending (network_adds actor mail network latency fields now members (not-false routed are_routed))))
+    (λ _. good_ok P sending (network_adds actor mail network latency members fields now (not-false routed are_routed))))
 on_adds (place.From network) ordered actor mail buffer latency fields now =
-    good_ok (SendAdds (place.From network) ordered actor mail buffer latency fields now) (no_copies mail) (nothing_added actor mail)
+    good_ok (SendAdds (place.From network) ordered actor mail buffer latency fields now) (no_copies mail) (nothing_added actor mail, refl)
 
 pub send_adds : (machine : MachineSetup) (actor : Actor) (mail : Mail) (buffer : ℕ) (latency : ℤ) (fields : List Value) (now : ℕ) (on : BufferSetup) (s : Sending) → slice_get machine.buffers buffer ≡ Some on
     → send machine actor mail buffer latency fields now ≡ Ok s → SendAdds on.place on.ordered actor mail buffer (nat_abs latency) fields now s

@@ -118,7 +118,7 @@ pub other_takes : (network : ℕ) (fields : List Value) (s : BufferSetup) → ne
 other_takes network fields s on here buffers b None there from agree = absurd (cc from)
 other_takes network fields s on here buffers b (Some t) there from agree =
     let at_place : t.place ≡ place.From network = cc in
-    takes_fields buffers b t fields there (same_kinds_take s.kinds t.kinds fields (agree network on (ap network_of at_place)) here)
+    takes_fields buffers b t fields there (same_kinds_take s.kinds t.kinds fields (agree.kinds network (on, ap network_of at_place)) here)
 
 module _ (machine : MachineSetup) (lawful : IsMachine machine) (actor : Actor) (own : ReceivesFrom machine actor.me actor.routes) (network buffer : ℕ) (fields : List Value) (s : BufferSetup) (is : slice_get machine.buffers buffer ≡ Some s) (on : network_of s.place ≡ Some network) (here : IsTrue (has_kinds s.kinds fields)) where
   agrees : All (AgreeOnType s) machine.buffers

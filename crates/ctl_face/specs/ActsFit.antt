@@ -1,30 +1,40 @@
 -- What always holds of the copies that a scan has sent, and of all its messages: none is lost or made but by sending and
 -- consuming. The copies' notes have the controller's next numbers, from the first that was free as the scan began, and the
 -- controller has counted them; each arrives after this cycle. The posted copies are those that aren't for the controller
--- itself, each in the buffer that takes a network's messages at its receiver, with fields like those of the messages that the
--- machine sends on this network.
-use Rattle.std.specs.Prelude.{◌≡◌, ◌<◌, ◌+◌, ◌==◌, ℕ, Bool, List, Some, not, map, filter, length, count_by, slice_get, IsTrue, IsSomeAnd}
+-- itself. Each is for a receiver that its message names, in the buffer that takes a network's messages there, and has fields like
+-- those of the messages of one of the machine's buffers to this network. Of the messages in the inbox, numbers alone are told.
+use Rattle.std.specs.Prelude.{◌≡◌, ◌<◌, ◌+◌, ◌==◌, ℕ, Bool, false, List, Option, Some, not, map, filter, length, count_by, slice_get, IsTrue, IsSomeAnd, Contains}
 use Rattle.std.specs.List.{All}
 use Rattle.ruby_value.specs.declared.message.MsgNo.{MsgNo}
+use Rattle.ruby_value.specs.declared.setup.BufferPlace.TheVariants as place
 use Rattle.ruby_value.specs.declared.setup.BufferSetup.{BufferSetup}
 use Rattle.ruby_value.specs.declared.setup.MachineSetup.{MachineSetup}
+use Rattle.ruby_value.specs.declared.value.Value.{Value}
 use Rattle.ruby_value.specs.HasKinds.{has_kinds}
 use Rattle.ctl_face.specs.Acts.{Copy, Note, note_of}
 use Rattle.ctl_face.specs.Ctl.{InboxMessage}
 use Rattle.ctl_face.specs.declared.routes.Routes.{Routes}
-use Rattle.ctl_face.specs.IsMachine.{network_of}
 use Rattle.ctl_face.specs.LocalView.{Actor, LocalView}
 use Rattle.ctl_face.specs.Routing.{receiving_buffer}
+use Rattle.ctl_face.specs.Send.{receivers_of}
 use Rattle.ctl_face.specs.SendAdds.{numbers_from}
 
--- the machine has a buffer on the network with messages like the copy, which is in the buffer of its receiver from there
+-- messages with these fields are sent on the buffer, which is to the network, and this field names their receivers
+abbrev pub IsSentOn : (network : ℕ) (destination : Option ℕ) (fields : List Value) → BufferSetup → Type 0
+IsSentOn network destination fields s = (s.place ≡ place.To network destination) × IsTrue (has_kinds s.kinds fields)
+
+-- the machine sends messages like the copy on a buffer to the network; the receiver is one that the message names, and the copy
+-- is in the receiver's buffer from there, where it hasn't been recycled yet
 pub record IsRouted (machine : MachineSetup) (routes : Routes) (c : Copy) : Type 0 where
   pub network : ℕ
+  pub destination : Option ℕ
   pub on : ℕ
-  pub sends : IsSomeAnd (slice_get machine.buffers on) (λ (s : BufferSetup). (network_of s.place ≡ Some network) × IsTrue (has_kinds s.kinds c.message.fields))
+  pub sends : IsSomeAnd (slice_get machine.buffers on) (IsSentOn network destination c.message.fields)
+  pub named : Contains (receivers_of destination c.message.fields) c.receiver
   pub receives : receiving_buffer routes c.receiver network ≡ Some c.message.buffer
+  pub not_recycled : c.message.recycled ≡ false
 
--- of a controller that had sent so many messages as the scan began, and has sent so many now
+-- of a controller that had sent `before` messages as the scan began, and has sent `after` now
 pub record SentFits (machine : MachineSetup) (actor : Actor) (now before after : ℕ) (notes : List Note) (posted : List Copy) : Type 0 where
   pub numbers : map (λ (n : Note). n.number) notes ≡ numbers_from actor.me before (length notes)
   pub count : after ≡ before + length notes

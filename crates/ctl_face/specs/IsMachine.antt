@@ -1,9 +1,11 @@
 -- What holds of what a machine is to its controllers: each cache and TBE table has place for a line, and for no more than the
 -- limits; no field of a line or of a message is a reference; the default fields of each table have their kinds; a buffer's
--- network is one of the 16; the field that names the receivers of a message to a network is a set of controllers; buffers on
--- one network have one message type, whatever the default members of its enumerations are called; and its last table, and no
--- other, is that of its parameters. That no field is a reference is the rule of SLICC in gem5; the limits, and where the
--- parameters are, are this project's own.
+-- network is one of the 16; the field that names the receivers of a message to a network is a set of controllers; on one network
+-- the messages of all buffers have fields of the same kinds, whatever the default members of their enumerations are called, and
+-- all that go to it have their receivers in the same field; and its last table, and no other, is that of its parameters.
+-- That two buffers from one network may not be is left to routes: none fit a machine that has two (`HasRoutes`).
+-- That no field is a reference is the rule of SLICC in gem5; that no parameter is one, the limits, and where the parameters are,
+-- are this project's own.
 use Rattle.std.specs.Prelude.{◌≡◌, ◌<◌, ◌≤◌, ◌+◌, ◌*◌, ◌==◌, ℕ, Bool, true, false, List, Option, None, Some, length, slice_get, IsTrue, IfSome}
 use Rattle.std.specs.List.{All}
 use Rattle.ruby_value.specs.declared.kind.Kind.TheVariants.{Dest}
@@ -40,7 +42,7 @@ is_parameters size.Parameters = true
 is_parameters _ = false
 
 -- the last table, and no other, is that of the parameters
-pub record EndInParameters (tables : List TableSetup) : Type 0 where
+pub record ParametersAreLast (tables : List TableSetup) : Type 0 where
   pub some : 0 < length tables
   pub last_alone :
       (table : ℕ) → IfSome (slice_get tables table) (λ (s : TableSetup). is_parameters s.size ≡ (table + 1 == length tables))
@@ -65,16 +67,25 @@ pub record IsBufferSetup (s : BufferSetup) : Type 0 where
   pub receivers : IfSome (receivers_field s.place) (λ field. slice_get s.kinds field ≡ Some Dest)
   pub plain : ArePlain s.kinds
 
--- two buffers on one network have one message type
-abbrev pub AgreeOnType : BufferSetup → BufferSetup → Type 0
-AgreeOnType a b = (network : ℕ) → network_of a.place ≡ Some network → network_of b.place ≡ Some network → IsTrue (same_kinds a.kinds b.kinds)
+-- messages to one network have their receivers in one field
+abbrev pub SameReceivers : BufferPlace → BufferPlace → Type 0
+SameReceivers (place.To network destination) (place.To other other_destination) = destination ≡ other_destination
+SameReceivers _ _ = Unit {0}
 
--- all buffers on one network do
+abbrev pub AreOnOneNetwork : BufferPlace → BufferPlace → ℕ → Type 0
+AreOnOneNetwork a b network = (network_of a ≡ Some network) × (network_of b ≡ Some network)
+
+-- if two buffers are on one network, their messages are alike
+pub record AgreeOnType (a b : BufferSetup) : Type 0 where
+  pub kinds : (network : ℕ) → AreOnOneNetwork a.place b.place network → IsTrue (same_kinds a.kinds b.kinds)
+  pub receivers : (network : ℕ) → AreOnOneNetwork a.place b.place network → SameReceivers a.place b.place
+
+-- so of all buffers
 pub record ShareTypes (buffers : List BufferSetup) : Type 0 where
   pub one_type : All (λ a. All (AgreeOnType a) buffers) buffers
 
 pub record IsMachine (machine : MachineSetup) : Type 0 where
   pub tables : All IsTableSetup machine.tables
-  pub parameters : EndInParameters machine.tables
+  pub parameters : ParametersAreLast machine.tables
   pub buffers : All IsBufferSetup machine.buffers
   pub one_type : ShareTypes machine.buffers

@@ -17,6 +17,7 @@ pub mod Free
 pub mod Front
 pub mod Get
 pub mod Inbox
+pub mod InRun
 pub mod IsMachine
 pub mod Lasts
 pub mod Latency

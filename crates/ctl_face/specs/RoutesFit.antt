@@ -1,10 +1,11 @@
--- What it means that routes fit: of a whole run, with all machines of its protocol and where their controllers stand, and of
--- one controller, whose acts need no more. The controllers are numbered in the order of their machines, 64 of them at most.
--- There is a path from each to each, and the one to itself takes no cycle. A network keeps order where some buffer of the
--- protocol is called ordered, as it may also where the topology says so. The buffer that takes a network's messages at a
--- controller is the one of its machine from that network, if there is one, and a number that is no controller's takes none.
--- Buffers on one network have one message type, whatever their machines.
--- The numbering, and the limits of controllers, paths and jitter, are this project's own.
+-- What it means that routes fit: of a whole run, with all machines of its protocol and the numbers of their controllers, and of one
+-- controller, as far as what it keeps goes by them: that its copies reach buffers that take them asks for the routes of the whole
+-- run, and that its sends keep an order that a receiver's buffer alone asks for, too. `InRun.antt` joins the two.
+-- The controllers are numbered in the order of their machines, 64 of them at most. There is a path from each to each, and the one to
+-- itself takes no cycle. A network keeps order where some buffer of the protocol is called ordered, as it may also where the
+-- topology says so. The buffer that takes a network's messages at a controller is the one of its machine from that network, if there
+-- is one, so a machine has at most one; a number that is no controller's takes none. Buffers on one network have messages of the
+-- same fields, whatever their machines. The numbering, and the limits of controllers, paths and jitter, are this project's own.
 use Rattle.std.specs.Prelude.{◌≡◌, ◌<◌, ◌≤◌, ◌+◌, ℕ, true, List, [], ◌∷◌, Option, None, Some, length, slice_get, IsTrue, IfSome, IsSomeAnd}
 use Rattle.std.specs.List.{All}
 use Rattle.std.specs.Option.{option_flatten}
@@ -54,7 +55,7 @@ abbrev pub NamesBuffers : List BufferSetup → ℕ → Routes → Type 0
 NamesBuffers buffers controller routes =
     (buffer : ℕ) → IfSome (slice_get buffers buffer) (λ (s : BufferSetup). IsNamed s.place buffer controller routes)
 
--- the buffers of two machines that are on one network have one message type
+-- the buffers of two machines that are on one network agree
 abbrev pub AgreeOnTypes : MachineSetup → MachineSetup → Type 0
 AgreeOnTypes m other = All (λ a. All (AgreeOnType a) other.buffers) m.buffers
 
@@ -66,36 +67,46 @@ pub record HasRoutes (machine : MachineSetup) (me : ℕ) (routes : Routes) : Typ
   pub own_buffers : ReceivesFrom machine me routes
   pub own_named : NamesBuffers machine.buffers me routes
 
--- a controller is of the machine at a place of the protocol, by the first number and the count of each machine
-abbrev pub StandsAt : List (ℕ × ℕ) → ℕ → ℕ → Type 0
-StandsAt stand at controller = IsSomeAnd (slice_get stand at) (λ p. (p.0 ≤ controller) × (controller < p.0 + p.1))
+-- the controller is one of the machine of this number, by the first controller of each machine and how many it has
+abbrev pub IsOfMachine : (ranges : List (ℕ × ℕ)) (machine controller : ℕ) → Type 0
+IsOfMachine ranges machine controller =
+    IsSomeAnd (slice_get ranges machine) (λ r. (r.0 ≤ controller) × (controller < r.0 + r.1))
 
--- the controllers of a list of machines, by the first number and the count of each, have the numbers from the first given one
--- on, and the second is the next number that is free
+-- the ranges follow on one another, from the first controller on; `free` is the next number
 abbrev pub AreNumbered : (first free : ℕ) → List (ℕ × ℕ) → Type 0
 AreNumbered first free [] = first ≡ free
-AreNumbered first free (p ∷ stand) = (p.0 ≡ first) × (1 ≤ p.1) × AreNumbered (first + p.1) free stand
+AreNumbered first free (r ∷ ranges) = (r.0 ≡ first) × (1 ≤ r.1) × AreNumbered (first + r.1) free ranges
 
--- where the controllers of the machines stand, and how many there are in all
-pub record IsStand (machines : List MachineSetup) (stand : List (ℕ × ℕ)) (total : ℕ) : Type 0 where
-  pub each_machine : length stand ≡ length machines
-  pub numbered : AreNumbered 0 total stand
+-- each machine has its range of controllers, and they are `total` in all
+pub record AreRanges (machines : List MachineSetup) (ranges : List (ℕ × ℕ)) (total : ℕ) : Type 0 where
+  pub each_machine : length ranges ≡ length machines
+  pub numbered : AreNumbered 0 total ranges
   pub limit : total ≤ 64
 
--- a table has so many rows, and each row so many items
+-- a table has as many rows, and each row as many items
 pub record HasShape {A : Type 0} (rows items : ℕ) (table : List (List A)) : Type 0 where
   pub all_rows : length table ≡ rows
   pub all_items : All (λ row. length row ≡ items) table
 
-pub record RoutesFit (machines : List MachineSetup) (stand : List (ℕ × ℕ)) (routes : Routes) : Type 0 where
+-- at each controller of each machine
+abbrev pub AtControllers : (machines : List MachineSetup) (ranges : List (ℕ × ℕ)) → (MachineSetup → ℕ → Type 0) → Type 0
+AtControllers machines ranges P =
+    (machine controller : ℕ) → IsOfMachine ranges machine controller → IfSome (slice_get machines machine) (λ m. P m controller)
+
+pub record RoutesFit (machines : List MachineSetup) (ranges : List (ℕ × ℕ)) (routes : Routes) : Type 0 where
   pub total : ℕ
-  pub stands : IsStand machines stand total
+  pub numbers : AreRanges machines ranges total
   pub paths : HasShape total total routes.paths
   pub receiving : HasShape total network_count routes.receiving
   pub limits : AreWithinLimits routes
   pub own_paths : (controller : ℕ) → path_to routes controller controller ≡ 0
   pub order : All (λ (m : MachineSetup). All (KeepsOrder routes) m.buffers) machines
   pub one_type : All (λ m. All (AgreeOnTypes m) machines) machines
-  pub receivers : (at controller : ℕ) → StandsAt stand at controller → IfSome (slice_get machines at) (λ m. ReceivesFrom m controller routes)
-  pub named : (at controller : ℕ) → StandsAt stand at controller → IfSome (slice_get machines at) (λ m. NamesBuffers m.buffers controller routes)
-  pub nobody_else : (controller : ℕ) → ((at : ℕ) → ¬ (StandsAt stand at controller)) → (network : ℕ) → receiving_buffer routes controller network ≡ None
+  pub receivers : AtControllers machines ranges (λ m controller. ReceivesFrom m controller routes)
+  pub named : AtControllers machines ranges (λ m controller. NamesBuffers m.buffers controller routes)
+
+-- a number that is no controller's takes no messages, which follows
+abbrev pub NobodyElseReceives : (ranges : List (ℕ × ℕ)) → Routes → Type 0
+NobodyElseReceives ranges routes =
+    (controller network : ℕ) → ((machine : ℕ) → ¬ (IsOfMachine ranges machine controller))
+    → receiving_buffer routes controller network ≡ None

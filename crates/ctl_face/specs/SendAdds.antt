@@ -1,10 +1,11 @@
 -- What a send adds, where it ends without a fault: one copy for each receiver, in their order, with the sender's next numbers,
 -- and to the sender's counts as many messages, copies and, where the network has jitter, words. A copy on a network is in the
 -- buffer that takes this network's messages at its receiver. It arrives after the latency, the path and the jitter that was drawn
--- for it, and at no other time unless the network keeps order; then not before the one sent last from here to there. So it is
--- with a copy in an own buffer, which has neither path nor jitter. `Send.antt` says how each comes about.
-use Rattle.std.specs.Prelude.{◌≡◌, ◌≤◌, ◌+◌, ◌-◌, ℕ, zero, suc, Bool, true, false, List, [], ◌∷◌, Some, map, length, if◌then◌else◌}
-use Rattle.std.specs.List.{All}
+-- for it, or, where the network keeps order, with the one sent last from here to there if that arrives later. So it is with a copy
+-- in an own buffer, which has neither path nor jitter. Where order is kept the last arrivals are written down for later sends, and
+-- copies to the sender come into its own inbox, with their marks. `Send.antt` says how each comes about.
+use Rattle.std.specs.Prelude.{◌≡◌, ◌≤◌, ◌<◌, ◌+◌, ◌-◌, ◌==◌, ℕ, zero, suc, Bool, true, false, List, [], ◌∷◌, Some, max, map, filter, length, if◌then◌else◌}
+use Rattle.std.specs.List.{All, AllPairs, fold}
 use Rattle.ruby_value.specs.declared.message.MsgNo.{MsgNo}
 use Rattle.ruby_value.specs.declared.setup.BufferPlace.TheVariants as place
 use Rattle.ruby_value.specs.declared.setup.BufferPlace.{BufferPlace}
@@ -13,6 +14,7 @@ use Rattle.ctl_face.specs.Acts.{Copy}
 use Rattle.ctl_face.specs.Ctl.{Mail}
 use Rattle.ctl_face.specs.Lasts.{last_at, lasts_on}
 use Rattle.ctl_face.specs.LocalView.{Actor}
+use Rattle.ctl_face.specs.Mailing.{mail_with_message}
 use Rattle.ctl_face.specs.Routing.{is_ordered, path_to, receiving_buffer}
 use Rattle.ctl_face.specs.Send.{Sending, has_jitter, receivers_of}
 use Rattle.pcg_words.specs.Below.{below}
@@ -22,30 +24,53 @@ abbrev pub numbers_from : ℕ → ℕ → ℕ → List MsgNo
 numbers_from sender count zero = []
 numbers_from sender count (suc n) = record { sender = sender; count = count } ∷ numbers_from sender (count + 1) n
 
--- the copy arrives at this cycle; where order is kept not before the last one, and then maybe later than that cycle
-pub record IsTimely (ordered : Bool) (cycle last : ℕ) (c : Copy) : Type 0 where
-  pub in_time : cycle ≤ c.message.arrival
-  pub exact : ordered ≡ false → c.message.arrival ≡ cycle
-  pub in_order : ordered ≡ true → last ≤ c.message.arrival
+-- when a copy arrives that is due at this cycle: where order is kept, not before the last one
+abbrev pub arrival_after : (ordered : Bool) (due last : ℕ) → ℕ
+arrival_after ordered due last = if ordered then max due last else due
+
+-- the latest of a cycle and of the arrivals of copies
+abbrev pub latest : ℕ → List Copy → ℕ
+latest cycle copies = fold (λ (c : ℕ) (copy : Copy). max c copy.message.arrival) cycle copies
+
+abbrev pub copies_to : ℕ → List Copy → List Copy
+copies_to receiver copies = filter (λ (c : Copy). c.receiver == receiver) copies
 
 -- the jitter of one of the copies that a send makes from this mail: of the word that was drawn for it
 abbrev pub jitter_of : Actor → Mail → Copy → ℕ
 jitter_of actor mail c =
     if has_jitter actor then below actor.seed actor.me (mail.drawn + (c.message.number.count - mail.sent)) (actor.routes.jitter + 1) else 0
 
-pub record IsNetworkCopy (actor : Actor) (mail : Mail) (network latency : ℕ) (fields : List Value) (now : ℕ) (c : Copy) : Type 0 where
+-- when one of the copies that a send on a network makes from this mail arrives, if it is the only one to its receiver
+abbrev pub arrival_of : Actor → Mail → (network latency now : ℕ) → Copy → ℕ
+arrival_of actor mail network latency now c =
+    arrival_after (is_ordered actor.routes network)
+    (now + latency + path_to actor.routes actor.me c.receiver + jitter_of actor mail c)
+    (last_at (lasts_on mail.network_last network) c.receiver)
+
+-- none is there twice, as in a set
+abbrev pub AllDiffer : List ℕ → Type 0
+AllDiffer receivers = AllPairs (λ (a b : ℕ). ¬ (a ≡ b)) receivers
+
+pub record IsNetworkCopy (actor : Actor) (mail : Mail) (network latency : ℕ) (receivers : List ℕ) (fields : List Value) (now : ℕ) (c : Copy) : Type 0 where
   pub buffer : receiving_buffer actor.routes c.receiver network ≡ Some c.message.buffer
   pub fields_sent : c.message.fields ≡ fields
-  pub timely :
-      IsTimely (is_ordered actor.routes network) (now + latency + path_to actor.routes actor.me c.receiver + jitter_of actor mail c)
-      (last_at (lasts_on mail.network_last network) c.receiver) c
+  pub not_recycled : c.message.recycled ≡ false
+  pub no_earlier : arrival_of actor mail network latency now c ≤ c.message.arrival
+  pub exact :
+      (is_ordered actor.routes network ≡ true → AllDiffer receivers)
+      → c.message.arrival ≡ arrival_of actor mail network latency now c
 
 pub record IsOwnCopy (ordered : Bool) (mail : Mail) (own latency : ℕ) (fields : List Value) (now : ℕ) (c : Copy) : Type 0 where
   pub buffer : c.message.buffer ≡ own
   pub fields_sent : c.message.fields ≡ fields
-  pub timely : IsTimely ordered (now + latency) (last_at mail.local_last own) c
+  pub not_recycled : c.message.recycled ≡ false
+  pub arrival : c.message.arrival ≡ arrival_after ordered (now + latency) (last_at mail.local_last own)
 
--- copies for these receivers, each of which is as P says, and what they add to the counts
+-- the sender's mail with the copies to itself, which come in as other messages do
+abbrev pub mail_with_own : (me : ℕ) → Mail → List Copy → Mail
+mail_with_own me mail copies = fold (λ (m : Mail) (c : Copy). mail_with_message m c.message) mail (copies_to me copies)
+
+-- copies for these receivers, each of which is as P says, and what they add to the counts and to the sender's inbox and marks
 pub record AddsCopies (actor : Actor) (mail : Mail) (receivers : List ℕ) (words : ℕ) (P : Copy → Type 0) (s : Sending) : Type 0 where
   pub to : map (λ (c : Copy). c.receiver) s.copies ≡ receivers
   pub numbers : map (λ (c : Copy). c.message.number) s.copies ≡ numbers_from actor.me mail.sent (length receivers)
@@ -53,12 +78,38 @@ pub record AddsCopies (actor : Actor) (mail : Mail) (receivers : List ℕ) (word
   pub sent : s.mail.sent ≡ mail.sent + length receivers
   pub copies_counted : s.mail.copies ≡ mail.copies + length receivers
   pub drawn : s.mail.drawn ≡ mail.drawn + words
+  pub inbox : s.mail.inbox ≡ (mail_with_own actor.me mail s.copies).inbox
+  pub marks : s.mail.marks ≡ (mail_with_own actor.me mail s.copies).marks
+
+-- the last arrivals on a network after a send there: where it keeps order, the latest at each receiver
+pub record NetworkLasts (ordered : Bool) (network : ℕ) (mail after : Mail) (copies : List Copy) : Type 0 where
+  pub in_order :
+      ordered ≡ true → network < length mail.network_last → (receiver : ℕ)
+      → last_at (lasts_on after.network_last network) receiver
+      ≡ latest (last_at (lasts_on mail.network_last network) receiver) (copies_to receiver copies)
+  pub other_networks :
+      (other : ℕ) → ¬ (other ≡ network) → lasts_on after.network_last other ≡ lasts_on mail.network_last other
+  pub unordered : ordered ≡ false → after.network_last ≡ mail.network_last
+  pub own_buffers : after.local_last ≡ mail.local_last
+
+-- the last arrivals in own buffers after a send in one of them: if that keeps order, the latest there
+pub record OwnLasts (ordered : Bool) (own : ℕ) (mail after : Mail) (copies : List Copy) : Type 0 where
+  pub in_order :
+      ordered ≡ true → last_at after.local_last own ≡ latest (last_at mail.local_last own) copies
+  pub other_buffers :
+      (other : ℕ) → ¬ (other ≡ own) → last_at after.local_last other ≡ last_at mail.local_last other
+  pub unordered : ordered ≡ false → after.local_last ≡ mail.local_last
+  pub networks : after.network_last ≡ mail.network_last
 
 -- by where the messages of the buffer go
 abbrev pub SendAdds : BufferPlace → Bool → Actor → Mail → ℕ → ℕ → List Value → ℕ → Sending → Type 0
 SendAdds place.Local ordered actor mail buffer latency fields now s =
     AddsCopies actor mail (actor.me ∷ []) 0 (IsOwnCopy ordered mail buffer latency fields now) s
+    × OwnLasts ordered buffer mail s.mail s.copies
 SendAdds (place.To network destination) ordered actor mail buffer latency fields now s =
-    AddsCopies actor mail (receivers_of destination fields) (if has_jitter actor then length (receivers_of destination fields) else 0)
-    (IsNetworkCopy actor mail network latency fields now) s
-SendAdds (place.From network) ordered actor mail buffer latency fields now s = AddsCopies actor mail [] 0 (λ c. ⊥) s
+    let receivers = receivers_of destination fields in
+    AddsCopies actor mail receivers (if has_jitter actor then length receivers else 0)
+    (IsNetworkCopy actor mail network latency receivers fields now) s
+    × NetworkLasts (is_ordered actor.routes network) network mail s.mail s.copies
+SendAdds (place.From network) ordered actor mail buffer latency fields now s =
+    AddsCopies actor mail [] 0 (λ c. ⊥) s × (s.mail ≡ mail)

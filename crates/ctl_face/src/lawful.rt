@@ -2,7 +2,7 @@
 // the tests takes memory.
 ghost use Rattle.std.specs.Prelude.{◌≡◌, ◌↔◌, ◌≤◌, IsTrue, IfSome, Some, slice_get};
 ghost use Rattle.std.specs.List.{All};
-ghost use Rattle.ctl_face.specs.IsMachine.{AgreeOnType, ArePlain, EndInParameters, HasPlaces, IsBufferSetup, IsMachine, IsTableSetup, ShareTypes, is_parameters as is_parameters_of, network_of as network_of_place, receivers_field as receivers_field_of};
+ghost use Rattle.ctl_face.specs.IsMachine.{AgreeOnType, ArePlain, ParametersAreLast, HasPlaces, IsBufferSetup, IsMachine, IsTableSetup, SameReceivers, ShareTypes, is_parameters as is_parameters_of, network_of as network_of_place, receivers_field as receivers_field_of};
 ghost use Rattle.ctl_face.specs.RoutesFit.{AreFrom, AreWithinLimits, HasRoutes, IsFrom, IsNamed, KeepsOrder, NamesBuffers, ReceivesFrom, longest_path};
 
 use crate::Routes;
@@ -45,7 +45,7 @@ fn is_parameters(size: TableSize) -> bool
 
 // Whether the last table, and no other, is that of the parameters.
 fn end_in_parameters(tables: &[TableSetup]) -> bool
-    ensures { IsTrue result ↔ EndInParameters tables.now }
+    ensures { IsTrue result ↔ ParametersAreLast tables.now }
 {
     for (table, s) in tables.iter().enumerate() {
         if is_parameters(s.size) != (table + 1 == tables.len()) {
@@ -94,11 +94,23 @@ fn is_buffer(s: &BufferSetup) -> bool
     is_network && names_receivers(s) && are_plain(&s.kinds)
 }
 
+// Whether two buffers to one network have their messages' receivers in one field.
+fn have_same_receivers(a: BufferPlace, b: BufferPlace) -> bool
+    ensures { IsTrue result ↔ SameReceivers a b }
+{
+    match (a, b) {
+        (BufferPlace::To { destination: a, .. }, BufferPlace::To { destination: b, .. }) => a == b,
+        _ => true,
+    }
+}
+
 fn agree_on_type(a: &BufferSetup, b: &BufferSetup) -> bool
     ensures { IsTrue result ↔ AgreeOnType a.now b.now }
 {
     match (network_of(a.place), network_of(b.place)) {
-        (Some(of_a), Some(of_b)) if of_a == of_b => { are_same_kinds(&a.kinds, &b.kinds) }
+        (Some(of_a), Some(of_b)) if of_a == of_b => {
+            are_same_kinds(&a.kinds, &b.kinds) && have_same_receivers(a.place, b.place)
+        }
         _ => true,
     }
 }

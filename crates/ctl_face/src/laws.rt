@@ -17,8 +17,9 @@ ghost use Rattle.ctl_face.specs.Ctl.{Ctl, Mail};
 ghost use Rattle.ctl_face.specs.Deallocate.{deallocate};
 ghost use Rattle.ctl_face.specs.Enqueue.{enqueue};
 ghost use Rattle.ctl_face.specs.Fits.{Fits, IsLawful, IsLine, IsRequest, last_cycle};
-ghost use Rattle.ctl_face.specs.FitsReceiver.{FitsReceiver};
+ghost use Rattle.ctl_face.specs.FitsReceiver.{FitsReceiver, SendsFit};
 ghost use Rattle.ctl_face.specs.Get.{get};
+ghost use Rattle.ctl_face.specs.InRun.{IsController, IsInRun};
 ghost use Rattle.ctl_face.specs.IsMachine.{IsMachine};
 ghost use Rattle.ctl_face.specs.LocalView.{Actor, LocalView};
 ghost use Rattle.ctl_face.specs.OfMachine.{TakesFields};
@@ -26,7 +27,7 @@ ghost use Rattle.ctl_face.specs.Opening.{opening_ctl};
 ghost use Rattle.ctl_face.specs.Pop.{pop};
 ghost use Rattle.ctl_face.specs.Ready.{required_front};
 ghost use Rattle.ctl_face.specs.Recycle.{recycle};
-ghost use Rattle.ctl_face.specs.RoutesFit.{HasRoutes, RoutesFit, StandsAt};
+ghost use Rattle.ctl_face.specs.RoutesFit.{HasRoutes, NobodyElseReceives, RoutesFit};
 ghost use Rattle.ctl_face.specs.ScanView.{scan_view};
 ghost use Rattle.ctl_face.specs.Send.{Sending, copy_limit, send};
 ghost use Rattle.ctl_face.specs.Served.{HasStates, TakesField, TakesMessage};
@@ -46,16 +47,17 @@ pub fn scans_begin_lawful()
     ensures { (machine : MachineRecord) (actor : Actor) (now : ℕ) (ctl : Ctl) → IsMachine machine → HasRoutes machine actor.me actor.routes → now ≤ last_cycle → Fits machine actor.me ctl now → IsLawful (scan_view machine actor now ctl) }
 {}
 
-/// Routes that fit a run are, for each of its controllers, routes that its acts may go by.
+/// Routes that fit a run are, for each of its controllers, routes that its acts may go by, and have no buffers for anyone else.
 pub fn routes_fit_each_controller()
-    ensures { (machines : List MachineRecord) (stand : List (ℕ × ℕ)) (routes : RoutesRecord) (place controller : ℕ) (m : MachineRecord) → RoutesFit machines stand routes → StandsAt stand place controller → slice_get machines place ≡ Some m → HasRoutes m controller routes }
+    ensures nobody_else { (machines : List MachineRecord) (ranges : List (ℕ × ℕ)) (routes : RoutesRecord) → RoutesFit machines ranges routes → NobodyElseReceives ranges routes }
+    ensures each { (machines : List MachineRecord) (ranges : List (ℕ × ℕ)) (m : MachineRecord) (actor : Actor) → IsController machines ranges m actor → HasRoutes m actor.me actor.routes }
 {}
 
 /// Each copy that a controller of a run sends goes to one of the run's controllers, and is in a buffer there whose messages have
 /// fields like its own; and so is each that a lawful local has posted.
 pub fn copies_fit_their_receivers()
-    ensures posted { (machines : List MachineRecord) (stand : List (ℕ × ℕ)) (v : LocalView) (place : ℕ) → RoutesFit machines stand v.actor.routes → StandsAt stand place v.actor.me → slice_get machines place ≡ Some v.machine → IsLawful v → All (FitsReceiver machines stand) v.acts.posted }
-    ensures sent { (machines : List MachineRecord) (stand : List (ℕ × ℕ)) (actor : Actor) (place : ℕ) (m : MachineRecord) (mail : Mail) (buffer : ℕ) (latency : ℤ) (fields : List Value) (now : ℕ) (s : Sending) → RoutesFit machines stand actor.routes → StandsAt stand place actor.me → slice_get machines place ≡ Some m → TakesFields m.buffers buffer fields → send m actor mail buffer latency fields now ≡ Ok s → All (FitsReceiver machines stand) s.copies }
+    ensures posted { (machines : List MachineRecord) (ranges : List (ℕ × ℕ)) (v : LocalView) → IsInRun machines ranges v → All (FitsReceiver machines ranges) v.acts.posted }
+    ensures sent { (machines : List MachineRecord) (ranges : List (ℕ × ℕ)) (m : MachineRecord) (actor : Actor) → IsController machines ranges m actor → SendsFit machines ranges m actor }
 {}
 
 /// What holds of each controller of a machine holds after each act on its tables.

@@ -26,7 +26,7 @@ pub fn copies_arrive_later()
 {}
 
 /// A send that ends without a fault makes one copy for each receiver, with the sender's next numbers and at its time, and adds
-/// them to the sender's counts.
+/// them to the sender's counts, to the last arrivals that later sends go by, and to its own inbox where it is a receiver.
 pub fn sends_add_their_copies()
     ensures { (machine : MachineRecord) (actor : Actor) (mail : Mail) (buffer : ℕ) (latency : ℤ) (fields : List Value) (now : ℕ) (on : BufferSetupRecord) (s : Sending) → slice_get machine.buffers buffer ≡ Some on → send machine actor mail buffer latency fields now ≡ Ok s → SendAdds on.place on.ordered actor mail buffer (nat_abs latency) fields now s }
 {}
