@@ -4,6 +4,7 @@ pub mod Numbers
 pub mod Pieces
 pub mod Tokens
 pub mod Spells
+pub mod Syntax
 pub mod Places
 pub mod Classes
 pub mod Lexing

@@ -1,0 +1,349 @@
+use Rattle.std.proofs.Common.{refl, sym, arith, ◌≤◌, length}
+use Rattle.grammar_rows.specs.Grammar.Row.{done, form}
+use Rattle.slicc_ast.specs.declared.tree.token.Sign.TheVariants.{CloseParenthesis}
+use Rattle.slicc_grammar.specs.Form.Form.{arguments, constant, expression, name_end, opening, suffix, unary}
+use Rattle.slicc_grammar.specs.Parts.{◌▸◌, of, optional, parentheses, repeated, sign as sign_part}
+use Rattle.slicc_expr.specs.Reading.Refuses.{no_memory}
+use Rattle.slicc_expr.proofs.Parts.{◌then◌, allow, as_allowed_behind, as_node, as_node_behind, as_part, as_tree, at_first, behind, behind_read, in_alternative, match_map, of_alternative, read_behind}
+use Rattle.slicc_expr.proofs.Choices.{absent, absent_read, present, present_read, fault_in_present, fault_in_more, in_nesting, fault_in_nesting}
+use Rattle.slicc_expr.proofs.Loops.{more_items, items_begin, items_more, items_end, no_items, operands_begin, next_level, one_operand, fault_in_operand, all_operands, one_suffix, fault_in_suffix, all_suffixes}
+use Rattle.slicc_expr.proofs.Ahead.{bracket_ahead, colon_ahead, constant_ahead, invalid_ahead, le_true, level_read, fault_in_operators, fault_in_unary, neither_ahead, no_level, open_ahead, opening_ahead, unary_level}
+use Rattle.slicc_ast.specs.Expressions.{level_of}
+use Rattle.slicc_lex.specs.Syntax.{symbols}
+use Rattle.slicc_expr.proofs.expressions.+expression.Goals as goal
+
+pub after_name-returns-in-Ok-clause-read : goal.after_name-returns-in-Ok-clause-read
+after_name-returns-in-Ok-clause-read t c =
+    match_map c.suffixes.result c.suffixes.ensures.read (λ read is. read_behind c.in-Ok.ensures.read is) (λ fault is. behind_read c.in-Ok.ensures.read is)
+
+pub after_name-returns-in-Err-clause-read : goal.after_name-returns-in-Err-clause-read
+after_name-returns-in-Err-clause-read t c =
+    at_first (repeated (of suffix)) c.in-Err.ensures.read
+
+pub argument_list-returns-then-not-begins_expression : goal.argument_list-returns-then-not-begins_expression
+argument_list-returns-then-not-begins_expression t c =
+    no_items c.span-span.result c.new-items.result.items c.new-items.ensures.items c.span-span.ensures (sym c.if-not-begins_expression.ensures)
+
+pub argument_list-returns-in-Err : goal.argument_list-returns-in-Err
+argument_list-returns-in-Err t c =
+    fault_in_present (sym c.if-not-begins_expression.ensures) (in_alternative arguments 0 refl (sym c.if-not-begins_expression.ensures) (at_first (repeated more_items) c.in-Err.ensures.read))
+
+pub argument_list-returns-in-Err-push : goal.argument_list-returns-in-Err-push
+argument_list-returns-in-Err-push t c =
+    no_memory
+
+pub argument_list-returns-in-Err-push-2 : goal.argument_list-returns-in-Err-push-2
+argument_list-returns-in-Err-push-2 t c =
+    no_memory
+
+pub argument_list-commas-init : goal.argument_list-commas-init
+argument_list-commas-init t c =
+    items_begin c.in-Ok.first c.new-items.result.items c.push.new.self.items c.new-items.ensures.items c.in-Ok-push.ensures.items c.in-Ok.ensures.read
+
+pub argument_list-commas-preserved : goal.argument_list-commas-preserved
+argument_list-commas-preserved t c =
+    items_more c.commas.items.items c.in-Ok-next_argument.next c.push-in-Ok-next_argument.new.self.items c.in-Ok-push-2.ensures.items (sym c.commas-test.ensures) c.in-Ok-next_argument.ensures.read c.commas.invariant
+
+pub argument_list-returns-in-Err-next_argument : goal.argument_list-returns-in-Err-next_argument
+argument_list-returns-in-Err-next_argument t c =
+    fault_in_present (sym c.if-not-begins_expression.ensures) (in_alternative arguments 0 refl (sym c.if-not-begins_expression.ensures) (fault_in_more more_items (λ row. row) (sym c.commas-test.ensures) c.in-Err-next_argument.ensures.read c.commas.invariant.leads))
+
+pub argument_list-returns : goal.argument_list-returns
+argument_list-returns t c =
+    items_end c.span-span-2.result c.commas.items.items (sym c.if-not-begins_expression.ensures) (sym c.commas-test.ensures) c.span-span-2.ensures c.commas.invariant
+
+pub arguments-returns-in-Ok-sign-clause-read : goal.arguments-returns-in-Ok-sign-clause-read
+arguments-returns-in-Ok-sign-clause-read t c =
+    in_nesting c.in-Ok.ensures.opened (as_part c.in-Ok-argument_list.ensures then c.in-Ok-sign.ensures.read)
+
+pub arguments-returns-in-Err-sign-clause-read : goal.arguments-returns-in-Err-sign-clause-read
+arguments-returns-in-Err-sign-clause-read t c =
+    fault_in_nesting c.in-Ok.ensures.opened (behind (as_part c.in-Ok-argument_list.ensures) c.in-Err-sign.ensures.read)
+
+pub arguments-returns-in-Err-argument_list-clause-read : goal.arguments-returns-in-Err-argument_list-clause-read
+arguments-returns-in-Err-argument_list-clause-read t c =
+    fault_in_nesting c.in-Ok.ensures.opened (at_first (sign_part CloseParenthesis) c.in-Err-argument_list.ensures)
+
+pub arguments-returns-in-Err-clause-read : goal.arguments-returns-in-Err-clause-read
+arguments-returns-in-Err-clause-read t c =
+    c.in-Err.ensures.refused _
+
+pub cast-returns-in-Ok-cast-clause-read : goal.cast-returns-in-Ok-cast-clause-read
+cast-returns-in-Ok-cast-clause-read t c =
+    as_tree _ c.in-Ok-cast.ensures.spells (as_node c.span.result c.span.ensures (c.in-Ok.ensures.read then in_nesting c.in-Ok-open.ensures.opened c.in-Ok-converted.ensures.read))
+
+pub cast-returns-in-Err-cast-clause-read : goal.cast-returns-in-Err-cast-clause-read
+cast-returns-in-Err-cast-clause-read t c =
+    no_memory
+
+pub cast-returns-in-Err-converted-clause-read : goal.cast-returns-in-Err-converted-clause-read
+cast-returns-in-Err-converted-clause-read t c =
+    behind c.in-Ok.ensures.read (fault_in_nesting c.in-Ok-open.ensures.opened c.in-Err-converted.ensures.read)
+
+pub cast-returns-in-Err-open-clause-read : goal.cast-returns-in-Err-open-clause-read
+cast-returns-in-Err-open-clause-read t c =
+    behind c.in-Ok.ensures.read (c.in-Err-open.ensures.refused _)
+
+pub cast-returns-in-Err-clause-read : goal.cast-returns-in-Err-clause-read
+cast-returns-in-Err-clause-read t c =
+    at_first _ c.in-Err.ensures.read
+
+pub constant-returns-then-is_word-clause-read : goal.constant-returns-then-is_word-clause-read
+constant-returns-then-is_word-clause-read t c =
+    match_map c.new_entry.result c.new_entry.ensures.read (λ read is. of_alternative constant 4 refl (sym c.if-is_word.ensures) is) (λ fault is. in_alternative constant 4 refl (sym c.if-is_word.ensures) is)
+
+pub constant-returns-then-is_word-2-clause-read : goal.constant-returns-then-is_word-2-clause-read
+constant-returns-then-is_word-2-clause-read t c =
+    match_map c.cast.result c.cast.ensures.read (λ read is. of_alternative constant 7 refl (sym c.if-is_word-2.ensures) is) (λ fault is. in_alternative constant 7 refl (sym c.if-is_word-2.ensures) is)
+
+pub constant-returns-then-is_sign-clause-read : goal.constant-returns-then-is_sign-clause-read
+constant-returns-then-is_sign-clause-read t c =
+    match_map c.group.result c.group.ensures.read (λ read is. of_alternative constant 8 refl (sym c.if-is_sign.ensures) is) (λ fault is. in_alternative constant 8 refl (sym c.if-is_sign.ensures) is)
+
+pub converted-returns-in-Ok-sign-clause-read : goal.converted-returns-in-Ok-sign-clause-read
+converted-returns-in-Ok-sign-clause-read t c =
+    c.in-Ok.ensures.read then (as_part c.in-Ok-level.ensures.read then c.in-Ok-sign.ensures.read)
+
+pub converted-returns-in-Err-sign-clause-read : goal.converted-returns-in-Err-sign-clause-read
+converted-returns-in-Err-sign-clause-read t c =
+    behind c.in-Ok.ensures.read (behind (as_part c.in-Ok-level.ensures.read) c.in-Err-sign.ensures.read)
+
+pub converted-returns-in-Err-level-clause-read : goal.converted-returns-in-Err-level-clause-read
+converted-returns-in-Err-level-clause-read t c =
+    behind c.in-Ok.ensures.read (at_first (sign_part CloseParenthesis) c.in-Err-level.ensures.read)
+
+pub converted-returns-in-Err-clause-read : goal.converted-returns-in-Err-clause-read
+converted-returns-in-Err-clause-read t c =
+    at_first (of expression ▸ sign_part CloseParenthesis) c.in-Err.ensures.read
+
+pub dotted-returns-in-Err-field-clause-read : goal.dotted-returns-in-Err-field-clause-read
+dotted-returns-in-Err-field-clause-read t c =
+    no_memory
+
+pub dotted-returns-in-Ok-field-clause-read : goal.dotted-returns-in-Ok-field-clause-read
+dotted-returns-in-Ok-field-clause-read t c =
+    as_tree _ c.in-Ok-field.ensures.spells (as_allowed_behind c.span.result c.span.ensures (le_true 8 (level_of c.args.value) c.requires.tight) c.requires.value (c.in-Ok.ensures.read then absent (parentheses (optional (of arguments)) done) (sym c.if-not-is_sign.ensures)))
+
+pub dotted-returns-in-Err-method-clause-read : goal.dotted-returns-in-Err-method-clause-read
+dotted-returns-in-Err-method-clause-read t c =
+    no_memory
+
+pub dotted-returns-in-Ok-method-clause-read : goal.dotted-returns-in-Ok-method-clause-read
+dotted-returns-in-Ok-method-clause-read t c =
+    as_tree _ c.in-Ok-method.ensures.spells (as_allowed_behind c.span-in-Ok-arguments.result c.span-in-Ok-arguments.ensures (le_true 8 (level_of c.args.value) c.requires.tight) c.requires.value (c.in-Ok.ensures.read then present (sym c.if-not-is_sign.ensures) c.in-Ok-arguments.ensures.read))
+
+pub dotted-returns-in-Err-arguments-clause-read : goal.dotted-returns-in-Err-arguments-clause-read
+dotted-returns-in-Err-arguments-clause-read t c =
+    behind c.in-Ok.ensures.read (fault_in_present (sym c.if-not-is_sign.ensures) c.in-Err-arguments.ensures.read)
+
+pub dotted-returns-in-Err-clause-read : goal.dotted-returns-in-Err-clause-read
+dotted-returns-in-Err-clause-read t c =
+    at_first (optional (parentheses (optional (of arguments)))) c.in-Err.ensures.read
+
+pub enclosed-returns-in-Ok-sign-clause-read : goal.enclosed-returns-in-Ok-sign-clause-read
+enclosed-returns-in-Ok-sign-clause-read t c =
+    in_nesting c.in-Ok.ensures.opened (as_part c.in-Ok-level.ensures.read then c.in-Ok-sign.ensures.read)
+
+pub enclosed-returns-in-Err-sign-clause-read : goal.enclosed-returns-in-Err-sign-clause-read
+enclosed-returns-in-Err-sign-clause-read t c =
+    fault_in_nesting c.in-Ok.ensures.opened (behind (as_part c.in-Ok-level.ensures.read) c.in-Err-sign.ensures.read)
+
+pub enclosed-returns-in-Err-level-clause-read : goal.enclosed-returns-in-Err-level-clause-read
+enclosed-returns-in-Err-level-clause-read t c =
+    fault_in_nesting c.in-Ok.ensures.opened (at_first (sign_part c.args.closer) c.in-Err-level.ensures.read)
+
+pub enclosed-returns-in-Err-clause-read : goal.enclosed-returns-in-Err-clause-read
+enclosed-returns-in-Err-clause-read t c =
+    c.in-Err.ensures.refused _
+
+pub group-returns-in-Ok-group-clause-read : goal.group-returns-in-Ok-group-clause-read
+group-returns-in-Ok-group-clause-read t c =
+    as_tree _ c.in-Ok-group.ensures.spells (as_node c.span.result c.span.ensures c.in-Ok.ensures.read)
+
+pub group-returns-in-Err-group-clause-read : goal.group-returns-in-Err-group-clause-read
+group-returns-in-Err-group-clause-read t c =
+    no_memory
+
+pub level-returns-then-not-begins_expression-clause-read : goal.level-returns-then-not-begins_expression-clause-read
+level-returns-then-not-begins_expression-clause-read t c =
+    no_level c.args.height (sym c.if-not-begins_expression.ensures) c.refuse.ensures
+
+pub level-returns-in-Ok-clause-read : goal.level-returns-in-Ok-clause-read
+level-returns-in-Ok-clause-read t c =
+    match_map c.operators.result c.operators.ensures.read (λ read is. level_read c.args.height c.requires (sym c.if-not-begins_expression.ensures) c.in-Ok.ensures.read is) (λ fault is. fault_in_operators c.args.height c.requires (sym c.if-not-begins_expression.ensures) c.in-Ok.ensures.read is)
+
+pub level-returns-in-Err-clause-read : goal.level-returns-in-Err-clause-read
+level-returns-in-Err-clause-read t c =
+    fault_in_unary c.args.height c.requires (sym c.if-not-begins_expression.ensures) c.in-Err.ensures.read
+
+pub named-returns-then-is_sign-clause-read : goal.named-returns-then-is_sign-clause-read
+named-returns-then-is_sign-clause-read t c =
+    match_map c.member.result c.member.ensures.read (λ read is. present_read (colon_ahead (symbols c.args.tokens.now) (sym c.if-is_sign.ensures)) (of_alternative name_end 0 refl (sym c.if-is_sign.ensures) is)) (λ fault is. fault_in_present (colon_ahead (symbols c.args.tokens.now) (sym c.if-is_sign.ensures)) (in_alternative name_end 0 refl (sym c.if-is_sign.ensures) is))
+
+pub named-returns-then-not-is_sign-clause-read : goal.named-returns-then-not-is_sign-clause-read
+named-returns-then-not-is_sign-clause-read t c =
+    absent_read (form name_end done) (neither_ahead (symbols c.args.tokens.now) (sym c.if-is_sign.ensures) (sym c.if-not-is_sign.ensures)) c.requires
+
+pub named-returns-in-Ok-clause-read : goal.named-returns-in-Ok-clause-read
+named-returns-in-Ok-clause-read t c =
+    present_read (open_ahead (symbols c.args.tokens.now) (sym c.if-not-is_sign.ensures)) (of_alternative name_end 1 refl (sym c.if-not-is_sign.ensures) (as_tree _ c.call.ensures.spells (as_node_behind c.span.result c.span.ensures c.requires c.in-Ok.ensures.read)))
+
+pub named-returns-in-Err-clause-read : goal.named-returns-in-Err-clause-read
+named-returns-in-Err-clause-read t c =
+    fault_in_present (open_ahead (symbols c.args.tokens.now) (sym c.if-not-is_sign.ensures)) (in_alternative name_end 1 refl (sym c.if-not-is_sign.ensures) c.in-Err.ensures.read)
+
+pub negate-returns-in-Ok-negate-clause-read : goal.negate-returns-in-Ok-negate-clause-read
+negate-returns-in-Ok-negate-clause-read t c =
+    as_tree _ c.in-Ok-negate.ensures.spells (as_node c.span.result c.span.ensures (allow (unary_level (level_of c.in-Ok-level.operand) c.in-Ok-level.ensures.tight) (in_nesting c.in-Ok.ensures.opened (as_part c.in-Ok-level.ensures.read))))
+
+pub negate-returns-in-Err-negate-clause-read : goal.negate-returns-in-Err-negate-clause-read
+negate-returns-in-Err-negate-clause-read t c =
+    no_memory
+
+pub negate-returns-in-Err-level-clause-read : goal.negate-returns-in-Err-level-clause-read
+negate-returns-in-Err-level-clause-read t c =
+    fault_in_nesting c.in-Ok.ensures.opened c.in-Err-level.ensures.read
+
+pub negate-returns-in-Err-clause-read : goal.negate-returns-in-Err-clause-read
+negate-returns-in-Err-clause-read t c =
+    c.in-Err.ensures.refused _
+
+pub not-returns-in-Ok-not-clause-read : goal.not-returns-in-Ok-not-clause-read
+not-returns-in-Ok-not-clause-read t c =
+    as_tree _ c.in-Ok-not.ensures.spells (as_node c.span.result c.span.ensures (allow (unary_level (level_of c.in-Ok-level.operand) c.in-Ok-level.ensures.tight) (in_nesting c.in-Ok.ensures.opened (as_part c.in-Ok-level.ensures.read))))
+
+pub not-returns-in-Err-not-clause-read : goal.not-returns-in-Err-not-clause-read
+not-returns-in-Err-not-clause-read t c =
+    no_memory
+
+pub not-returns-in-Err-level-clause-read : goal.not-returns-in-Err-level-clause-read
+not-returns-in-Err-level-clause-read t c =
+    fault_in_nesting c.in-Ok.ensures.opened c.in-Err-level.ensures.read
+
+pub not-returns-in-Err-clause-read : goal.not-returns-in-Err-clause-read
+not-returns-in-Err-clause-read t c =
+    c.in-Err.ensures.refused _
+
+pub next_argument-returns-in-Ok-clause-read : goal.next_argument-returns-in-Ok-clause-read
+next_argument-returns-in-Ok-clause-read t c =
+    match_map c.level.result c.level.ensures.read (λ read is. c.in-Ok.ensures.read then as_part is) (λ fault is. behind c.in-Ok.ensures.read is)
+
+pub next_argument-returns-in-Err-clause-read : goal.next_argument-returns-in-Err-clause-read
+next_argument-returns-in-Err-clause-read t c =
+    at_first (of expression) c.in-Err.ensures.read
+
+pub opening-returns-then-is_sign-clause-read : goal.opening-returns-then-is_sign-clause-read
+opening-returns-then-is_sign-clause-read t c =
+    match_map c.not.result c.not.ensures.read (λ read is. of_alternative opening 0 refl (sym c.if-is_sign.ensures) is) (λ fault is. in_alternative opening 0 refl (sym c.if-is_sign.ensures) is)
+
+pub opening-returns-then-is_sign-2-clause-read : goal.opening-returns-then-is_sign-2-clause-read
+opening-returns-then-is_sign-2-clause-read t c =
+    match_map c.negate.result c.negate.ensures.read (λ read is. of_alternative opening 1 refl (sym c.if-is_sign-2.ensures) is) (λ fault is. in_alternative opening 1 refl (sym c.if-is_sign-2.ensures) is)
+
+pub opening-returns-in-Ok-clause-read : goal.opening-returns-in-Ok-clause-read
+opening-returns-in-Ok-clause-read t c =
+    match_map c.suffixes.result c.suffixes.ensures.read (λ read is. of_alternative opening 2 refl (constant_ahead c.args.tokens.now c.requires (sym c.if-is_sign.ensures) (sym c.if-is_sign-2.ensures)) (read_behind c.in-Ok.ensures.read is)) (λ fault is. in_alternative opening 2 refl (constant_ahead c.args.tokens.now c.requires (sym c.if-is_sign.ensures) (sym c.if-is_sign-2.ensures)) (behind_read c.in-Ok.ensures.read is))
+
+pub opening-returns-in-Err-clause-read : goal.opening-returns-in-Err-clause-read
+opening-returns-in-Err-clause-read t c =
+    in_alternative opening 2 refl (constant_ahead c.args.tokens.now c.requires (sym c.if-is_sign.ensures) (sym c.if-is_sign-2.ensures)) (at_first (repeated (of suffix)) c.in-Err.ensures.read)
+
+pub operators-levels-init : goal.operators-levels-init
+operators-levels-init t c =
+    operands_begin c.args.room c.args.height c.args.start.now c.args.tokens.now c.args.first c.requires.first c.requires.tight
+
+pub operators-levels-preserved-in-None : goal.operators-levels-preserved-in-None
+operators-levels-preserved-in-None t c =
+    next_level c.levels-test.true c.in-None.ensures.operator c.levels.invariant
+
+pub operators-levels-preserved : goal.operators-levels-preserved
+operators-levels-preserved t c =
+    one_operand c.in-Ok.operand c.in-Ok-binary.more c.in-Some.operator c.span.result c.levels-test.true c.in-Ok-binary.ensures.spells c.in-Ok-binary.ensures.level c.span.ensures c.in-Some.ensures.operator c.in-Ok.ensures.read c.in-Ok.ensures.tight c.levels.invariant
+
+pub operators-returns-in-Err-binary-clause-read : goal.operators-returns-in-Err-binary-clause-read
+operators-returns-in-Err-binary-clause-read t c =
+    no_memory
+
+pub operators-returns-in-Err-clause-read : goal.operators-returns-in-Err-clause-read
+operators-returns-in-Err-clause-read t c =
+    fault_in_operand c.levels-test.true c.in-Some.ensures.operator c.in-Err.ensures.read c.levels.invariant
+
+pub operators-returns-clause-read : goal.operators-returns-clause-read
+operators-returns-clause-read t c =
+    all_operands (omega arith) c.levels.invariant
+
+pub suffix-returns-then-is_sign-clause-read : goal.suffix-returns-then-is_sign-clause-read
+suffix-returns-then-is_sign-clause-read t c =
+    match_map c.dotted.result c.dotted.ensures.read (λ read is. of_alternative suffix 0 refl (sym c.if-is_sign.ensures) is) (λ fault is. in_alternative suffix 0 refl (sym c.if-is_sign.ensures) is)
+
+pub suffix-returns-in-Err-index-clause-read : goal.suffix-returns-in-Err-index-clause-read
+suffix-returns-in-Err-index-clause-read t c =
+    no_memory
+
+pub suffix-returns-in-Ok-index-clause-read : goal.suffix-returns-in-Ok-index-clause-read
+suffix-returns-in-Ok-index-clause-read t c =
+    of_alternative suffix 1 refl (bracket_ahead c.args.tokens.now c.requires.begins (sym c.if-is_sign.ensures)) (as_tree _ c.in-Ok-index.ensures.spells (as_allowed_behind c.span.result c.span.ensures (le_true 8 (level_of c.args.value) c.requires.tight) c.requires.value c.in-Ok.ensures.read))
+
+pub suffix-returns-in-Err-clause-read : goal.suffix-returns-in-Err-clause-read
+suffix-returns-in-Err-clause-read t c =
+    in_alternative suffix 1 refl (bracket_ahead c.args.tokens.now c.requires.begins (sym c.if-is_sign.ensures)) c.in-Err.ensures.read
+
+pub suffixes-suffix-requires : goal.suffixes-suffix-requires
+suffixes-suffix-requires t c =
+    (let within : length c.more.left.now ≤ length c.args.tokens.now = c.more.invariant.leads.within in omega arith, (c.more.invariant.is_node, (c.more.invariant.tight, sym c.more-test.ensures)))
+
+pub suffixes-more-preserved : goal.suffixes-more-preserved
+suffixes-more-preserved t c =
+    one_suffix (sym c.more-test.ensures) c.in-Ok.ensures.read c.in-Ok.ensures.tight c.more.invariant
+
+pub suffixes-returns-in-Err-clause-read : goal.suffixes-returns-in-Err-clause-read
+suffixes-returns-in-Err-clause-read t c =
+    fault_in_suffix (sym c.more-test.ensures) c.in-Err.ensures.read c.more.invariant
+
+pub suffixes-returns-clause-read : goal.suffixes-returns-clause-read
+suffixes-returns-clause-read t c =
+    all_suffixes (sym c.more-test.ensures) c.more.invariant
+
+pub tested-returns-in-Ok-clause-read : goal.tested-returns-in-Ok-clause-read
+tested-returns-in-Ok-clause-read t c =
+    match_map c.enclosed.result c.enclosed.ensures.read (λ read is. c.in-Ok.ensures.read then is) (λ fault is. behind c.in-Ok.ensures.read is)
+
+pub tested-returns-in-Err-clause-read : goal.tested-returns-in-Err-clause-read
+tested-returns-in-Err-clause-read t c =
+    at_first (parentheses (of expression)) c.in-Err.ensures.read
+
+pub unary-returns-then-not-is_name-clause-read : goal.unary-returns-then-not-is_name-clause-read
+unary-returns-then-not-is_name-clause-read t c =
+    match_map c.opening.result c.opening.ensures.read (λ read is. of_alternative unary 0 refl (opening_ahead c.args.tokens.now c.requires (sym c.if-not-is_name.ensures)) is) (λ fault is. in_alternative unary 0 refl (opening_ahead c.args.tokens.now c.requires (sym c.if-not-is_name.ensures)) is)
+
+pub unary-returns-in-Ok-clause-read : goal.unary-returns-in-Ok-clause-read
+unary-returns-in-Ok-clause-read t c =
+    match_map c.after_name.result c.after_name.ensures.read (λ read is. of_alternative unary 1 refl (sym c.if-not-is_name.ensures) (read_behind c.in-Ok.ensures.read is)) (λ fault is. in_alternative unary 1 refl (sym c.if-not-is_name.ensures) (behind_read c.in-Ok.ensures.read is))
+
+pub unary-returns-in-Err-clause-read : goal.unary-returns-in-Err-clause-read
+unary-returns-in-Err-clause-read t c =
+    in_alternative unary 1 refl (sym c.if-not-is_name.ensures) (at_first (optional (of name_end) ▸ repeated (of suffix)) c.in-Err.ensures.read)
+
+pub validity-returns-in-Ok-is_valid-clause-read : goal.validity-returns-in-Ok-is_valid-clause-read
+validity-returns-in-Ok-is_valid-clause-read t c =
+    of_alternative constant 5 refl (sym c.if-is_word.ensures) (as_tree _ c.in-Ok-is_valid.ensures.spells (as_node c.span.result c.span.ensures c.in-Ok.ensures.read))
+
+pub validity-returns-in-Err-is_valid-clause-read : goal.validity-returns-in-Err-is_valid-clause-read
+validity-returns-in-Err-is_valid-clause-read t c =
+    no_memory
+
+pub validity-returns-in-Err-clause-read : goal.validity-returns-in-Err-clause-read
+validity-returns-in-Err-clause-read t c =
+    in_alternative constant 5 refl (sym c.if-is_word.ensures) c.in-Err.ensures.read
+
+pub validity-returns-in-Ok-is_invalid-clause-read : goal.validity-returns-in-Ok-is_invalid-clause-read
+validity-returns-in-Ok-is_invalid-clause-read t c =
+    of_alternative constant 6 refl (invalid_ahead c.args.tokens.now c.requires (sym c.if-is_word.ensures)) (as_tree _ c.in-Ok-is_invalid.ensures.spells (as_node c.span-in-Ok-tested.result c.span-in-Ok-tested.ensures c.in-Ok-tested.ensures.read))
+
+pub validity-returns-in-Err-is_invalid-clause-read : goal.validity-returns-in-Err-is_invalid-clause-read
+validity-returns-in-Err-is_invalid-clause-read t c =
+    no_memory
+
+pub validity-returns-in-Err-tested-clause-read : goal.validity-returns-in-Err-tested-clause-read
+validity-returns-in-Err-tested-clause-read t c =
+    in_alternative constant 6 refl (invalid_ahead c.args.tokens.now c.requires (sym c.if-is_word.ensures)) c.in-Err-tested.ensures.read

@@ -1,0 +1,4 @@
+pub mod Reading
+pub mod Levels
+pub mod Answers
+pub mod Attributes

@@ -1,0 +1,570 @@
+//! Expressions. A cycle of functions, each of which reads one form; what is in brackets, parentheses or behind a unary operator
+//! is read with one more nesting open, so that the cycle goes no deeper than the nesting may. Chains of operators, suffixes and
+//! arguments are loops.
+ghost use Rattle.std.specs.Prelude.{◌≡◌, ◌+◌, ◌∷◌, ◌<◌, ◌≤◌, [], true, length, IfOk, MatchResult};
+ghost use Rattle.grammar_rows.specs.Kinds.{is_ahead};
+ghost use Rattle.slicc_ast.specs.Expressions.{args as args_of, expr, level_of, mode_parts};
+ghost use Rattle.slicc_ast.specs.Names.{name as name_of, sign as sign_of, type_name, word as word_of};
+ghost use Rattle.slicc_ast.specs.Outline.{node, none, part, token};
+ghost use Rattle.slicc_ast.specs.declared.tree.token.Sign.TheVariants.{CloseParenthesis, Comma, Dot, Minus as MinusSign, Not as NotSign, OpenBracket, OpenParenthesis};
+ghost use Rattle.slicc_ast.specs.declared.tree.token.TokenKind.TheVariants.{Name as Named};
+ghost use Rattle.slicc_ast.specs.declared.tree.token.Word.TheVariants.{IsInvalid as IsInvalidWord, IsValid as IsValidWord};
+ghost use Rattle.slicc_grammar.specs.Ahead.{first_of_constant, first_of_expression, first_of_opening};
+ghost use Rattle.slicc_grammar.specs.Form.Form.{arguments as arguments_form, constant as constant_form, expression as expression_form, name_end, opening as opening_form, suffix as suffix_form, unary as unary_form};
+ghost use Rattle.slicc_grammar.specs.Parts.{◌▸◌, colon, comma, name as name_part, of, optional, parentheses, prefixed as prefixed_part, repeated, sign as sign_part, word as word_part};
+ghost use Rattle.slicc_grammar.specs.TokenKinds.{sign_kind, word_kind};
+ghost use Rattle.slicc_lex.specs.Syntax.{symbols};
+ghost use Rattle.slicc_expr.specs.Levels.{cast_inner, cast_part, chains, enclosed as enclosed_part, form_at};
+ghost use Rattle.slicc_expr.specs.Reading.{AreRead, IsNode, IsRead, Refuses};
+
+use crate::cast::cast_head;
+use crate::fault::Fault;
+use crate::leaf::{is_name, is_sign, is_word, name, open, refuse, sign, span, word};
+use crate::nodes;
+use crate::operator_signs::operator;
+use crate::values::{begins_expression, begins_simple, new_entry, simple};
+use slicc_ast::Text;
+use slicc_ast::tree::{Args, Expr, Name, Sign, TypeName, Word};
+use slicc_lex::Token;
+use std::alloc::Global;
+
+/// A node that was made, with the tokens that are left behind it.
+macro_rules! with_left {
+    ($made:expr, $left:expr) => {
+        match $made {
+            Ok(made) => Ok((made, $left)),
+            Err(_) => Err(Fault::NoMemory),
+        }
+    };
+}
+
+/// How many levels of operators there are.
+pub const LEVELS: u8 = 6;
+
+/// An expression.
+pub fn expression(alloc: Global, room: u32, tokens: &[Token]) -> Result<(Expr, &[Token]), Fault>
+    ensures read { MatchResult result (λ read. IsRead room (of expression_form) (expr read.0) tokens.now tokens.now read.1.now) (Refuses room (of expression_form) tokens.now) }
+    ensures shorter { IfOk result (λ read. length read.1.now < length tokens.now) }
+{
+    level(alloc, room, LEVELS, tokens)
+}
+
+/// An expression with operators of the levels below this height alone.
+#[cycle(expression)]
+fn level(alloc: Global, room: u32, height: u8, tokens: &[Token]) -> Result<(Expr, &[Token]), Fault>
+    requires { height ≤ 6 }
+    ensures read { MatchResult result (λ read. IsRead room (of (form_at height)) (expr read.0) tokens.now tokens.now read.1.now) (Refuses room (of (form_at height)) tokens.now) }
+    ensures tight { IfOk result (λ read. 7 ≤ height + level_of read.0) }
+    ensures shorter { IfOk result (λ read. length read.1.now < length tokens.now) }
+{
+    if !begins_expression(tokens) {
+        return Err(refuse(room, tokens));
+    }
+    match unary(alloc, room, tokens) {
+        Ok((first, left)) => operators(alloc, room, height, tokens, first, left),
+        Err(fault) => Err(fault),
+    }
+}
+
+/// Goes on with operators of the levels below this height, the tightest first, behind the first operand.
+#[cycle(expression)]
+pub fn operators<'t>(
+    alloc: Global,
+    room: u32,
+    height: u8,
+    start: &[Token],
+    first: Expr,
+    tokens: &'t [Token],
+) -> Result<(Expr, &'t [Token]), Fault>
+    requires within { height ≤ 6 }
+    requires first { IsNode (expr first) start.now tokens.now }
+    requires tight { 7 ≤ level_of first }
+    ensures read { MatchResult result (λ read. IsRead room (chains height 0) (expr read.0) start.now tokens.now read.1.now) (Refuses room (chains height 0) tokens.now) }
+    ensures tight { IfOk result (λ read. 7 ≤ height + level_of read.0) }
+{
+    let mut joined = first;
+    let mut left = tokens;
+    let mut at: u8 = 0;
+    'levels: while at < height {
+        match operator(at, left) {
+            None => at += 1,
+            Some((operator, behind)) => match level(alloc, room, at, behind) {
+                Ok((operand, after)) => {
+                    match nodes::binary(alloc, operator, joined, operand, span(start, after)) {
+                        Ok(more) => joined = more,
+                        Err(_) => return Err(Fault::NoMemory),
+                    }
+                    left = after;
+                }
+                Err(fault) => return Err(fault),
+            },
+        }
+    }
+    Ok((joined, left))
+}
+
+#[cycle(expression)]
+fn unary(alloc: Global, room: u32, tokens: &[Token]) -> Result<(Expr, &[Token]), Fault>
+    requires { is_ahead first_of_expression (symbols tokens.now) ≡ true }
+    ensures read { MatchResult result (λ read. IsRead room (of unary_form) (expr read.0) tokens.now tokens.now read.1.now) (Refuses room (of unary_form) tokens.now) }
+    ensures tight { IfOk result (λ read. 7 ≤ level_of read.0) }
+    ensures shorter { IfOk result (λ read. length read.1.now < length tokens.now) }
+{
+    if !is_name(tokens) {
+        return opening(alloc, room, tokens);
+    }
+    match name(alloc, room, tokens) {
+        Ok((name, behind)) => after_name(alloc, room, tokens, name, behind),
+        Err(fault) => Err(fault),
+    }
+}
+
+/// A unary expression that doesn't begin with a name.
+#[cycle(expression)]
+pub fn opening(alloc: Global, room: u32, tokens: &[Token]) -> Result<(Expr, &[Token]), Fault>
+    requires { is_ahead first_of_opening (symbols tokens.now) ≡ true }
+    ensures read { MatchResult result (λ read. IsRead room (of opening_form) (expr read.0) tokens.now tokens.now read.1.now) (Refuses room (of opening_form) tokens.now) }
+    ensures tight { IfOk result (λ read. 7 ≤ level_of read.0) }
+    ensures shorter { IfOk result (λ read. length read.1.now < length tokens.now) }
+{
+    if is_sign(Sign::Not, tokens) {
+        return not(alloc, room, tokens);
+    }
+    if is_sign(Sign::Minus, tokens) {
+        return negate(alloc, room, tokens);
+    }
+    match constant(alloc, room, tokens) {
+        Ok((value, left)) => suffixes(alloc, room, tokens, value, left),
+        Err(fault) => Err(fault),
+    }
+}
+
+/// `!` and its operand.
+#[cycle(expression)]
+fn not(alloc: Global, room: u32, tokens: &[Token]) -> Result<(Expr, &[Token]), Fault>
+    ensures read { MatchResult result (λ read. IsRead room (prefixed_part NotSign (of unary_form)) (expr read.0) tokens.now tokens.now read.1.now) (Refuses room (prefixed_part NotSign (of unary_form)) tokens.now) }
+    ensures tight { IfOk result (λ read. 7 ≤ level_of read.0) }
+    ensures shorter { IfOk result (λ read. length read.1.now < length tokens.now) }
+{
+    match open(room, Sign::Not, tokens) {
+        Ok(behind) => match level(alloc, room - 1, 0, behind) {
+            Ok((operand, left)) => with_left!(nodes::not(alloc, operand, span(tokens, left)), left),
+            Err(fault) => Err(fault),
+        },
+        Err(fault) => Err(fault),
+    }
+}
+
+/// `-` and its operand.
+#[cycle(expression)]
+fn negate(alloc: Global, room: u32, tokens: &[Token]) -> Result<(Expr, &[Token]), Fault>
+    ensures read { MatchResult result (λ read. IsRead room (prefixed_part MinusSign (of unary_form)) (expr read.0) tokens.now tokens.now read.1.now) (Refuses room (prefixed_part MinusSign (of unary_form)) tokens.now) }
+    ensures tight { IfOk result (λ read. 7 ≤ level_of read.0) }
+    ensures shorter { IfOk result (λ read. length read.1.now < length tokens.now) }
+{
+    match open(room, Sign::Minus, tokens) {
+        Ok(behind) => match level(alloc, room - 1, 0, behind) {
+            Ok((operand, left)) => with_left!(
+                nodes::negate(alloc, operand, span(tokens, left)),
+                left
+            ),
+            Err(fault) => Err(fault),
+        },
+        Err(fault) => Err(fault),
+    }
+}
+
+/// Goes on behind the name that a primary expression begins with.
+#[cycle(expression)]
+pub fn after_name<'t>(
+    alloc: Global,
+    room: u32,
+    start: &[Token],
+    owner: Name,
+    tokens: &'t [Token],
+) -> Result<(Expr, &'t [Token]), Fault>
+    requires { IsNode (node owner.span (token (Named owner.text) none)) start.now tokens.now }
+    ensures read { MatchResult result (λ read. IsRead room (optional (of name_end) ▸ repeated (of suffix_form)) (expr read.0) start.now tokens.now read.1.now) (Refuses room (optional (of name_end) ▸ repeated (of suffix_form)) tokens.now) }
+    ensures tight { IfOk result (λ read. 8 ≤ level_of read.0) }
+{
+    match named(alloc, room, start, owner, tokens) {
+        Ok((value, left)) => suffixes(alloc, room, start, value, left),
+        Err(fault) => Err(fault),
+    }
+}
+
+#[cycle(expression)]
+fn named<'t>(
+    alloc: Global,
+    room: u32,
+    start: &[Token],
+    owner: Name,
+    tokens: &'t [Token],
+) -> Result<(Expr, &'t [Token]), Fault>
+    requires { IsNode (node owner.span (token (Named owner.text) none)) start.now tokens.now }
+    ensures read { MatchResult result (λ read. IsRead room (optional (of name_end)) (expr read.0) start.now tokens.now read.1.now) (Refuses room (optional (of name_end)) tokens.now) }
+    ensures tight { IfOk result (λ read. 8 ≤ level_of read.0) }
+{
+    if is_sign(Sign::Colon, tokens) {
+        return member(alloc, room, start, owner, tokens);
+    }
+    if !is_sign(Sign::OpenParenthesis, tokens) {
+        return Ok((Expr::Variable(owner), tokens));
+    }
+    match arguments(alloc, room, tokens) {
+        Ok((arguments, left)) => Ok((nodes::call(owner, arguments, span(start, left)), left)),
+        Err(fault) => Err(fault),
+    }
+}
+
+/// Arguments in parentheses.
+#[cycle(expression)]
+fn arguments(alloc: Global, room: u32, tokens: &[Token]) -> Result<(Args, &[Token]), Fault>
+    ensures read { MatchResult result (λ read. AreRead room (parentheses (optional (of arguments_form))) (λ others. sign_of OpenParenthesis (part (args_of read.0) (sign_of CloseParenthesis others))) tokens.now read.1.now) (Refuses room (parentheses (optional (of arguments_form))) tokens.now) }
+    ensures shorter { IfOk result (λ read. length read.1.now < length tokens.now) }
+{
+    match open(room, Sign::OpenParenthesis, tokens) {
+        Ok(inner) => match argument_list(alloc, room - 1, inner) {
+            Ok((arguments, after)) => match sign(room - 1, Sign::CloseParenthesis, after) {
+                Ok(left) => Ok((arguments, left)),
+                Err(fault) => Err(fault),
+            },
+            Err(fault) => Err(fault),
+        },
+        Err(fault) => Err(fault),
+    }
+}
+
+/// Expressions with a comma between each two, or nothing where no expression begins.
+#[cycle(expression)]
+fn argument_list(alloc: Global, room: u32, tokens: &[Token]) -> Result<(Args, &[Token]), Fault>
+    ensures { MatchResult result (λ read. IsRead room (optional (of arguments_form)) (args_of read.0) tokens.now tokens.now read.1.now) (Refuses room (optional (of arguments_form)) tokens.now) }
+{
+    let mut items = Vec::new(alloc);
+    if !begins_expression(tokens) {
+        let span = span(tokens, tokens);
+        return Ok((Args { items, span }, tokens));
+    }
+    let mut left = match level(alloc, room, LEVELS, tokens) {
+        Ok((first, after)) => match items.push(first) {
+            Ok(()) => after,
+            Err(_) => return Err(Fault::NoMemory),
+        },
+        Err(fault) => return Err(fault),
+    };
+    'commas: while is_sign(Sign::Comma, left) {
+        match next_argument(alloc, room, left) {
+            Ok((next, after)) => match items.push(next) {
+                Ok(()) => left = after,
+                Err(_) => return Err(Fault::NoMemory),
+            },
+            Err(fault) => return Err(fault),
+        }
+    }
+    let span = span(tokens, left);
+    Ok((Args { items, span }, left))
+}
+
+/// A comma and an expression.
+#[cycle(expression)]
+fn next_argument(alloc: Global, room: u32, tokens: &[Token]) -> Result<(Expr, &[Token]), Fault>
+    ensures read { MatchResult result (λ read. AreRead room (comma ▸ of expression_form) (λ others. sign_of Comma (part (expr read.0) others)) tokens.now read.1.now) (Refuses room (comma ▸ of expression_form) tokens.now) }
+    ensures shorter { IfOk result (λ read. length read.1.now < length tokens.now) }
+{
+    match sign(room, Sign::Comma, tokens) {
+        Ok(behind) => level(alloc, room, LEVELS, behind),
+        Err(fault) => Err(fault),
+    }
+}
+
+/// Goes on with members, calls and indices behind a primary expression.
+#[cycle(expression)]
+fn suffixes<'t>(
+    alloc: Global,
+    room: u32,
+    start: &[Token],
+    value: Expr,
+    tokens: &'t [Token],
+) -> Result<(Expr, &'t [Token]), Fault>
+    requires value { IsNode (expr value) start.now tokens.now }
+    requires tight { 8 ≤ level_of value }
+    ensures read { MatchResult result (λ read. IsRead room (repeated (of suffix_form)) (expr read.0) start.now tokens.now read.1.now) (Refuses room (repeated (of suffix_form)) tokens.now) }
+    ensures tight { IfOk result (λ read. 8 ≤ level_of read.0) }
+{
+    let mut value = value;
+    let mut left = tokens;
+    'more: while begins_suffix(left) {
+        match suffix(alloc, room, start, value, left) {
+            Ok((more, after)) => {
+                value = more;
+                left = after;
+            }
+            Err(fault) => return Err(fault),
+        }
+    }
+    Ok((value, left))
+}
+
+fn begins_suffix(tokens: &[Token]) -> bool
+    ensures { result ≡ is_ahead (sign_kind Dot ∷ sign_kind OpenBracket ∷ []) (symbols tokens.now) }
+{
+    is_sign(Sign::Dot, tokens) || is_sign(Sign::OpenBracket, tokens)
+}
+
+/// A member, a call or an index behind a primary expression.
+#[cycle(expression)]
+fn suffix<'t>(
+    alloc: Global,
+    room: u32,
+    start: &[Token],
+    value: Expr,
+    tokens: &'t [Token],
+) -> Result<(Expr, &'t [Token]), Fault>
+    requires value { IsNode (expr value) start.now tokens.now }
+    requires tight { 8 ≤ level_of value }
+    requires begins { is_ahead (sign_kind Dot ∷ sign_kind OpenBracket ∷ []) (symbols tokens.now) ≡ true }
+    ensures read { MatchResult result (λ read. IsRead room (of suffix_form) (expr read.0) start.now tokens.now read.1.now) (Refuses room (of suffix_form) tokens.now) }
+    ensures tight { IfOk result (λ read. 8 ≤ level_of read.0) }
+    ensures shorter { IfOk result (λ read. length read.1.now < length tokens.now) }
+{
+    if is_sign(Sign::Dot, tokens) {
+        return dotted(alloc, room, start, value, tokens);
+    }
+    match enclosed(alloc, room, Sign::OpenBracket, Sign::CloseBracket, tokens) {
+        Ok((key, left)) => with_left!(nodes::index(alloc, value, key, span(start, left)), left),
+        Err(fault) => Err(fault),
+    }
+}
+
+/// `.`, a name, and arguments where there are any.
+#[cycle(expression)]
+fn dotted<'t>(
+    alloc: Global,
+    room: u32,
+    start: &[Token],
+    value: Expr,
+    tokens: &'t [Token],
+) -> Result<(Expr, &'t [Token]), Fault>
+    requires value { IsNode (expr value) start.now tokens.now }
+    requires tight { 8 ≤ level_of value }
+    ensures read { MatchResult result (λ read. IsRead room (sign_part Dot ▸ name_part ▸ optional (parentheses (optional (of arguments_form)))) (expr read.0) start.now tokens.now read.1.now) (Refuses room (sign_part Dot ▸ name_part ▸ optional (parentheses (optional (of arguments_form)))) tokens.now) }
+    ensures tight { IfOk result (λ read. 8 ≤ level_of read.0) }
+    ensures shorter { IfOk result (λ read. length read.1.now < length tokens.now) }
+{
+    match dot_name(alloc, room, tokens) {
+        Ok((name, behind)) => {
+            if !is_sign(Sign::OpenParenthesis, behind) {
+                return with_left!(
+                    nodes::field(alloc, value, name, span(start, behind)),
+                    behind
+                );
+            }
+            match arguments(alloc, room, behind) {
+                Ok((arguments, left)) => with_left!(
+                    nodes::method(alloc, value, name, arguments, span(start, left)),
+                    left
+                ),
+                Err(fault) => Err(fault),
+            }
+        }
+        Err(fault) => Err(fault),
+    }
+}
+
+/// `.` and a name.
+fn dot_name(alloc: Global, room: u32, tokens: &[Token]) -> Result<(Name, &[Token]), Fault>
+    ensures read { MatchResult result (λ read. AreRead room (sign_part Dot ▸ name_part) (λ others. sign_of Dot (name_of read.0 others)) tokens.now read.1.now) (Refuses room (sign_part Dot ▸ name_part) tokens.now) }
+    ensures shorter { IfOk result (λ read. length read.1.now < length tokens.now) }
+{
+    match sign(room, Sign::Dot, tokens) {
+        Ok(behind) => name(alloc, room, behind),
+        Err(fault) => Err(fault),
+    }
+}
+
+/// `:` and a name.
+fn member<'t>(
+    alloc: Global,
+    room: u32,
+    start: &[Token],
+    owner: Name,
+    tokens: &'t [Token],
+) -> Result<(Expr, &'t [Token]), Fault>
+    requires { IsNode (node owner.span (token (Named owner.text) none)) start.now tokens.now }
+    ensures read { MatchResult result (λ read. IsRead room (colon ▸ name_part) (expr read.0) start.now tokens.now read.1.now) (Refuses room (colon ▸ name_part) tokens.now) }
+    ensures tight { IfOk result (λ read. 8 ≤ level_of read.0) }
+{
+    match sign(room, Sign::Colon, tokens) {
+        Ok(behind) => match name(alloc, room, behind) {
+            Ok((member, left)) => {
+                let span = span(start, left);
+                Ok((
+                    Expr::Member {
+                        owner,
+                        member,
+                        span,
+                    },
+                    left,
+                ))
+            }
+            Err(fault) => Err(fault),
+        },
+        Err(fault) => Err(fault),
+    }
+}
+
+/// An expression between an opening sign and a closing one.
+#[cycle(expression)]
+fn enclosed(
+    alloc: Global,
+    room: u32,
+    opener: Sign,
+    closer: Sign,
+    tokens: &[Token],
+) -> Result<(Expr, &[Token]), Fault>
+    ensures read { MatchResult result (λ read. AreRead room (enclosed_part opener closer (of expression_form)) (λ others. sign_of opener (part (expr read.0) (sign_of closer others))) tokens.now read.1.now) (Refuses room (enclosed_part opener closer (of expression_form)) tokens.now) }
+    ensures shorter { IfOk result (λ read. length read.1.now < length tokens.now) }
+{
+    match open(room, opener, tokens) {
+        Ok(behind) => match level(alloc, room - 1, LEVELS, behind) {
+            Ok((inner, after)) => match sign(room - 1, closer, after) {
+                Ok(left) => Ok((inner, left)),
+                Err(fault) => Err(fault),
+            },
+            Err(fault) => Err(fault),
+        },
+        Err(fault) => Err(fault),
+    }
+}
+
+/// A primary expression that doesn't begin with a name.
+#[cycle(expression)]
+fn constant(alloc: Global, room: u32, tokens: &[Token]) -> Result<(Expr, &[Token]), Fault>
+    requires { is_ahead first_of_constant (symbols tokens.now) ≡ true }
+    ensures read { MatchResult result (λ read. IsRead room (of constant_form) (expr read.0) tokens.now tokens.now read.1.now) (Refuses room (of constant_form) tokens.now) }
+    ensures tight { IfOk result (λ read. 8 ≤ level_of read.0) }
+    ensures shorter { IfOk result (λ read. length read.1.now < length tokens.now) }
+{
+    if begins_simple(tokens) {
+        return simple(room, tokens);
+    }
+    if is_word(Word::New, tokens) {
+        return new_entry(alloc, room, tokens);
+    }
+    if is_word(Word::StaticCast, tokens) {
+        return cast(alloc, room, tokens);
+    }
+    if is_sign(Sign::OpenParenthesis, tokens) {
+        return group(alloc, room, tokens);
+    }
+    validity(alloc, room, tokens)
+}
+
+/// An expression in parentheses.
+#[cycle(expression)]
+fn group(alloc: Global, room: u32, tokens: &[Token]) -> Result<(Expr, &[Token]), Fault>
+    ensures read { MatchResult result (λ read. IsRead room (parentheses (of expression_form)) (expr read.0) tokens.now tokens.now read.1.now) (Refuses room (parentheses (of expression_form)) tokens.now) }
+    ensures tight { IfOk result (λ read. 8 ≤ level_of read.0) }
+    ensures shorter { IfOk result (λ read. length read.1.now < length tokens.now) }
+{
+    match enclosed(
+        alloc,
+        room,
+        Sign::OpenParenthesis,
+        Sign::CloseParenthesis,
+        tokens,
+    ) {
+        Ok((inner, left)) => with_left!(nodes::group(alloc, inner, span(tokens, left)), left),
+        Err(fault) => Err(fault),
+    }
+}
+
+/// `is_valid` or `is_invalid` of an expression in parentheses.
+#[cycle(expression)]
+fn validity(alloc: Global, room: u32, tokens: &[Token]) -> Result<(Expr, &[Token]), Fault>
+    requires { is_ahead (word_kind IsValidWord ∷ word_kind IsInvalidWord ∷ []) (symbols tokens.now) ≡ true }
+    ensures read { MatchResult result (λ read. IsRead room (of constant_form) (expr read.0) tokens.now tokens.now read.1.now) (Refuses room (of constant_form) tokens.now) }
+    ensures tight { IfOk result (λ read. 8 ≤ level_of read.0) }
+    ensures shorter { IfOk result (λ read. length read.1.now < length tokens.now) }
+{
+    if is_word(Word::IsValid, tokens) {
+        return match tested(alloc, room, Word::IsValid, tokens) {
+            Ok((value, left)) => with_left!(
+                nodes::is_valid(alloc, value, span(tokens, left)),
+                left
+            ),
+            Err(fault) => Err(fault),
+        };
+    }
+    match tested(alloc, room, Word::IsInvalid, tokens) {
+        Ok((value, left)) => with_left!(nodes::is_invalid(alloc, value, span(tokens, left)), left),
+        Err(fault) => Err(fault),
+    }
+}
+
+/// A word and an expression in parentheses.
+#[cycle(expression)]
+fn tested(
+    alloc: Global,
+    room: u32,
+    which: Word,
+    tokens: &[Token],
+) -> Result<(Expr, &[Token]), Fault>
+    ensures read { MatchResult result (λ read. AreRead room (word_part which ▸ parentheses (of expression_form)) (λ others. word_of which (sign_of OpenParenthesis (part (expr read.0) (sign_of CloseParenthesis others)))) tokens.now read.1.now) (Refuses room (word_part which ▸ parentheses (of expression_form)) tokens.now) }
+    ensures shorter { IfOk result (λ read. length read.1.now < length tokens.now) }
+{
+    match word(room, which, tokens) {
+        Ok(behind) => enclosed(
+            alloc,
+            room,
+            Sign::OpenParenthesis,
+            Sign::CloseParenthesis,
+            behind,
+        ),
+        Err(fault) => Err(fault),
+    }
+}
+
+/// `static_cast`, with a type, perhaps a string, and an expression in parentheses.
+#[cycle(expression)]
+fn cast(alloc: Global, room: u32, tokens: &[Token]) -> Result<(Expr, &[Token]), Fault>
+    ensures read { MatchResult result (λ read. IsRead room cast_part (expr read.0) tokens.now tokens.now read.1.now) (Refuses room cast_part tokens.now) }
+    ensures tight { IfOk result (λ read. 8 ≤ level_of read.0) }
+    ensures shorter { IfOk result (λ read. length read.1.now < length tokens.now) }
+{
+    match word(room, Word::StaticCast, tokens) {
+        Ok(behind) => match open(room, Sign::OpenParenthesis, behind) {
+            Ok(inner) => match converted(alloc, room - 1, inner) {
+                Ok((target, mode, value, left)) => with_left!(
+                    nodes::cast(alloc, target, mode, value, span(tokens, left)),
+                    left
+                ),
+                Err(fault) => Err(fault),
+            },
+            Err(fault) => Err(fault),
+        },
+        Err(fault) => Err(fault),
+    }
+}
+
+/// What stands behind the opening parenthesis of a cast.
+#[cycle(expression)]
+fn converted(
+    alloc: Global,
+    room: u32,
+    tokens: &[Token],
+) -> Result<(TypeName, Option<Text>, Expr, &[Token]), Fault>
+    ensures read { MatchResult result (λ read. AreRead room cast_inner (λ others. type_name read.0 (sign_of Comma (mode_parts read.1 (part (expr read.2) (sign_of CloseParenthesis others))))) tokens.now read.3.now) (Refuses room cast_inner tokens.now) }
+    ensures shorter { IfOk result (λ read. length read.3.now < length tokens.now) }
+{
+    match cast_head(alloc, room, tokens) {
+        Ok((target, mode, behind)) => match level(alloc, room, LEVELS, behind) {
+            Ok((value, after)) => match sign(room, Sign::CloseParenthesis, after) {
+                Ok(left) => Ok((target, mode, value, left)),
+                Err(fault) => Err(fault),
+            },
+            Err(fault) => Err(fault),
+        },
+        Err(fault) => Err(fault),
+    }
+}

@@ -1,0 +1,134 @@
+//! Primary expressions of one or two tokens, and what expressions begin with.
+ghost use Rattle.std.specs.Prelude.{◌≡◌, ◌∷◌, ◌<◌, [], ◌≤◌, false, true, length, IfOk, MatchOption, MatchResult};
+ghost use Rattle.grammar_rows.specs.Kinds.{has, is_ahead};
+ghost use Rattle.slicc_ast.specs.Expressions.{expr, level_of};
+ghost use Rattle.slicc_ast.specs.Names.{word as word_of};
+ghost use Rattle.slicc_ast.specs.Outline.{node, none, token};
+ghost use Rattle.slicc_ast.specs.declared.tree.token.TokenKind.TheVariants.{Word as WordOf};
+ghost use Rattle.slicc_ast.specs.declared.tree.token.Word.TheVariants.{New as NewWord};
+ghost use Rattle.slicc_grammar.specs.Ahead.{first_of_constant, first_of_expression, first_of_opening};
+ghost use Rattle.slicc_grammar.specs.Parts.{◌▸◌, name as name_part, of, word as word_part};
+ghost use Rattle.slicc_grammar.specs.Form.Form.{constant as constant_form};
+ghost use Rattle.slicc_grammar.specs.TokenKinds.{kind_of, number, word_kind};
+ghost use Rattle.slicc_lex.specs.Syntax.{symbols};
+ghost use Rattle.slicc_expr.specs.Reading.{IsRead, Refuses};
+ghost use Rattle.slicc_expr.specs.Levels.{IsSimple, longer_kinds, simple_kinds};
+
+use crate::fault::Fault;
+use crate::leaf::{is_name, is_sign, is_word, name, refuse, span, split_first, word};
+use slicc_ast::tree::{Expr, Sign, Span, TokenKind, Word};
+use slicc_lex::Token;
+use std::alloc::Global;
+
+fn is_number_kind(kind: &TokenKind) -> bool
+    ensures { result ≡ has (number ∷ []) (kind_of kind.now) }
+{
+    match kind {
+        TokenKind::Number(_) => true,
+        _ => false,
+    }
+}
+
+fn is_number(tokens: &[Token]) -> bool
+    ensures { result ≡ is_ahead (number ∷ []) (symbols tokens.now) }
+{
+    match split_first(tokens) {
+        Some((first, _)) => is_number_kind(&first.kind),
+        None => false,
+    }
+}
+
+/// Whether the first token is an expression by itself and isn't a name.
+pub fn begins_simple(tokens: &[Token]) -> bool
+    ensures { result ≡ is_ahead simple_kinds (symbols tokens.now) }
+{
+    is_number(tokens)
+        || is_word(Word::True, tokens)
+        || is_word(Word::False, tokens)
+        || is_word(Word::Ood, tokens)
+}
+
+/// Whether the first token is a word or a parenthesis that begins a primary expression of several tokens.
+fn begins_longer(tokens: &[Token]) -> bool
+    ensures { result ≡ is_ahead longer_kinds (symbols tokens.now) }
+{
+    is_word(Word::New, tokens)
+        || is_word(Word::IsValid, tokens)
+        || is_word(Word::IsInvalid, tokens)
+        || is_word(Word::StaticCast, tokens)
+        || is_sign(Sign::OpenParenthesis, tokens)
+}
+
+/// Whether the first token begins a primary expression and isn't a name.
+pub fn begins_constant(tokens: &[Token]) -> bool
+    ensures { result ≡ is_ahead first_of_constant (symbols tokens.now) }
+{
+    begins_simple(tokens) || begins_longer(tokens)
+}
+
+/// Whether the first token begins an expression and isn't a name.
+pub fn begins_opening(tokens: &[Token]) -> bool
+    ensures { result ≡ is_ahead first_of_opening (symbols tokens.now) }
+{
+    is_sign(Sign::Not, tokens) || is_sign(Sign::Minus, tokens) || begins_constant(tokens)
+}
+
+/// Whether the first token begins an expression.
+pub fn begins_expression(tokens: &[Token]) -> bool
+    ensures { result ≡ is_ahead first_of_expression (symbols tokens.now) }
+{
+    is_name(tokens) || begins_opening(tokens)
+}
+
+fn word_value(word: Word, span: Span) -> Option<Expr>
+    ensures { MatchOption result (has simple_kinds (word_kind word) ≡ false) (λ e. IsSimple (WordOf word) span e) }
+{
+    match word {
+        Word::True => Some(Expr::True(span)),
+        Word::False => Some(Expr::False(span)),
+        Word::Ood => Some(Expr::Nothing(span)),
+        _ => None,
+    }
+}
+
+/// What a token is as an expression: a number, or a word that stands for a value.
+fn value_of(kind: &TokenKind, span: Span) -> Option<Expr>
+    ensures { MatchOption result (has simple_kinds (kind_of kind.now) ≡ false) (λ e. IsSimple kind.now span e) }
+{
+    match kind {
+        TokenKind::Number(value) => Some(Expr::Number(*value, span)),
+        TokenKind::Word(word) => word_value(*word, span),
+        _ => None,
+    }
+}
+
+/// A number, or a word that stands for a value.
+pub fn simple(room: u32, tokens: &[Token]) -> Result<(Expr, &[Token]), Fault>
+    requires { is_ahead simple_kinds (symbols tokens.now) ≡ true }
+    ensures read { MatchResult result (λ read. IsRead room (of constant_form) (expr read.0) tokens.now tokens.now read.1.now) (Refuses room (of constant_form) tokens.now) }
+    ensures tight { IfOk result (λ read. 8 ≤ level_of read.0) }
+    ensures shorter { IfOk result (λ read. length read.1.now < length tokens.now) }
+{
+    let Some((first, left)) = split_first(tokens) else {
+        return Err(refuse(room, tokens));
+    };
+    match value_of(&first.kind, first.span) {
+        Some(value) => Ok((value, left)),
+        None => Err(refuse(room, tokens)),
+    }
+}
+
+/// `new` and a name.
+pub fn new_entry(alloc: Global, room: u32, tokens: &[Token]) -> Result<(Expr, &[Token]), Fault>
+    ensures read { MatchResult result (λ read. IsRead room (word_part NewWord ▸ name_part) (expr read.0) tokens.now tokens.now read.1.now) (Refuses room (word_part NewWord ▸ name_part) tokens.now) }
+    ensures tight { IfOk result (λ read. 8 ≤ level_of read.0) }
+    ensures shorter { IfOk result (λ read. length read.1.now < length tokens.now) }
+{
+    match word(room, Word::New, tokens) {
+        Ok(behind) => match name(alloc, room, behind) {
+            Ok((made, left)) => Ok((Expr::New(made, span(tokens, left)), left)),
+            Err(fault) => Err(fault),
+        },
+        Err(fault) => Err(fault),
+    }
+}
