@@ -5,7 +5,7 @@ use Rattle.grammar_rows.specs.Faults.{Stop}
 use Rattle.grammar_rows.specs.Faults.Stop.{Bad, Deep, Short}
 use Rattle.grammar_rows.specs.Kinds.{has, is_ahead}
 use Rattle.grammar_rows.specs.Reader.{refusal}
-use Rattle.slicc_grammar.specs.Ahead.{openers}
+use Rattle.slicc_grammar.specs.Written.{openers}
 use Rattle.slicc_grammar.specs.Table.{table}
 use Rattle.slicc_grammar.specs.TokenKinds.{kind_of}
 use Rattle.slicc_lex.specs.declared.token.Token.{Token}

@@ -7,7 +7,7 @@ ghost use Rattle.grammar_rows.specs.Reader.{refusal};
 ghost use Rattle.slicc_ast.specs.Names.{sign as sign_of, word as word_of};
 ghost use Rattle.slicc_ast.specs.Outline.{last_end, node, none, token};
 ghost use Rattle.slicc_ast.specs.declared.tree.token.TokenKind.TheVariants.{Name as Named, Quoted as QuotedKind, Sign as SignOf, Word as WordOf};
-ghost use Rattle.slicc_grammar.specs.Ahead.{openers};
+ghost use Rattle.slicc_grammar.specs.Written.{openers};
 ghost use Rattle.slicc_grammar.specs.Form.{Form};
 ghost use Rattle.slicc_grammar.specs.Parts.{name as name_part, names_of, sign as sign_part, string as string_part, type as type_part, word as word_part};
 ghost use Rattle.slicc_grammar.specs.Table.{table};
