@@ -1,0 +1,6 @@
+//! Reads tokens as declarations, machines and files of SLICC, or finds the first token with which they can't go on.
+#![tactic(auto)]
+
+mod literals;
+
+pub use literals::{is_number, literal, number};
