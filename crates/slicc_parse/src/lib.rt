@@ -1,6 +1,8 @@
 //! Reads tokens as declarations, machines and files of SLICC, or finds the first token with which they can't go on.
 #![tactic(auto)]
 
+mod heads;
 mod literals;
 
+pub use heads::{closed_name, head};
 pub use literals::{is_number, literal, number};
