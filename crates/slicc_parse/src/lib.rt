@@ -3,6 +3,8 @@
 
 mod heads;
 mod literals;
+mod ports;
 
 pub use heads::{closed_name, head};
 pub use literals::{is_number, literal, number};
+pub use ports::out_port;
