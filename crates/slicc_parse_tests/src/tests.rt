@@ -31,6 +31,9 @@ const LITERALS: &[(&[u8], Result<usize, Fault>)] = &[
 ];
 
 fn out_port_left(alloc: Global, text: &[u8], room: u32) -> Option<Result<usize, Fault>> {
+    if text.len() > 1_048_576 {
+        return None;
+    }
     let tokens = lex(alloc, 0, text).ok()?;
     Some(match out_port(alloc, room, tokens.as_slice()) {
         Ok((_, left)) => Ok(left.len()),
@@ -39,6 +42,9 @@ fn out_port_left(alloc: Global, text: &[u8], room: u32) -> Option<Result<usize, 
 }
 
 fn literal_left(alloc: Global, text: &[u8]) -> Option<Result<usize, Fault>> {
+    if text.len() > 1_048_576 {
+        return None;
+    }
     let tokens = lex(alloc, 0, text).ok()?;
     Some(match literal(alloc, 64, tokens.as_slice()) {
         Ok((_, left)) => Ok(left.len()),
