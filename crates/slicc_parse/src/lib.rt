@@ -5,6 +5,6 @@ mod heads;
 mod literals;
 mod ports;
 
-pub use heads::{closed_name, head};
+pub use heads::{ended_by, ended_name, ended_pairs, head};
 pub use literals::{is_number, literal, number};
 pub use ports::out_port;

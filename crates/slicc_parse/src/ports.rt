@@ -8,24 +8,11 @@ ghost use Rattle.slicc_grammar.specs.Form.Form.{out_port as out_port_form};
 ghost use Rattle.slicc_grammar.specs.Parts.{◌▸◌, comma, name as name_part, of, pairs as pairs_part, parentheses, semicolon, sign as sign_part, type as type_part};
 ghost use Rattle.slicc_expr.specs.Reading.{AreRead, IsRead, Refuses};
 
-use crate::heads::closed_name;
+use crate::heads::{ended_by, ended_name};
 use slicc_ast::tree::{Name, OutPort, Pairs, Sign, TypeName, Word};
-use slicc_expr::{Fault, is_word, name, open, refuse, sign, span, type_name, word};
+use slicc_expr::{Fault, is_word, open, refuse, sign, span, type_name, word};
 use slicc_lex::Token;
 use std::alloc::Global;
-
-/// A name and a comma.
-fn name_and_comma(alloc: Global, room: u32, tokens: &[Token]) -> Result<(Name, &[Token]), Fault>
-    ensures { MatchResult result (λ read. AreRead room (name_part ▸ comma) (λ others. name_of read.0 (sign_of Comma others)) tokens.now read.1.now) (Refuses room (name_part ▸ comma) tokens.now) }
-{
-    match name(alloc, room, tokens) {
-        Ok((called, behind)) => match sign(room, Sign::Comma, behind) {
-            Ok(left) => Ok((called, left)),
-            Err(fault) => Err(fault),
-        },
-        Err(fault) => Err(fault),
-    }
-}
 
 /// The name of a type and a comma.
 fn type_and_comma(alloc: Global, room: u32, tokens: &[Token]) -> Result<(TypeName, &[Token]), Fault>
@@ -49,7 +36,7 @@ fn message_and_buffer(
     ensures { MatchResult result (λ read. AreRead room ((type_part ▸ comma) ▸ name_part ▸ pairs_part ▸ sign_part CloseParenthesis) (λ others. type_of read.0 (sign_of Comma (name_of read.1 (pairs_of read.2 (sign_of CloseParenthesis others))))) tokens.now read.3.now) (Refuses room ((type_part ▸ comma) ▸ name_part ▸ pairs_part ▸ sign_part CloseParenthesis) tokens.now) }
 {
     match type_and_comma(alloc, room, tokens) {
-        Ok((message, behind)) => match closed_name(alloc, room, behind) {
+        Ok((message, behind)) => match ended_name(alloc, room, Sign::CloseParenthesis, behind) {
             Ok((buffer, attributes, left)) => Ok((message, buffer, attributes, left)),
             Err(fault) => Err(fault),
         },
@@ -69,7 +56,7 @@ pub struct PortHead {
 fn port_inside(alloc: Global, room: u32, tokens: &[Token]) -> Result<(PortHead, &[Token]), Fault>
     ensures { MatchResult result (λ read. AreRead room (name_part ▸ comma ▸ type_part ▸ comma ▸ name_part ▸ pairs_part ▸ sign_part CloseParenthesis) (λ others. name_of read.0.name (sign_of Comma (type_of read.0.message (sign_of Comma (name_of read.0.buffer (pairs_of read.0.pairs (sign_of CloseParenthesis others))))))) tokens.now read.1.now) (Refuses room (name_part ▸ comma ▸ type_part ▸ comma ▸ name_part ▸ pairs_part ▸ sign_part CloseParenthesis) tokens.now) }
 {
-    match name_and_comma(alloc, room, tokens) {
+    match ended_by(alloc, room, Sign::Comma, tokens) {
         Ok((name, behind)) => match message_and_buffer(alloc, room, behind) {
             Ok((message, buffer, pairs, left)) => Ok((
                 PortHead {
