@@ -1,1 +1,3 @@
 pub mod FirstTokens
+pub mod Repeats
+pub mod Lists

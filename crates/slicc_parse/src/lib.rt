@@ -3,8 +3,10 @@
 
 mod heads;
 mod literals;
+mod members;
 mod ports;
 
 pub use heads::{ended_by, ended_name, ended_pairs, head};
 pub use literals::{is_number, literal, number};
+pub use members::{enumeration, states};
 pub use ports::out_port;
