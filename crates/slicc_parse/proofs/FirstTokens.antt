@@ -1,5 +1,6 @@
 -- The number that is the first token, and tokens that no literal begins with.
-use Rattle.std.proofs.Common.{◌≡◌, ℕ, ◌==◌, Bool, true, false, ◌||◌, List, [], ◌∷◌, refl, sym, subst}
+use Rattle.std.proofs.Common.{◌≡◌, ℕ, ◌==◌, Bool, true, false, ◌||◌, List, [], ◌∷◌, ◌++◌, refl, sym, subst}
+use Rattle.std.proofs.lemmas.Bool.{false≢true}
 use Rattle.std.specs.Prelude.{ℤ}
 use Rattle.slicc_ast.specs.declared.tree.token.Sign.TheVariants.{Minus}
 use Rattle.slicc_ast.specs.declared.tree.token.Word.TheVariants.{True, False}
@@ -33,3 +34,22 @@ no_literal (first ∷ tokens) p q r s t = none_has (kind_of first.kind) p q r s 
 pub number_read : (room : ℕ) (n : ℤ) (t : Token) (tokens left : List Token) → tokens ≡ t ∷ left → t.kind ≡ Number n → AreRead room number_token (token (Number n)) tokens left
 number_read room n t tokens left is kind =
     token_read room (number ∷ []) (Number n) t tokens left is (subst (λ k. has (number ∷ []) (kind_of k) ≡ true) (sym kind) refl) kind
+
+-- none of some kinds and none of others
+neither : (a b : Bool) → a ≡ false → b ≡ false → a || b ≡ false
+neither false b p q = q
+neither true b p q = p
+
+first_not : (a b : Bool) → a || b ≡ false → (a ≡ false) × (b ≡ false)
+first_not false b p = (refl, p)
+first_not true b p = (p, absurd (false≢true (sym p)))
+
+neither_has : (kinds others : List ℕ) (kind : ℕ) → has kinds kind ≡ false → has others kind ≡ false → has (kinds ++ others) kind ≡ false
+neither_has [] others kind p q = q
+neither_has (k ∷ kinds) others kind p q =
+    let parts = first_not (k == kind) (has kinds kind) p in
+    neither (k == kind) (has (kinds ++ others) kind) parts.0 (neither_has kinds others kind parts.1 q)
+
+pub neither_ahead : (kinds others : List ℕ) (tokens : List Token) → is_ahead kinds (symbols tokens) ≡ false → is_ahead others (symbols tokens) ≡ false → is_ahead (kinds ++ others) (symbols tokens) ≡ false
+neither_ahead kinds others [] p q = refl
+neither_ahead kinds others (t ∷ tokens) p q = neither_has kinds others (kind_of t.kind) p q
