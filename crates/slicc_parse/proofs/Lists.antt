@@ -1,18 +1,19 @@
 -- What lists of members are spelled by, member by member.
 use Rattle.std.proofs.Common.{◌≡◌, List, [], ◌∷◌, refl, ap, subst, sym}
+use Rattle.slicc_ast.specs.declared.tree.declaration.Pair.{Pair}
 use Rattle.slicc_ast.specs.declared.tree.declaration.State.{State}
 use Rattle.slicc_ast.specs.declared.tree.declaration.Symbol.{Symbol}
 use Rattle.slicc_ast.specs.declared.tree.declaration.Formal.{Formal}
 use Rattle.slicc_ast.specs.declared.tree.name.Name.{Name}
 use Rattle.slicc_ast.specs.declared.tree.token.Sign.TheVariants.{Comma}
-use Rattle.slicc_ast.specs.Declarations.{formal, formal_list, more_formals, state_list, symbol_list}
-use Rattle.slicc_ast.specs.Machines.{more_names, name_list}
+use Rattle.slicc_ast.specs.Declarations.{formal, formal_list, more_formals, pair_list, state_list, symbol_list}
+use Rattle.slicc_ast.specs.Machines.{action_list, more_names, name_list}
 use Rattle.slicc_ast.specs.Names.{name, sign}
 use Rattle.slicc_ast.specs.Outline.{Parts, none, part}
 use Rattle.slicc_expr.specs.Reading.{AreParts}
 use Rattle.slicc_expr.specs.Reading.AreParts.{nothing}
 use Rattle.slicc_lex.specs.declared.token.Token.{Token}
-use Rattle.slicc_parse.specs.Members.{state_parts, symbol_parts}
+use Rattle.slicc_parse.specs.Members.{action_parts, pair_parts, state_parts, symbol_parts}
 use Rattle.slicc_parse.proofs.Repeats.{each}
 
 pub each_symbol : (items : List Symbol) (others : Parts) → symbol_list items others ≡ each symbol_parts items others
@@ -58,3 +59,12 @@ each_further_name (first ∷ items) others = ap (λ p. further_name first p) (ea
 
 pub each_name : (first : Name) (items : List Name) (others : Parts) → name_list (first ∷ items) others ≡ name first (each further_name items others)
 each_name first items others = ap (λ p. name first p) (each_further_name items others)
+
+-- attributes, and a transition's actions
+pub each_pair : (items : List Pair) → pair_list items ≡ each pair_parts items none
+each_pair [] = refl
+each_pair (first ∷ items) = ap (λ p. pair_parts first p) (each_pair items)
+
+pub each_action : (items : List Name) (others : Parts) → action_list items others ≡ each action_parts items others
+each_action [] others = refl
+each_action (first ∷ items) others = ap (λ p. action_parts first p) (each_action items others)

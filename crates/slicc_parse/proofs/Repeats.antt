@@ -1,6 +1,7 @@
 -- Loops that read a repeated part into a list, and what the list is spelled by.
 use Rattle.std.proofs.Common.{◌≡◌, ◌==◌, ℕ, suc, rules, ◌≤◌, true, false, not, IsTrue, List, [], ◌∷◌, ◌++◌, length, refl, sym, subst, ap, ◌∙◌}
-use Rattle.slicc_ast.specs.Outline.{Parts}
+use Rattle.slicc_ast.specs.declared.tree.span.Span.{Span}
+use Rattle.slicc_ast.specs.Outline.{node, none, Parts}
 use Rattle.grammar_rows.specs.Grammar.{first_of}
 use Rattle.grammar_rows.specs.Grammar.Row.{done, many}
 use Rattle.grammar_rows.specs.Kinds.{is_ahead}
@@ -9,7 +10,10 @@ use Rattle.slicc_grammar.specs.Table.{table}
 use Rattle.slicc_lex.specs.declared.token.Token.{Token}
 use Rattle.slicc_lex.specs.Syntax.{symbols}
 use Rattle.slicc_expr.specs.declared.fault.Fault.{Fault}
-use Rattle.slicc_expr.specs.Reading.{AreParts, AreRead, Leads, Refuses}
+use Rattle.slicc_expr.specs.Reading.{AreParts, AreRead, Covers, IsRead, Leads, Refuses}
+use Rattle.slicc_expr.specs.Reading.AreParts.{nothing}
+use Rattle.slicc_expr.specs.Reading.IsNode.{spelled}
+use Rattle.slicc_parse.specs.Members.{IsSpelledBefore}
 use Rattle.slicc_expr.proofs.Choices.{leads_here, leads_behind, once_more, fault_in_more, no_more, all_of}
 
 -- the parts of each of a list, and then further parts
@@ -22,40 +26,57 @@ pub each_last : {A : Type 0} (one : A → Parts → Parts) (items : List A) (las
 each_last one [] last others = refl
 each_last one (first ∷ items) last others = ap (λ p. one first p) (each_last one items last others)
 
--- so many of a repeated part are read
-pub record AreRepeated {A : Type 0} (one : A → Parts → Parts) (room : ℕ) (item : Part) (tokens : List Token) (items : List A) (now : List Token) : Type 0 where
+-- so many of a repeated part are read, of which some may be read before its tokens
+pub record AreRepeated {A : Type 0} (one : A → Parts → Parts) (room : ℕ) (item : Part) (start tokens : List Token) (items : List A) (now : List Token) : Type 0 where
   pub leads : Leads room (repeated item) tokens (repeated item) now
-  pub spells : (others : Parts) (end : List Token) → AreParts others now end → AreParts (each one items others) tokens end
+  pub spells : (others : Parts) (end : List Token) → AreParts others now end → AreParts (each one items others) start end
 
 pub none_yet : {A : Type 0} (one : A → Parts → Parts) (room : ℕ) (item : Part) (tokens : List Token) (items : List A)
-    → items ≡ [] → AreRepeated one room item tokens items tokens
+    → items ≡ [] → AreRepeated one room item tokens tokens items tokens
 none_yet one room item tokens items is =
-    subst (λ xs. AreRepeated one room item tokens xs tokens) (sym is)
+    subst (λ xs. AreRepeated one room item tokens tokens xs tokens) (sym is)
     (record { leads = leads_here room (repeated item) tokens; spells = λ others end m. m })
 
-pub one_more : {A : Type 0} {one : A → Parts → Parts} {room : ℕ} {item : Part} {tokens now after : List Token} (items : List A) (last : A) (more : List A)
+pub one_more : {A : Type 0} {one : A → Parts → Parts} {room : ℕ} {item : Part} {start tokens now after : List Token} (items : List A) (last : A) (more : List A)
     → more ≡ items ++ last ∷ [] → is_ahead (first_of table (item done)) (symbols now) ≡ true
-    → AreRead room item (one last) now after → AreRepeated one room item tokens items now → AreRepeated one room item tokens more after
-one_more {one = one} {room = room} {item = item} {tokens = tokens} {after = after} items last more is ahead r so_far =
-    subst (λ xs. AreRepeated one room item tokens xs after) (sym is)
+    → AreRead room item (one last) now after → AreRepeated one room item start tokens items now → AreRepeated one room item start tokens more after
+one_more {one = one} {room = room} {item = item} {start = start} {tokens = tokens} {after = after} items last more is ahead r so_far =
+    subst (λ xs. AreRepeated one room item start tokens xs after) (sym is)
     (record {
       leads = once_more item (λ row. row) ahead r.passes r.within so_far.leads;
-      spells = λ others end m. subst (λ p. AreParts p tokens end) (sym (each_last one items last others)) (so_far.spells _ end (r.spells others end m));
+      spells = λ others end m. subst (λ p. AreParts p start end) (sym (each_last one items last others)) (so_far.spells _ end (r.spells others end m));
     })
 
-pub fault_in_one : {A : Type 0} {one : A → Parts → Parts} {room : ℕ} {item : Part} {tokens now : List Token} {items : List A} {fault : Fault}
+pub fault_in_one : {A : Type 0} {one : A → Parts → Parts} {room : ℕ} {item : Part} {start tokens now : List Token} {items : List A} {fault : Fault}
     → is_ahead (first_of table (item done)) (symbols now) ≡ true → Refuses room item now fault
-    → AreRepeated one room item tokens items now → Refuses room (repeated item) tokens fault
+    → AreRepeated one room item start tokens items now → Refuses room (repeated item) tokens fault
 fault_in_one {item = item} ahead r so_far = fault_in_more item (λ row. row) ahead r so_far.leads
 
 pub all_read : {A : Type 0} {one : A → Parts → Parts} {room : ℕ} {item : Part} {tokens left : List Token} {items : List A} (parts : Parts → Parts)
     → ((others : Parts) → parts others ≡ each one items others)
     → is_ahead (first_of table (item done)) (symbols left) ≡ false
-    → AreRepeated one room item tokens items left → AreRead room (repeated item) parts tokens left
+    → AreRepeated one room item tokens tokens items left → AreRead room (repeated item) parts tokens left
 all_read {item = item} {tokens = tokens} parts same ended so_far =
     record {
       passes = all_of (no_more (item done) (λ row. row) ended so_far.leads);
       spells = λ others end m. subst (λ p. AreParts p tokens end) (sym (same others)) (so_far.spells others end m);
+      within = so_far.leads.within;
+    }
+
+-- one was read before
+pub one_before : {A : Type 0} (one : A → Parts → Parts) (room : ℕ) (item : Part) (start tokens : List Token) (before : List A) (first : A) (items : List A)
+    → before ≡ [] → items ≡ before ++ first ∷ [] → IsSpelledBefore (one first) start tokens → AreRepeated one room item start tokens items tokens
+one_before one room item start tokens before first items empty is spelled_before =
+    subst (λ xs. AreRepeated one room item start tokens xs tokens) (sym (is ∙ ap (λ xs. xs ++ first ∷ []) empty))
+    (record { leads = leads_here room (repeated item) tokens; spells = spelled_before })
+
+pub all_from : {A : Type 0} {one : A → Parts → Parts} {room : ℕ} {item : Part} {start tokens left : List Token} {items : List A} (span : Span) (parts : Parts)
+    → parts ≡ each one items none → is_ahead (first_of table (item done)) (symbols left) ≡ false → Covers span start left
+    → AreRepeated one room item start tokens items left → IsRead room (repeated item) (node span parts) start tokens left
+all_from {item = item} {start = start} {left = left} span parts same ended covers so_far =
+    record {
+      passes = all_of (no_more (item done) (λ row. row) ended so_far.leads);
+      is_node = spelled covers (subst (λ p. AreParts p start left) (sym same) (so_far.spells none left nothing));
       within = so_far.leads.within;
     }
 

@@ -8,6 +8,7 @@ mod name_sets;
 mod parameters;
 mod ports;
 mod signatures;
+mod transitions;
 
 pub use heads::{ended_by, ended_name, ended_pairs, head};
 pub use literals::{is_number, literal, number};
@@ -16,3 +17,4 @@ pub use name_sets::names;
 pub use parameters::parameter;
 pub use ports::out_port;
 pub use signatures::{formals, starred_type};
+pub use transitions::transition;
