@@ -51,7 +51,7 @@ fn pair_value(alloc: Global, room: u32, tokens: &[Token]) -> Result<(PairValue, 
 }
 
 /// `=` and a value.
-fn assigned(alloc: Global, room: u32, tokens: &[Token]) -> Result<(PairValue, &[Token]), Fault>
+pub fn assigned(alloc: Global, room: u32, tokens: &[Token]) -> Result<(PairValue, &[Token]), Fault>
     ensures read { MatchResult result
         (λ read. AreRead room (sign_part Equals ▸ value) (λ others. sign_of Equals (value_parts read.0 others)) tokens.now read.1.now)
         (Refuses room (sign_part Equals ▸ value) tokens.now) }
@@ -101,7 +101,7 @@ fn named_pair(alloc: Global, room: u32, tokens: &[Token]) -> Result<(Pair, &[Tok
 }
 
 /// A comma and an attribute.
-fn next_pair(alloc: Global, room: u32, tokens: &[Token]) -> Result<(Pair, &[Token]), Fault>
+pub fn next_pair(alloc: Global, room: u32, tokens: &[Token]) -> Result<(Pair, &[Token]), Fault>
     ensures read { MatchResult result
         (λ read. AreRead room (comma ▸ of pair_form) (λ others. sign_of Comma (part (pair_of read.0) others)) tokens.now read.1.now)
         (Refuses room (comma ▸ of pair_form) tokens.now) }

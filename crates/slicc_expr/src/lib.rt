@@ -11,7 +11,7 @@ mod operator_signs;
 mod reading;
 mod values;
 
-pub use attributes::{pair, pairs};
+pub use attributes::{assigned, next_pair, pair, pairs};
 pub use expressions::{after_name, expression, opening, operators};
 pub use fault::{Fault, SyntaxFault};
 pub use leaf::{

@@ -1,0 +1,4 @@
+pub mod FirstTokens
+pub mod Repeats
+pub mod Lists
+pub mod Behind

@@ -1,0 +1,20 @@
+//! Reads tokens as declarations, machines and files of SLICC, or finds the first token with which they can't go on.
+#![tactic(auto)]
+
+mod heads;
+mod literals;
+mod members;
+mod name_sets;
+mod parameters;
+mod ports;
+mod signatures;
+mod transitions;
+
+pub use heads::{ended_by, ended_name, ended_pairs, head};
+pub use literals::{is_number, literal, number};
+pub use members::{enumeration, states};
+pub use name_sets::names;
+pub use parameters::parameter;
+pub use ports::out_port;
+pub use signatures::{formals, starred_type};
+pub use transitions::transition;
