@@ -11,7 +11,7 @@ use Rattle.ruby_value.specs.declared.message.Message.{Message}
 use Rattle.ctl_face.specs.Lasts.{Lasts}
 use Rattle.ctl_face.specs.Table.{Table}
 
--- a message in an inbox, and the line number under which it was taken aside, if it was
+-- a message in an inbox, and the line number under which it is stalled, if it is
 pub record InboxMessage : Type 0 where
   pub message : Message
   pub waiting : Option ℕ

@@ -1,6 +1,8 @@
 -- What holds of a controller of a machine at each moment of a run, of its tables, its mail and its sequencer: they are those of
 -- the machine, with fields of the declared kinds; each line in them is below 2 ^ 58; its own messages have numbers that it has
 -- given; and its counts are at most what it may send in the cycles up to now. Each step of a controller keeps this.
+-- A local is lawful where this holds of its controller as the scan began and now, its machine and routes are as they may be, and
+-- its acts are as `ActsFit` says.
 -- It doesn't say that the values of enumerations are members, nor that machine numbers are those of controllers.
 use Rattle.std.specs.Prelude.{◌≡◌, ◌<◌, ◌≤◌, ◌^◌, ◌+◌, ◌*◌, ℕ, Bool, true, false, Option, None, Some, List, length, slice_get, IsTrue, IfSome, IfNone}
 use Rattle.std.specs.FinMap as map
@@ -71,7 +73,7 @@ pub record FitsMessage (buffers : List BufferSetup) (me sent : ℕ) (m : InboxMe
   pub own_number : m.message.number.sender ≡ me → m.message.number.count < sent
   pub line : IfSome m.waiting IsLine
 
--- each number stands once
+-- no number is there twice
 abbrev pub NumbersAscend : List InboxMessage → Type 0
 NumbersAscend inbox = AllPairs (λ (a b : InboxMessage). IsTrue (number_before a.message.number b.message.number)) inbox
 
@@ -116,8 +118,8 @@ pub record Fits (machine : MachineSetup) (me : ℕ) (ctl : Ctl) (now : ℕ) : Ty
 abbrev pub last_cycle : ℕ
 last_cycle = 10 ^ 12
 
--- what holds of the setup, and of the controller as the scan began and as it is; of the run's routes more holds, which
--- `RoutesFit` says
+-- what holds of the setup, and of the controller as the scan began and as it is; of the run's routes more holds, which `IsInRun`
+-- says
 pub record ScanFits (v : LocalView) : Type 0 where
   pub machine : IsMachine v.machine
   pub routes : HasRoutes v.machine v.actor.me v.actor.routes

@@ -19,6 +19,7 @@ pub mod Get
 pub mod Inbox
 pub mod InRun
 pub mod IsMachine
+pub mod Keeps
 pub mod Lasts
 pub mod Latency
 pub mod LocalView

@@ -1,4 +1,4 @@
--- What a send comes to: the sender's mail after it and the copies, or the fault. One copy goes into a buffer of the sender's
+-- A send: the sender's mail after it and the copies, or the fault. One copy goes into a buffer of the sender's
 -- own. On a buffer to a network one copy goes to each receiver that the message names, in increasing number; each has
 -- a number of its own and a jitter drawn for it alone, where the network has jitter. A copy arrives after the latency,
 -- the path and the jitter; where order is kept, no copy arrives before the one sent last from here to there.

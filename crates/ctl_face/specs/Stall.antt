@@ -1,5 +1,5 @@
--- Taking the front of a buffer aside under a line, which SLICC writes `stall_and_wait`: it keeps its arrival and its
--- number, and whether it was recycled, and waits until it is woken.
+-- The front of a buffer is stalled under a line, which SLICC writes `stall_and_wait`: it keeps its arrival and its number, and
+-- whether it was recycled, and waits until it is woken.
 use Rattle.std.specs.Prelude.{ℕ, Some, [], ◌∷◌, ◌++◌, Result}
 use Rattle.ruby_value.specs.declared.fault.Fault.{Fault}
 use Rattle.ruby_value.specs.declared.message.Message.{Message}

@@ -76,7 +76,9 @@ fn receivers_field(place: BufferPlace) -> Option<u16>
 }
 
 fn names_receivers(s: &BufferSetup) -> bool
-    ensures { IsTrue result ↔ IfSome (receivers_field_of s.now.place) (λ field. slice_get s.now.kinds field ≡ Some Kind.Dest) }
+    ensures { IsTrue result
+        ↔ IfSome (receivers_field_of s.now.place)
+        (λ field. slice_get s.now.kinds field ≡ Some Kind.Dest) }
 {
     match receivers_field(s.place) {
         Some(field) => matches!(s.kinds.get(usize::from(field)), Some(Kind::Dest)),

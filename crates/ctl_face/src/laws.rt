@@ -21,6 +21,7 @@ ghost use Rattle.ctl_face.specs.FitsReceiver.{FitsReceiver, SendsFit};
 ghost use Rattle.ctl_face.specs.Get.{get};
 ghost use Rattle.ctl_face.specs.InRun.{IsController, IsInRun};
 ghost use Rattle.ctl_face.specs.IsMachine.{IsMachine};
+ghost use Rattle.ctl_face.specs.Keeps.{AlwaysKeeps, Keeps, KeepsFits, KeepsWhere};
 ghost use Rattle.ctl_face.specs.LocalView.{Actor, LocalView};
 ghost use Rattle.ctl_face.specs.OfMachine.{TakesFields};
 ghost use Rattle.ctl_face.specs.Opening.{opening_ctl};
@@ -39,73 +40,96 @@ ghost use Rattle.ctl_face.specs.Wake.{wake, wake_all};
 
 /// A controller as a run begins fits its machine, in that cycle and in each later one.
 pub fn opening_controllers_fit()
-    ensures { (machine : MachineRecord) (me now : ℕ) → IsMachine machine → Fits machine me (opening_ctl machine) now }
+    ensures { (machine : MachineRecord) (me now : ℕ) → IsMachine machine
+        → Fits machine me (opening_ctl machine) now }
 {}
 
 /// As a scan begins with a controller that fits its machine, the local is lawful.
 pub fn scans_begin_lawful()
-    ensures { (machine : MachineRecord) (actor : Actor) (now : ℕ) (ctl : Ctl) → IsMachine machine → HasRoutes machine actor.me actor.routes → now ≤ last_cycle → Fits machine actor.me ctl now → IsLawful (scan_view machine actor now ctl) }
+    ensures { (machine : MachineRecord) (actor : Actor) (now : ℕ) (ctl : Ctl) → IsMachine machine
+        → HasRoutes machine actor.me actor.routes → now ≤ last_cycle → Fits machine actor.me ctl now
+        → IsLawful (scan_view machine actor now ctl) }
 {}
 
 /// Routes that fit a run are, for each of its controllers, routes that its acts may go by, and have no buffers for anyone else.
 pub fn routes_fit_each_controller()
-    ensures nobody_else { (machines : List MachineRecord) (ranges : List (ℕ × ℕ)) (routes : RoutesRecord) → RoutesFit machines ranges routes → NobodyElseReceives ranges routes }
-    ensures each { (machines : List MachineRecord) (ranges : List (ℕ × ℕ)) (m : MachineRecord) (actor : Actor) → IsController machines ranges m actor → HasRoutes m actor.me actor.routes }
+    ensures nobody_else { (machines : List MachineRecord) (ranges : List (ℕ × ℕ))
+        (routes : RoutesRecord)
+        → RoutesFit machines ranges routes → NobodyElseReceives ranges routes }
+    ensures each { (machines : List MachineRecord) (ranges : List (ℕ × ℕ)) (m : MachineRecord)
+        (actor : Actor)
+        → IsController machines ranges m actor → HasRoutes m actor.me actor.routes }
 {}
 
 /// Each copy that a controller of a run sends goes to one of the run's controllers, and is in a buffer there whose messages have
 /// fields like its own; and so is each that a lawful local has posted.
 pub fn copies_fit_their_receivers()
-    ensures posted { (machines : List MachineRecord) (ranges : List (ℕ × ℕ)) (v : LocalView) → IsInRun machines ranges v → All (FitsReceiver machines ranges) v.acts.posted }
-    ensures sent { (machines : List MachineRecord) (ranges : List (ℕ × ℕ)) (m : MachineRecord) (actor : Actor) → IsController machines ranges m actor → SendsFit machines ranges m actor }
+    ensures posted { (machines : List MachineRecord) (ranges : List (ℕ × ℕ)) (v : LocalView)
+        → IsInRun machines ranges v → All (FitsReceiver machines ranges) v.acts.posted }
+    ensures sent { (machines : List MachineRecord) (ranges : List (ℕ × ℕ)) (m : MachineRecord)
+        (actor : Actor)
+        → IsController machines ranges m actor → SendsFit machines ranges m actor }
 {}
 
 /// What holds of each controller of a machine holds after each act on its tables.
 pub fn table_calls_keep_what_holds()
-    ensures set { (v : LocalView) (r : RefRecord) (field : ℕ) (value : Value) (after : LocalView) → TakesField v r.table field value → IsLine r.line → IsLawful v → set v r field value ≡ Ok after → IsLawful after }
-    ensures allocate { (v : LocalView) (table line : ℕ) (after : LocalView) → IsLine line → IsLawful v → allocate v table line ≡ Ok after → IsLawful after }
-    ensures deallocate { (v : LocalView) (table line : ℕ) (after : LocalView) → IsLawful v → deallocate v table line ≡ Ok after → IsLawful after }
-    ensures touch { (v : LocalView) (table line : ℕ) (after : LocalView) → IsLawful v → touch v table line ≡ Ok after → IsLawful after }
-    ensures set_state { (v : LocalView) (line state : ℕ) → HasStates v → IsLine line → IsLawful v → IsLawful (set_state v line state) }
+    ensures set { (r : RefRecord) (field : ℕ) (value : Value) → IsLine r.line
+        → KeepsWhere (λ v. TakesField v r.table field value) (λ v. set v r field value) }
+    ensures allocate { (table line : ℕ) → IsLine line → Keeps (λ v. allocate v table line) }
+    ensures deallocate { (table line : ℕ) → Keeps (λ v. deallocate v table line) }
+    ensures touch { (table line : ℕ) → Keeps (λ v. touch v table line) }
+    ensures set_state { (v : LocalView) (line state : ℕ) → HasStates v → IsLine line → IsLawful v
+        → IsLawful (set_state v line state) }
 {}
 
 /// What holds of each controller of a machine holds after each act on its messages and requests, and after a mark.
 pub fn message_calls_keep_what_holds()
-    ensures pop { (v : LocalView) (buffer : ℕ) (after : LocalView) → IsLawful v → pop v buffer ≡ Ok after → IsLawful after }
-    ensures stall { (v : LocalView) (buffer line : ℕ) (after : LocalView) → IsLine line → IsLawful v → stall v buffer line ≡ Ok after → IsLawful after }
-    ensures wake { (v : LocalView) (line : ℕ) → IsLawful v → IsLawful (wake v line) }
-    ensures wake_all { (v : LocalView) → IsLawful v → IsLawful (wake_all v) }
-    ensures recycle { (v : LocalView) (buffer : ℕ) (latency : ℤ) (after : LocalView) → IsLawful v → recycle v buffer latency ≡ Ok after → IsLawful after }
-    ensures enqueue { (v : LocalView) (buffer : ℕ) (latency : ℤ) (fields : List Value) (after : LocalView) → TakesMessage v buffer fields → IsLawful v → enqueue v buffer latency fields ≡ Ok after → IsLawful after }
-    ensures read_back { (v : LocalView) (line : ℕ) (block : BlockRecord) (after : LocalView) → IsLawful v → read_back v line block ≡ Ok after → IsLawful after }
-    ensures write_back { (v : LocalView) (line : ℕ) (block : BlockRecord) (after : LocalView) → IsLawful v → write_back v line block ≡ Ok after → IsLawful after }
-    ensures again { (v : LocalView) → IsLawful v → IsLawful (again v) }
+    ensures pop { (buffer : ℕ) → Keeps (λ v. pop v buffer) }
+    ensures stall { (buffer line : ℕ) → IsLine line → Keeps (λ v. stall v buffer line) }
+    ensures wake { (line : ℕ) → AlwaysKeeps (λ v. wake v line) }
+    ensures wake_all { AlwaysKeeps wake_all }
+    ensures recycle { (buffer : ℕ) (latency : ℤ) → Keeps (λ v. recycle v buffer latency) }
+    ensures enqueue { (buffer : ℕ) (latency : ℤ) (fields : List Value)
+        → KeepsWhere (λ v. TakesMessage v buffer fields) (λ v. enqueue v buffer latency fields) }
+    ensures read_back { (line : ℕ) (block : BlockRecord) → Keeps (λ v. read_back v line block) }
+    ensures write_back { (line : ℕ) (block : BlockRecord) → Keeps (λ v. write_back v line block) }
+    ensures again { AlwaysKeeps again }
 {}
 
 /// What holds of each controller of a machine holds after each act between its scans: the arrival of another actor's message,
 /// a mark, the beginning of a later cycle, one transition more that fired, a stop, a request, and an answer that is taken.
 pub fn acts_between_scans_keep_what_holds()
-    ensures arrival { (machine : MachineRecord) (me now : ℕ) (ctl : Ctl) (m : MessageRecord) → TakesFields machine.buffers m.buffer m.fields → ¬ (m.number.sender ≡ me) → Fits machine me ctl now → Fits machine me (with_arrival ctl m) now }
-    ensures wake_up { (machine : MachineRecord) (me now : ℕ) (ctl : Ctl) (cycle : ℕ) → Fits machine me ctl now → Fits machine me (with_wake_up ctl cycle) now }
-    ensures begun { (machine : MachineRecord) (me old now : ℕ) (ctl : Ctl) → old < now → Fits machine me ctl old → Fits machine me (at_cycle ctl now) now }
-    ensures fired { (machine : MachineRecord) (me now : ℕ) (ctl : Ctl) → Fits machine me ctl now → Fits machine me (with_one_fired ctl) now }
-    ensures halted { (machine : MachineRecord) (me now : ℕ) (ctl : Ctl) → Fits machine me ctl now → Fits machine me (with_stop ctl) now }
-    ensures request { (machine : MachineRecord) (me now : ℕ) (ctl : Ctl) (asked : AskedRecord) → IsRequest asked → Fits machine me ctl now → Fits machine me (with_request ctl asked) now }
-    ensures answer { (machine : MachineRecord) (me now : ℕ) (ctl : Ctl) → Fits machine me ctl now → Fits machine me (without_first_answer ctl) now }
+    ensures arrival { (machine : MachineRecord) (me now : ℕ) (ctl : Ctl) (m : MessageRecord)
+        → TakesFields machine.buffers m.buffer m.fields → ¬ (m.number.sender ≡ me)
+        → Fits machine me ctl now → Fits machine me (with_arrival ctl m) now }
+    ensures wake_up { (cycle : ℕ) → KeepsFits (λ ctl. with_wake_up ctl cycle) }
+    ensures cycle { (machine : MachineRecord) (me old now : ℕ) (ctl : Ctl) → old < now
+        → Fits machine me ctl old → Fits machine me (at_cycle ctl now) now }
+    ensures fired { KeepsFits with_one_fired }
+    ensures stop { KeepsFits with_stop }
+    ensures request { (asked : AskedRecord) → IsRequest asked → KeepsFits
+        (λ ctl. with_request ctl asked) }
+    ensures answer { KeepsFits without_first_answer }
 {}
 
 /// Of a lawful local, numbers of 64 bits are left for all the copies that it may send in a cycle, and for as many words that it
 /// may draw for them.
 pub fn copies_have_numbers()
-    ensures { (v : LocalView) → IsLawful v → (v.ctl.mail.sent + copy_limit < 2 ^ 64) × (v.ctl.mail.drawn + copy_limit < 2 ^ 64) }
+    ensures { (v : LocalView) → IsLawful v
+        → (v.ctl.mail.sent + copy_limit < 2 ^ 64) × (v.ctl.mail.drawn + copy_limit < 2 ^ 64) }
 {}
 
 /// What is read of a controller that fits its machine has its kinds: the value of a field is one of the field's kind, what a
 /// cache names for replacement is a line, and the fields of a front are those of a message of its buffer, which is the one that
 /// was asked for.
 pub fn reads_have_their_kinds()
-    ensures get { (v : LocalView) (r : RefRecord) (field : ℕ) (value : Value) → IsLawful v → get v r field ≡ Ok value → TakesField v r.table field value }
-    ensures front { (v : LocalView) (buffer : ℕ) (m : MessageRecord) → IsLawful v → required_front v buffer ≡ Ok m → TakesMessage v m.buffer m.fields }
-    ensures probe { (v : LocalView) (table line l : ℕ) → IsLawful v → probe v table line ≡ Ok l → IsLine l }
-    ensures front_buffer { (v : LocalView) (buffer : ℕ) (m : MessageRecord) → required_front v buffer ≡ Ok m → m.buffer ≡ buffer }
+    ensures get { (v : LocalView) (r : RefRecord) (field : ℕ) (value : Value) → IsLawful v
+        → get v r field ≡ Ok value → TakesField v r.table field value }
+    ensures front { (v : LocalView) (buffer : ℕ) (m : MessageRecord) → IsLawful v
+        → required_front v buffer ≡ Ok m → TakesMessage v m.buffer m.fields }
+    ensures probe { (v : LocalView) (table line l : ℕ) → IsLawful v → probe v table line ≡ Ok l
+        → IsLine l }
+    ensures front_buffer { (v : LocalView) (buffer : ℕ) (m : MessageRecord)
+        → required_front v buffer ≡ Ok m
+        → m.buffer ≡ buffer }
 {}

@@ -84,13 +84,15 @@ pub trait Local {
     fn allocate(&mut self, table: u16, line: u64) -> Result<Ref, Trouble>
         requires served { Serves looks_up (view self.old) table }
         requires line { IsLine line }
-        ensures { DoesWith (allocate (view self.old) table line) (reference_to table line) result (view self.old) (view self.new) };
+        ensures { DoesWith (allocate (view self.old) table line) (reference_to table line)
+            result (view self.old) (view self.new) };
 
     /// Takes a line out of a cache or a TBE table. The fault `Absent` comes exactly where it isn't there.
     fn deallocate(&mut self, table: u16, line: u64) -> Result<(), Trouble>
         requires served { Serves deallocates (view self.old) table }
         requires line { IsLine line }
-        ensures { Does (deallocate (view self.old) table line) result (view self.old) (view self.new) };
+        ensures { Does (deallocate (view self.old) table line) result (view self.old)
+            (view self.new) };
 
     /// Makes a line the most recently used one of its set, as `setMRU`. The fault `Absent` comes exactly where it isn't there.
     fn touch(&mut self, table: u16, line: u64) -> Result<(), Trouble>
@@ -103,12 +105,12 @@ pub trait Local {
         requires served { Serves is_tbe_table (view self.now) table }
         ensures { result ≡ free (view self.now) table };
 
-    /// Whether a buffer has a message that has arrived and wasn't taken aside.
+    /// Whether a buffer has a message that has arrived and isn't stalled.
     fn ready(&self, buffer: u16) -> bool
         requires served { Receives (view self.now) buffer }
         ensures { result ≡ ready (view self.now) buffer };
 
-    /// The front of a buffer: of its messages that have arrived and weren't taken aside, the least by arrival, then number.
+    /// The front of a buffer: of its messages that have arrived and aren't stalled, the least by arrival, then number.
     /// The fault `Front` comes exactly where there is none.
     fn front(&self, buffer: u16) -> Result<Message, Trouble>
         requires served { Receives (view self.now) buffer }
@@ -124,7 +126,7 @@ pub trait Local {
         requires served { Receives (view self.old) buffer }
         ensures { Does (pop (view self.old) buffer) result (view self.old) (view self.new) };
 
-    /// Takes the front of a buffer aside under a line. The fault `Front` comes exactly where there is none.
+    /// Stalls the front of a buffer under a line. The fault `Front` comes exactly where there is none.
     fn stall(&mut self, buffer: u16, line: u64) -> Result<(), Trouble>
         requires served { Receives (view self.old) buffer }
         requires line { IsLine line }
@@ -144,7 +146,8 @@ pub trait Local {
     /// there is no front.
     fn recycle(&mut self, buffer: u16, latency: i64) -> Result<(), Trouble>
         requires served { Receives (view self.old) buffer }
-        ensures { Does (recycle (view self.old) buffer latency) result (view self.old) (view self.new) };
+        ensures { Does (recycle (view self.old) buffer latency) result (view self.old)
+            (view self.new) };
 
     /// Sends a message: one copy into a buffer of the controller's own, or on a buffer to a network one copy to each receiver
     /// that the message names. The fault `Latency` comes where that is outside 1 to 1,000,000; else `Route` where a receiver
@@ -152,19 +155,23 @@ pub trait Local {
     fn send(&mut self, buffer: u16, latency: i64, fields: Fields) -> Result<(), Trouble>
         requires served { Sends (view self.old) buffer }
         requires fields { TakesMessage (view self.old) buffer fields }
-        ensures { Does (enqueue (view self.old) buffer latency fields) result (view self.old) (view self.new) };
+        ensures { Does (enqueue (view self.old) buffer latency fields)
+            result (view self.old) (view self.new) };
 
     /// Finishes a load or a fetch of a line with the block that it reads. The fault `Callback` comes exactly where the line
     /// has no such request.
     fn read_back(&mut self, line: u64, block: &Block) -> Result<(), Trouble>
         requires line { IsLine line }
-        ensures { Does (read_back (view self.old) line block.now) result (view self.old) (view self.new) };
+        ensures { Does (read_back (view self.old) line block.now) result (view self.old)
+            (view self.new) };
 
     /// Finishes a store to a line, and answers the block in which its byte is written. The fault `Callback` comes exactly
     /// where the line has no such request.
     fn write_back(&mut self, line: u64, block: Block) -> Result<Block, Trouble>
         requires line { IsLine line }
-        ensures { DoesWith (write_back (view self.old) line block) (block_after_write (view self.old) line block) result (view self.old) (view self.new) };
+        ensures { DoesWith (write_back (view self.old) line block)
+            (block_after_write (view self.old) line block)
+            result (view self.old) (view self.new) };
 
     /// The state of a line in the built-in map, or the default state where it was never set.
     fn state(&self, line: u64) -> u16
@@ -176,7 +183,8 @@ pub trait Local {
     fn set_state(&mut self, line: u64, state: u16) -> Result<(), Trouble>
         requires served { HasStates (view self.old) }
         requires line { IsLine line }
-        ensures { Does (Ok (set_state (view self.old) line state)) result (view self.old) (view self.new) };
+        ensures { Does (Ok (set_state (view self.old) line state)) result (view self.old)
+            (view self.new) };
 
     /// Sees to it that the controller wakes in the next cycle. No fault comes.
     fn again(&mut self) -> Result<(), Trouble>

@@ -22,35 +22,63 @@ ghost use Rattle.ctl_face.specs.State.{set_state, state};
 
 /// Each copy that a send makes arrives after the cycle of the send.
 pub fn copies_arrive_later()
-    ensures { (machine : MachineRecord) (actor : Actor) (mail : Mail) (buffer : ℕ) (latency : ℤ) (fields : List Value) (now : ℕ) (s : Sending) → send machine actor mail buffer latency fields now ≡ Ok s → All (λ (c : Copy). now < c.message.arrival) s.copies }
+    ensures { (machine : MachineRecord) (actor : Actor) (mail : Mail) (buffer : ℕ) (latency : ℤ)
+        (fields : List Value) (now : ℕ) (s : Sending)
+        → send machine actor mail buffer latency fields now ≡ Ok s
+        → All (λ (c : Copy). now < c.message.arrival) s.copies }
 {}
 
 /// A send that ends without a fault makes one copy for each receiver, with the sender's next numbers and at its time, and adds
 /// them to the sender's counts, to the last arrivals that later sends go by, and to its own inbox where it is a receiver.
 pub fn sends_add_their_copies()
-    ensures { (machine : MachineRecord) (actor : Actor) (mail : Mail) (buffer : ℕ) (latency : ℤ) (fields : List Value) (now : ℕ) (on : BufferSetupRecord) (s : Sending) → slice_get machine.buffers buffer ≡ Some on → send machine actor mail buffer latency fields now ≡ Ok s → SendAdds on.place on.ordered actor mail buffer (nat_abs latency) fields now s }
+    ensures { (machine : MachineRecord) (actor : Actor) (mail : Mail) (buffer : ℕ) (latency : ℤ)
+        (fields : List Value) (now : ℕ) (on : BufferSetupRecord) (s : Sending)
+        → slice_get machine.buffers buffer ≡ Some on
+        → send machine actor mail buffer latency fields now ≡ Ok s
+        → SendAdds on.place on.ordered actor mail buffer (nat_abs latency) fields now s }
 {}
 
 /// Each cycle at which a controller must wake after one of these acts is one at which it had to before, or comes after this
 /// cycle.
 pub fn marks_lie_ahead()
     ensures again { (v : LocalView) → MarksAhead v.ctl.mail.marks v.now (again v).ctl.mail.marks }
-    ensures recycle { (v : LocalView) (buffer : ℕ) (latency : ℤ) (after : LocalView) → recycle v buffer latency ≡ Ok after → MarksAhead v.ctl.mail.marks v.now after.ctl.mail.marks }
-    ensures enqueue { (v : LocalView) (buffer : ℕ) (latency : ℤ) (fields : List Value) (after : LocalView) → enqueue v buffer latency fields ≡ Ok after → MarksAhead v.ctl.mail.marks v.now after.ctl.mail.marks }
+    ensures recycle { (v : LocalView) (buffer : ℕ) (latency : ℤ) (after : LocalView)
+        → recycle v buffer latency ≡ Ok after
+        → MarksAhead v.ctl.mail.marks v.now after.ctl.mail.marks }
+    ensures enqueue { (v : LocalView) (buffer : ℕ) (latency : ℤ) (fields : List Value)
+        (after : LocalView)
+        → enqueue v buffer latency fields ≡ Ok after
+        → MarksAhead v.ctl.mail.marks v.now after.ctl.mail.marks }
 {}
 
 /// The front of a buffer is a ready message of it before which no other ready one comes; there is none where none is ready.
 pub fn front_comes_first()
-    ensures { (mail : Mail) (buffer now : ℕ) → IsFront mail.inbox buffer now (front mail buffer now) }
+    ensures { (mail : Mail) (buffer now : ℕ) → IsFront mail.inbox buffer now
+        (front mail buffer now) }
 {}
 
 /// An edit of a set of cycles, of an inbox or of the states of lines changes what it names, and nothing else: a mark is there or
 /// isn't, a message comes in, goes out or becomes another, and a line has another state.
 pub fn edits_change_one_key()
-    ensures mark { (marks : List ℕ) (cycle other : ℕ) → IsTrue (has_mark (with_mark marks cycle) other) ↔ ((cycle ≡ other) ⊎ IsTrue (has_mark marks other)) }
-    ensures marks_from { (marks : List ℕ) (cycle other : ℕ) → IsTrue (has_mark (marks_from cycle marks) other) ↔ ((cycle ≤ other) × IsTrue (has_mark marks other)) }
-    ensures put { (inbox : List InboxMessage) (m other : InboxMessage) → Contains (with_message inbox m) other ↔ ((m ≡ other) ⊎ (Contains inbox other × (other.message.number ≢ m.message.number))) }
-    ensures taken { (inbox : List InboxMessage) (number : MsgNoRecord) (other : InboxMessage) → Contains (without_message inbox number) other ↔ (Contains inbox other × (other.message.number ≢ number)) }
-    ensures changed { (inbox : List InboxMessage) (number : MsgNoRecord) (change : InboxMessage → InboxMessage) (other : InboxMessage) → Contains (changed_message inbox number change) other ↔ ((Contains inbox other × (other.message.number ≢ number)) ⊎ ((o : InboxMessage) × Contains inbox o × (o.message.number ≡ number) × (change o ≡ other))) }
-    ensures state { (v : LocalView) (line new other : ℕ) → state (set_state v line new) other ≡ (if other == line then new else state v other) }
+    ensures mark { (marks : List ℕ) (cycle other : ℕ) → IsTrue
+        (has_mark (with_mark marks cycle) other)
+        ↔ ((cycle ≡ other) ⊎ IsTrue (has_mark marks other)) }
+    ensures marks_from { (marks : List ℕ) (cycle other : ℕ) → IsTrue
+        (has_mark (marks_from cycle marks) other)
+        ↔ ((cycle ≤ other) × IsTrue (has_mark marks other)) }
+    ensures put { (inbox : List InboxMessage) (m other : InboxMessage) → Contains
+        (with_message inbox m) other
+        ↔ ((m ≡ other) ⊎ (Contains inbox other × (other.message.number ≢ m.message.number))) }
+    ensures taken { (inbox : List InboxMessage) (number : MsgNoRecord) (other : InboxMessage)
+        → Contains (without_message inbox number) other
+        ↔ (Contains inbox other × (other.message.number ≢ number)) }
+    ensures changed { (inbox : List InboxMessage) (number : MsgNoRecord)
+        (change : InboxMessage → InboxMessage)
+        (other : InboxMessage)
+        → Contains (changed_message inbox number change) other
+        ↔ ((Contains inbox other × (other.message.number ≢ number))
+        ⊎ ((o : InboxMessage) × Contains inbox o × (o.message.number ≡ number) ×
+        (change o ≡ other))) }
+    ensures state { (v : LocalView) (line new other : ℕ)
+        → state (set_state v line new) other ≡ (if other == line then new else state v other) }
 {}

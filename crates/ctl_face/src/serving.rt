@@ -70,7 +70,9 @@ pub fn has_field(machine: &MachineSetup, table: u16, field: u16) -> bool
 
 /// Whether the lines of the table have the field, and it may hold the value.
 pub fn takes_field(machine: &MachineSetup, table: u16, field: u16, value: &Value) -> bool
-    ensures { IsTrue result ↔ IsSomeAnd (slice_get (field_kinds machine.now table) field) (λ kind. IsTrue (has_kind kind value.now)) }
+    ensures { IsTrue result
+        ↔ IsSomeAnd (slice_get (field_kinds machine.now table) field)
+        (λ kind. IsTrue (has_kind kind value.now)) }
 {
     let Some(s) = machine.tables.get(usize::from(table)) else {
         return false;

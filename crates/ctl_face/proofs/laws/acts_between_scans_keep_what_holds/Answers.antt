@@ -4,10 +4,10 @@ use Rattle.ctl_face.proofs.laws.acts_between_scans_keep_what_holds.Goals as goal
 pub returns : goal.returns
 returns c = record {
   arrival = arrival_keeps;
-  wake_up = wake_up_keeps;
-  begun = begun_keeps;
+  wake_up = λ cycle machine me now ctl. wake_up_keeps machine me now ctl cycle;
+  cycle = begun_keeps;
   fired = fired_keeps;
-  halted = halted_keeps;
-  request = request_keeps;
+  stop = halted_keeps;
+  request = λ asked is machine me now ctl. request_keeps machine me now ctl asked is;
   answer = answer_keeps;
 }
