@@ -78,6 +78,23 @@ module _ (machine : MachineSetup) (me now : ℕ) where
 more : (n old new copies : ℕ) → n ≤ copy_limit * old + copies → copies ≤ copy_limit → old < new → n ≤ copy_limit * new + 0
 more n old new copies first second third = omega arith
 
+pub later_fits : (machine : MachineSetup) (me old now : ℕ) (ctl : Ctl) → old ≤ now → Fits machine me ctl old → Fits machine me ctl now
+later_fits machine me old now ctl later fits =
+    let mail = fits.mail in
+    record {
+      tables = fits.tables;
+      mail = record {
+        inbox_ascends = mail.inbox_ascends;
+        messages = mail.messages;
+        marks_ascend = mail.marks_ascend;
+        networks = mail.networks;
+        copies = mail.copies;
+        sent = (let before = mail.sent in omega arith);
+        drawn = (let before = mail.drawn in omega arith);
+      };
+      sequencer = fits.sequencer;
+    }
+
 pub begun_keeps : (machine : MachineSetup) (me old now : ℕ) (ctl : Ctl) → old < now → Fits machine me ctl old → Fits machine me (at_cycle ctl now) now
 begun_keeps machine me old now ctl later fits = record {
   tables = fits.tables;

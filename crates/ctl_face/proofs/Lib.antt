@@ -21,6 +21,7 @@ pub mod OwnBuffers
 pub mod Reading
 pub mod Receivers
 pub mod SendAdds
+pub mod SendOrder
 pub mod Sendings
 pub mod TableCalls
 pub mod Tables

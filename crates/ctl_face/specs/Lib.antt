@@ -36,6 +36,7 @@ pub mod Routing
 pub mod ScanView
 pub mod Send
 pub mod SendAdds
+pub mod SendOrder
 pub mod Served
 pub mod Set
 pub mod Stall

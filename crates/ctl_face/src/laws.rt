@@ -97,12 +97,15 @@ pub fn message_calls_keep_what_holds()
 {}
 
 /// What holds of each controller of a machine holds after each act between its scans: the arrival of another actor's message,
-/// a mark, the beginning of a later cycle, one transition more that fired, a stop, a request, and an answer that is taken.
+/// a mark, the beginning of a later cycle, one transition more that fired, a stop, a request, and an answer that is taken. It
+/// holds in later cycles, too, where nothing happens to the controller.
 pub fn acts_between_scans_keep_what_holds()
     ensures arrival { (machine : MachineRecord) (me now : ℕ) (ctl : Ctl) (m : MessageRecord)
         → TakesFields machine.buffers m.buffer m.fields → ¬ (m.number.sender ≡ me)
         → Fits machine me ctl now → Fits machine me (with_arrival ctl m) now }
     ensures wake_up { (cycle : ℕ) → KeepsFits (λ ctl. with_wake_up ctl cycle) }
+    ensures later { (machine : MachineRecord) (me old now : ℕ) (ctl : Ctl) → old ≤ now
+        → Fits machine me ctl old → Fits machine me ctl now }
     ensures cycle { (machine : MachineRecord) (me old now : ℕ) (ctl : Ctl) → old < now
         → Fits machine me ctl old → Fits machine me (at_cycle ctl now) now }
     ensures fired { KeepsFits with_one_fired }

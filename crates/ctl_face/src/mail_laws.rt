@@ -18,6 +18,7 @@ ghost use Rattle.ctl_face.specs.MarksAhead.{MarksAhead};
 ghost use Rattle.ctl_face.specs.Recycle.{recycle};
 ghost use Rattle.ctl_face.specs.Send.{Sending, send};
 ghost use Rattle.ctl_face.specs.SendAdds.{SendAdds};
+ghost use Rattle.ctl_face.specs.SendOrder.{SendsKeepOrder};
 ghost use Rattle.ctl_face.specs.State.{set_state, state};
 
 /// Each copy that a send makes arrives after the cycle of the send.
@@ -30,12 +31,15 @@ pub fn copies_arrive_later()
 
 /// A send that ends without a fault makes one copy for each receiver, with the sender's next numbers and at its time, and adds
 /// them to the sender's counts, to the last arrivals that later sends go by, and to its own inbox where it is a receiver.
+/// Where a network keeps order, what is sent first arrives first.
 pub fn sends_add_their_copies()
-    ensures { (machine : MachineRecord) (actor : Actor) (mail : Mail) (buffer : ℕ) (latency : ℤ)
+    ensures added { (machine : MachineRecord) (actor : Actor) (mail : Mail) (buffer : ℕ) (latency : ℤ)
         (fields : List Value) (now : ℕ) (on : BufferSetupRecord) (s : Sending)
         → slice_get machine.buffers buffer ≡ Some on
         → send machine actor mail buffer latency fields now ≡ Ok s
         → SendAdds on.place on.ordered actor mail buffer (nat_abs latency) fields now s }
+    ensures order { (network : ℕ) (machine : MachineRecord) (actor : Actor) (mail : Mail)
+        → SendsKeepOrder network machine actor mail }
 {}
 
 /// Each cycle at which a controller must wake after one of these acts is one at which it had to before, or comes after this

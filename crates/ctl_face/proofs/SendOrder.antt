@@ -1,0 +1,53 @@
+-- Where a network keeps order, what is sent first arrives first.
+use Rattle.std.proofs.Common.{◌≡◌, ℕ, ◌+◌, ◌≤◌, Bool, true, false, cond, eqb, max, List, [], ◌∷◌, Contains, sym, ap, subst, ◌∙◌, arith, ⊎_elim, nat_abs}
+use Rattle.std.proofs.lemmas.Bool.{eq-eqb}
+use Rattle.std.proofs.lemmas.List.Elements.{All-contains}
+use Rattle.ruby_value.specs.declared.setup.BufferPlace.{BufferPlace}
+use Rattle.ruby_value.specs.declared.setup.MachineSetup.{MachineSetup}
+use Rattle.ruby_value.proofs.Contained.{Contains-cons_cases}
+use Rattle.ctl_face.specs.Acts.{Copy}
+use Rattle.ctl_face.specs.Ctl.{Mail}
+use Rattle.ctl_face.specs.Lasts.{last_at, lasts_on}
+use Rattle.ctl_face.specs.LocalView.{Actor}
+use Rattle.ctl_face.specs.Routing.{is_ordered, path_to}
+use Rattle.ctl_face.specs.Send.{receivers_of}
+use Rattle.ctl_face.specs.SendAdds.{IsNetworkCopy, SendAdds, arrival_after, copies_to, jitter_of, latest}
+use Rattle.ctl_face.specs.SendOrder.{IsSentTo, SendsKeepOrder}
+use Rattle.ctl_face.proofs.SendAdds.{send_adds}
+
+latest_from : (cycle : ℕ) (copies : List Copy) → cycle ≤ latest cycle copies
+latest_from cycle [] = omega arith
+latest_from cycle (c ∷ copies) = let rest = latest_from (max cycle c.message.arrival) copies in omega arith
+
+latest_above : (cycle receiver : ℕ) (copies : List Copy) (a : Copy) → Contains copies a → a.receiver ≡ receiver → a.message.arrival ≤ latest cycle (copies_to receiver copies)
+latest_above cycle receiver [] a there to = absurd (omega (arith, there.1))
+latest_above cycle receiver (c ∷ copies) a there to =
+    let Q : Bool → Type 0 = λ b. a.message.arrival ≤ latest cycle (cond b (c ∷ copies_to receiver copies) (copies_to receiver copies)) in
+    let above = latest_from (max cycle c.message.arrival) (copies_to receiver copies) in
+    ⊎_elim
+    (λ same.
+    let is : c.message.arrival ≡ a.message.arrival = ap (λ (x : Copy). x.message.arrival) same in
+    let first : Q true = omega arith in
+    subst Q (sym (eq-eqb c.receiver receiver (ap (λ (x : Copy). x.receiver) same ∙ to))) first)
+    (λ rest. elim (eqb c.receiver receiver) as Q [
+      | true ↦ latest_above (max cycle c.message.arrival) receiver copies a rest to
+      | false ↦ latest_above cycle receiver copies a rest to
+    ]) (Contains-cons_cases c a copies there)
+
+raised_to : (ordered : Bool) (due last : ℕ) → ordered ≡ true → last ≤ arrival_after ordered due last
+raised_to true due last is = omega arith
+raised_to false due last is = absurd (cc is)
+
+pub sends_keep_order : (network : ℕ) (machine : MachineSetup) (actor : Actor) (mail : Mail) → SendsKeepOrder network machine actor mail
+sends_keep_order network machine actor mail order first second one two a b in_first in_second same =
+    let To : (d : BufferPlace) → IsSentTo network machine actor mail first → Type 0 = λ d w. SendAdds d w.on.ordered actor mail w.buffer (nat_abs w.latency) w.fields w.now first in
+    let ToNext : (d : BufferPlace) → IsSentTo network machine actor first.mail second → Type 0 = λ d w. SendAdds d w.on.ordered actor first.mail w.buffer (nat_abs w.latency) w.fields w.now second in
+    let added = subst (λ (d : BufferPlace). To d one) one.to_network (send_adds machine actor mail one.buffer one.latency one.fields one.now one.on first one.there one.sent) in
+    let next = subst (λ (d : BufferPlace). ToNext d two) two.to_network (send_adds machine actor first.mail two.buffer two.latency two.fields two.now two.on second two.there two.sent) in
+    let copy = All-contains (IsNetworkCopy actor first.mail network (nat_abs two.latency) (receivers_of two.destination two.fields) two.fields two.now) second.copies b next.0.each in_second in
+    let last = last_at (lasts_on first.mail.network_last network) b.receiver in
+    let written = added.1.in_order order.ordered order.within b.receiver in
+    let above = latest_above (last_at (lasts_on mail.network_last network) b.receiver) b.receiver first.copies a in_first same in
+    let raised = raised_to (is_ordered actor.routes network) (two.now + nat_abs two.latency + path_to actor.routes actor.me b.receiver + jitter_of actor first.mail b) last order.ordered in
+    let no_earlier = copy.no_earlier in
+    omega arith
