@@ -3,6 +3,7 @@
 
 mod heads;
 mod literals;
+mod machine_heads;
 mod members;
 mod name_sets;
 mod parameters;
@@ -12,6 +13,7 @@ mod transitions;
 
 pub use heads::{ended_by, ended_name, ended_pairs, head};
 pub use literals::{is_number, literal, number};
+pub use machine_heads::{MachineHead, machine_head, parameter_list};
 pub use members::{enumeration, states};
 pub use name_sets::names;
 pub use parameters::parameter;
