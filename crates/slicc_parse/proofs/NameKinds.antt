@@ -1,11 +1,13 @@
 -- Names of a kind, read as any name where the kind is known.
-use Rattle.std.proofs.Common.{◌≡◌, ℕ, ◌≤◌, ◌==◌, ◌||◌, true, false, cond, Bool, List, [], ◌∷◌, length, refl, sym, subst, ap, ◌∙◌, codes}
+use Rattle.std.proofs.Common.{◌≡◌, ℕ, ◌≤◌, ◌==◌, ◌||◌, true, false, not, cond, Bool, IsTrue, List, [], ◌∷◌, length, refl, sym, subst, ap, ◌∙◌, codes}
 use Rattle.std.specs.Str.{bytes_eq}
 use Rattle.std.proofs.lemmas.Bool.{false≢true}
 use Rattle.std.proofs.lemmas.Slice.Eq.{bytes_eq-Decides}
 use Rattle.slicc_ast.specs.declared.tree.span.Span.{Span}
 use Rattle.slicc_ast.specs.declared.tree.token.TokenKind.{TokenKind}
 use Rattle.slicc_ast.specs.declared.tree.token.TokenKind.TheVariants.{Name as Named}
+use Rattle.slicc_ast.specs.declared.tree.name.Name.{Name}
+use Rattle.slicc_ast.specs.Declarations.{is_skipped}
 use Rattle.slicc_ast.specs.Outline.{node, none, Parts, token}
 use Rattle.grammar_rows.specs.Faults.{Stop}
 use Rattle.grammar_rows.specs.Faults.Stop.{Passed}
@@ -98,3 +100,50 @@ pub other_ahead : (tokens : List Token) → is_ahead names_of (symbols tokens) �
 other_ahead [] some absent_there = absurd (false≢true some)
 other_ahead (t ∷ tokens) some absent_there =
     split_names (other_name == kind_of t.kind) (machine_type == kind_of t.kind) (functional_name == kind_of t.kind) some absent_there
+
+-- the name of a function that is skipped
+abbrev skipped_at : (text : List ℕ) → Bool
+skipped_at text = bytes_eq text (codes "functionalRead") || bytes_eq text (codes "functionalWrite")
+
+not_both : (text : List ℕ) → bytes_eq text (codes "MachineType") ≡ true → skipped_at text ≡ false
+not_both text is = subst (λ t. skipped_at t ≡ false) (sym ((bytes_eq-Decides text (codes "MachineType")).0 is)) refl
+
+skipped_by : (a b : Bool) → (a ≡ true → b ≡ false) → b ≡ has (functional_name ∷ []) (cond a machine_type (cond b functional_name other_name))
+skipped_by true b apart = apart refl
+skipped_by false true apart = refl
+skipped_by false false apart = refl
+
+pub has_skipped : (text : List ℕ) → (bytes_eq text (codes "functionalRead") || bytes_eq text (codes "functionalWrite")) ≡ has (functional_name ∷ []) (name_kind text)
+has_skipped text = skipped_by (bytes_eq text (codes "MachineType")) (skipped_at text) (not_both text)
+
+plain_by : (a b : Bool) → (a ≡ true → b ≡ false) → has (other_name ∷ machine_type ∷ []) (cond a machine_type (cond b functional_name other_name)) ≡ true → not b ≡ true
+plain_by true b apart is = subst (λ s. not s ≡ true) (sym (apart refl)) refl
+plain_by false true apart is = absurd (false≢true is)
+plain_by false false apart is = refl
+
+pub not_skipped : (n : Name) {tokens left : List Token} → IsNode (node n.span (token (Named n.text) none)) tokens left
+    → is_ahead (other_name ∷ machine_type ∷ []) (symbols tokens) ≡ true → IsTrue (not (is_skipped n))
+not_skipped n (spelled covers (one {t = t} same nothing)) ahead =
+    plain_by (bytes_eq n.text (codes "MachineType")) (is_skipped n) (not_both n.text)
+    (subst (λ k. has (other_name ∷ machine_type ∷ []) (kind_of k) ≡ true) same ahead)
+
+last_of : (a b c : Bool) → (a || (b || (c || false))) ≡ true → (c || false) ≡ false → (a || (b || false)) ≡ true
+last_of true b c some absent_there = refl
+last_of false true c some absent_there = refl
+last_of false false true some absent_there = absurd (false≢true (sym absent_there))
+last_of false false false some absent_there = absurd (false≢true some)
+
+pub plain_ahead : (tokens : List Token) → is_ahead names_of (symbols tokens) ≡ true → is_ahead (functional_name ∷ []) (symbols tokens) ≡ false → is_ahead (other_name ∷ machine_type ∷ []) (symbols tokens) ≡ true
+plain_ahead [] some absent_there = absurd (false≢true some)
+plain_ahead (t ∷ tokens) some absent_there =
+    last_of (other_name == kind_of t.kind) (machine_type == kind_of t.kind) (functional_name == kind_of t.kind) some absent_there
+
+-- a name of a kind is a name
+first_two : (a b c : Bool) → (a || (b || false)) ≡ true → (a || (b || (c || false))) ≡ true
+first_two true b c some = refl
+first_two false true c some = refl
+first_two false false c some = absurd (false≢true some)
+
+pub plain_is_name : (tokens : List Token) → is_ahead (other_name ∷ machine_type ∷ []) (symbols tokens) ≡ true → is_ahead names_of (symbols tokens) ≡ true
+plain_is_name [] some = absurd (false≢true some)
+plain_is_name (t ∷ tokens) some = first_two (other_name == kind_of t.kind) (machine_type == kind_of t.kind) (functional_name == kind_of t.kind) some
