@@ -23,7 +23,7 @@ pub use machine_heads::{MachineHead, machine_head, parameter_list};
 pub use members::{enumeration, states};
 pub use name_kinds::is_skipped_name;
 pub use name_sets::names;
-pub use objects::starred_object;
+pub use objects::{plain_object, starred_object};
 pub use parameters::parameter;
 pub use ports::out_port;
 pub use signatures::{formals, starred_type};

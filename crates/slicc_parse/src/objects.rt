@@ -6,8 +6,8 @@ ghost use Rattle.slicc_ast.specs.declared.tree.token.TokenKind.TheVariants.{Name
 ghost use Rattle.slicc_grammar.specs.Parts.{◌▸◌, name as name_part, pairs as pairs_part, semicolon, star};
 ghost use Rattle.slicc_expr.specs.Reading.{IsNode, IsRead, Refuses};
 
-use crate::heads::ended_name;
-use slicc_ast::tree::{Object, Sign, TypeName};
+use crate::heads::{ended_name, ended_pairs};
+use slicc_ast::tree::{Name, Object, Sign, TypeName};
 use slicc_expr::{Fault, sign, span};
 use slicc_lex::Token;
 use std::alloc::Global;
@@ -42,6 +42,40 @@ pub fn starred_object<'t>(
             }
             Err(fault) => Err(fault),
         },
+        Err(fault) => Err(fault),
+    }
+}
+
+/// An object with no star, behind its type at `start` and its name at `tokens`.
+pub fn plain_object<'t>(
+    alloc: Global,
+    room: u32,
+    start: &[Token],
+    kind: TypeName,
+    tokens: &[Token],
+    name: Name,
+    behind: &'t [Token],
+) -> Result<(Object, &'t [Token]), Fault>
+    requires kind { IsNode (node kind.span (token (Named kind.text) none)) start.now tokens.now }
+    requires name { IsNode (node name.span (token (Named name.text) none)) tokens.now behind.now }
+    ensures { MatchResult result
+        (λ read. IsRead room (pairs_part ▸ semicolon) (object_of read.0) start.now behind.now read.1.now)
+        (Refuses room (pairs_part ▸ semicolon) behind.now) }
+{
+    match ended_pairs(alloc, room, Sign::Semicolon, behind) {
+        Ok((pairs, left)) => {
+            let span = span(start, left);
+            Ok((
+                Object {
+                    kind,
+                    has_star: false,
+                    name,
+                    pairs,
+                    span,
+                },
+                left,
+            ))
+        }
         Err(fault) => Err(fault),
     }
 }
