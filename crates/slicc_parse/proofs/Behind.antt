@@ -11,7 +11,7 @@ use Rattle.slicc_grammar.specs.Parts.{Part, ◌▸◌, comma}
 use Rattle.slicc_grammar.specs.Table.{table}
 use Rattle.slicc_lex.specs.declared.token.Token.{Token}
 use Rattle.slicc_lex.specs.Syntax.{symbols}
-use Rattle.slicc_expr.specs.Reading.{AreParts, AreRead, Covers, IsNode, IsRead}
+use Rattle.slicc_expr.specs.Reading.{AreRead, Covers, IsNode, IsRead}
 use Rattle.slicc_expr.specs.Reading.AreParts.{inside, nothing}
 use Rattle.slicc_expr.specs.Reading.IsNode.{spelled}
 use Rattle.slicc_parse.specs.Members.{IsSpelledBefore}

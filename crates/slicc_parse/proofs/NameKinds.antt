@@ -1,5 +1,5 @@
 -- Names of a kind, read as any name where the kind is known.
-use Rattle.std.proofs.Common.{◌≡◌, ℕ, ◌≤◌, ◌==◌, ◌||◌, true, false, not, cond, Bool, IsTrue, List, [], ◌∷◌, length, refl, sym, subst, ap, ◌∙◌, codes}
+use Rattle.std.proofs.Common.{◌≡◌, ℕ, ◌==◌, ◌||◌, true, false, not, cond, Bool, IsTrue, List, [], ◌∷◌, refl, sym, subst, ap, ◌∙◌, codes}
 use Rattle.std.specs.Str.{bytes_eq}
 use Rattle.std.proofs.lemmas.Bool.{false≢true}
 use Rattle.std.proofs.lemmas.Slice.Eq.{bytes_eq-Decides}
@@ -11,14 +11,12 @@ use Rattle.slicc_ast.specs.Declarations.{is_skipped}
 use Rattle.slicc_ast.specs.Outline.{node, none, Parts, token}
 use Rattle.grammar_rows.specs.Faults.{Stop}
 use Rattle.grammar_rows.specs.Faults.Stop.{Passed}
-use Rattle.grammar_rows.specs.Grammar.{Row, Rows}
 use Rattle.grammar_rows.specs.Grammar.Row.{done, token as token_row}
 use Rattle.grammar_rows.specs.Grammar.Rows.{end}
 use Rattle.grammar_rows.specs.Kinds.{has, is_ahead}
 use Rattle.grammar_rows.specs.Reader.{Passes, Stops}
 use Rattle.grammar_rows.specs.Reader.Stops.{read, refused, taken}
 use Rattle.grammar_rows.proofs.Steps.{passes_token}
-use Rattle.slicc_grammar.specs.Form.{Form}
 use Rattle.slicc_grammar.specs.Parts.{Part, names_of}
 use Rattle.slicc_grammar.specs.Table.{table}
 use Rattle.slicc_grammar.specs.TokenKinds.{functional_name, kind_of, machine_type, name_kind, other_name}
