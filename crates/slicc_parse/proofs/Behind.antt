@@ -5,13 +5,13 @@ use Rattle.slicc_ast.specs.declared.tree.span.Span.{Span}
 use Rattle.slicc_ast.specs.declared.tree.token.Sign.TheVariants.{Comma}
 use Rattle.slicc_ast.specs.Declarations.{pair_list}
 use Rattle.slicc_ast.specs.Names.{sign}
-use Rattle.slicc_ast.specs.Outline.{Outline, node, Parts, part}
+use Rattle.slicc_ast.specs.Outline.{Outline, node, none, Parts, part}
 use Rattle.grammar_rows.proofs.Steps.{passes_both}
 use Rattle.slicc_grammar.specs.Parts.{Part, ◌▸◌, comma}
 use Rattle.slicc_grammar.specs.Table.{table}
 use Rattle.slicc_lex.specs.declared.token.Token.{Token}
 use Rattle.slicc_lex.specs.Syntax.{symbols}
-use Rattle.slicc_expr.specs.Reading.{AreParts, AreRead, Covers, IsNode, IsRead}
+use Rattle.slicc_expr.specs.Reading.{AreRead, Covers, IsNode, IsRead}
 use Rattle.slicc_expr.specs.Reading.AreParts.{inside, nothing}
 use Rattle.slicc_expr.specs.Reading.IsNode.{spelled}
 use Rattle.slicc_parse.specs.Members.{IsSpelledBefore}
@@ -46,3 +46,10 @@ comma_before a n others end m = a.spells _ end (inside n m)
 
 pub no_pairs : {span : Span} {tokens : List Token} (items : List Pair) → items ≡ [] → Covers span tokens tokens → IsNode (node span (pair_list items)) tokens tokens
 no_pairs {span = span} {tokens = tokens} items is covers = subst (λ xs. IsNode (node span (pair_list xs)) tokens tokens) (sym is) (spelled covers nothing)
+
+-- a node that begins with two others, which were read before, and goes on with the parts that were read
+pub as_node_behind_two : {room : ℕ} {g : Part} {first second : Outline} {parts : Parts → Parts} {start between tokens left : List Token} (span : Span)
+    → Covers span start left → IsNode first start between → IsNode second between tokens → AreRead room g parts tokens left
+    → IsRead room g (node span (part first (part second (parts none)))) start tokens left
+as_node_behind_two span covers first second r =
+    record { passes = r.passes; is_node = spelled covers (inside first (inside second (r.spells none _ nothing))); within = r.within }

@@ -4,10 +4,11 @@ use Rattle.slicc_ast.specs.declared.tree.declaration.Pair.{Pair}
 use Rattle.slicc_ast.specs.declared.tree.declaration.State.{State}
 use Rattle.slicc_ast.specs.declared.tree.declaration.Symbol.{Symbol}
 use Rattle.slicc_ast.specs.declared.tree.declaration.Formal.{Formal}
+use Rattle.slicc_ast.specs.declared.tree.machine.Parameter.{Parameter}
 use Rattle.slicc_ast.specs.declared.tree.name.Name.{Name}
 use Rattle.slicc_ast.specs.declared.tree.token.Sign.TheVariants.{Comma}
 use Rattle.slicc_ast.specs.Declarations.{formal, formal_list, more_formals, pair_list, state_list, symbol_list}
-use Rattle.slicc_ast.specs.Machines.{action_list, more_names, name_list}
+use Rattle.slicc_ast.specs.Machines.{action_list, more_names, name_list, parameter, parameter_list}
 use Rattle.slicc_ast.specs.Names.{name, sign}
 use Rattle.slicc_ast.specs.Outline.{Parts, none, part}
 use Rattle.slicc_expr.specs.Reading.{AreParts}
@@ -68,3 +69,11 @@ each_pair (first ∷ items) = ap (λ p. pair_parts first p) (each_pair items)
 pub each_action : (items : List Name) (others : Parts) → action_list items others ≡ each action_parts items others
 each_action [] others = refl
 each_action (first ∷ items) others = ap (λ p. action_parts first p) (each_action items others)
+
+-- a machine's parameters
+abbrev pub parameter_parts : Parameter → Parts → Parts
+parameter_parts p others = part (parameter p) others
+
+pub each_parameter : (items : List Parameter) (others : Parts) → parameter_list items others ≡ each parameter_parts items others
+each_parameter [] others = refl
+each_parameter (first ∷ items) others = ap (λ p. parameter_parts first p) (each_parameter items others)

@@ -1,7 +1,10 @@
 use slicc_expr::Fault;
 use slicc_expr::Fault::{Deep, Syntax};
 use slicc_lex::lex;
-use slicc_parse::{enumeration, formals, literal, names, out_port, parameter, states, transition};
+use slicc_parse::{
+    enumeration, formals, include, literal, machine_head, names, optional_protocol, out_port,
+    parameter, states, transition,
+};
 use std::alloc::Global;
 use std::test::Fail;
 
@@ -35,7 +38,10 @@ const LITERALS: &[(&[u8], Result<usize, Fault>)] = &[
 enum Form {
     Enumeration,
     Formals,
+    Include,
+    MachineHead,
     Names,
+    Protocol,
     Parameter,
     States,
     Transition,
@@ -66,6 +72,35 @@ const FORMS: &[(Form, &[u8], u32, Result<usize, Fault>)] = &[
     (Form::Formals, b"(A, B * c, D * , e f) {", 64, Ok(2)),
     (Form::Formals, b"(A, )", 64, Err(Syntax(2))),
     (Form::Formals, b"(A * b c)", 64, Err(Syntax(3))),
+    (Form::Include, b"include \"a.sm\";", 64, Ok(1)),
+    (Form::Include, b"include a;", 64, Err(Syntax(3))),
+    (Form::Protocol, b"protocol \"MI\"; include", 64, Ok(2)),
+    (Form::Protocol, b"include", 64, Ok(2)),
+    (
+        Form::MachineHead,
+        b"(MachineType:L1, \"L1 cache\") :",
+        1,
+        Ok(2),
+    ),
+    (
+        Form::MachineHead,
+        b"(L1, \"L1 cache\", desc=\"x\") :",
+        64,
+        Ok(2),
+    ),
+    (
+        Form::MachineHead,
+        b"(MachineType, \"L1 cache\") :",
+        64,
+        Ok(2),
+    ),
+    (
+        Form::MachineHead,
+        b"(Type:L1, \"L1 cache\") :",
+        64,
+        Err(Syntax(7)),
+    ),
+    (Form::MachineHead, b"(L1) :", 64, Err(Syntax(3))),
     (Form::Names, b"a, b", 64, Ok(3)),
     (Form::Names, b"{a, b}", 64, Ok(1)),
     (Form::Names, b"{}", 64, Err(Syntax(2))),
@@ -150,6 +185,9 @@ fn form_left(alloc: Global, form: Form, text: &[u8], room: u32) -> Option<Result
     Some(match form {
         Form::Enumeration => enumeration(alloc, room, from).map(|read| read.1.len()),
         Form::Formals => formals(alloc, room, from).map(|read| read.1.len()),
+        Form::Include => include(alloc, room, from).map(|read| read.1.len()),
+        Form::MachineHead => machine_head(alloc, room, from).map(|read| read.1.len()),
+        Form::Protocol => optional_protocol(alloc, room, from).map(|read| read.1.len()),
         Form::Names => names(alloc, room, from).map(|read| read.1.len()),
         Form::Parameter => parameter(alloc, room, from).map(|read| read.1.len()),
         Form::States => states(alloc, room, from).map(|read| read.1.len()),

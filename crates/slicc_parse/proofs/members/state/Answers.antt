@@ -1,4 +1,4 @@
-use Rattle.slicc_grammar.specs.Parts.{◌▸◌, colon, comma, name, pairs, semicolon}
+use Rattle.slicc_grammar.specs.Parts.{◌▸◌, colon, name, pairs, semicolon}
 use Rattle.slicc_expr.proofs.Parts.{◌then◌, at_first, behind}
 use Rattle.slicc_parse.proofs.members.state.Goals as goal
 
