@@ -17,11 +17,11 @@ use Rattle.slicc_grammar.specs.Table.{table}
 use Rattle.slicc_grammar.specs.TokenKinds.{kind_of, number, sign_kind, word_kind}
 use Rattle.slicc_lex.specs.declared.token.Token.{Token}
 use Rattle.slicc_lex.specs.Syntax.{symbols}
-use Rattle.slicc_expr.specs.declared.fault.Fault.{Fault}
+use Rattle.slicc_reading.specs.declared.fault.Fault.{Fault}
 use Rattle.slicc_expr.specs.Levels.{chains, form_at, IsSimple, simple_kinds}
-use Rattle.slicc_expr.specs.Reading.{AreRead, IsRead, IsStopOf, Refuses}
-use Rattle.slicc_expr.proofs.Parts.{as_node, as_tree, at_first, at_no_alternative, behind_read, by_alternative, in_alternative, of_alternative, read_behind, token_read}
-use Rattle.slicc_expr.proofs.Spans.{token_covers}
+use Rattle.slicc_reading.specs.Reading.{AreRead, IsRead, IsStopOf, Refuses}
+use Rattle.slicc_reading.proofs.Parts.{as_node, as_tree, at_first, at_no_alternative, behind_read, by_alternative, in_alternative, of_alternative, read_behind, token_read}
+use Rattle.slicc_reading.proofs.Spans.{token_covers}
 
 or_later : (a b c : Bool) → (a || b) ≡ true → (a || c) ≡ false → (b ≡ true) × (c ≡ false)
 or_later true b c some absent_there = absurd (false≢true (sym absent_there))

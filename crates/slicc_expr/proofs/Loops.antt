@@ -21,14 +21,14 @@ use Rattle.slicc_grammar.specs.Table.{table}
 use Rattle.slicc_grammar.specs.TokenKinds.{kind_of, sign_kind}
 use Rattle.slicc_lex.specs.declared.token.Token.{Token}
 use Rattle.slicc_lex.specs.Syntax.{symbols}
-use Rattle.slicc_expr.specs.declared.fault.Fault.{Fault}
+use Rattle.slicc_reading.specs.declared.fault.Fault.{Fault}
 use Rattle.slicc_expr.specs.Levels.{chain, chains, form_at, kinds_at, IsOperator}
-use Rattle.slicc_expr.specs.Reading.{Covers, IsNode, AreParts, IsRead, AreRead, Leads, Refuses}
-use Rattle.slicc_expr.specs.Reading.IsNode.{spelled}
-use Rattle.slicc_expr.specs.Reading.AreParts.{nothing, inside, allowed}
-use Rattle.slicc_expr.proofs.Parts.{◌then◌, as_node, as_part, behind, of_alternative, token_read}
+use Rattle.slicc_reading.specs.Reading.{Covers, IsNode, AreParts, IsRead, AreRead, Leads, Refuses}
+use Rattle.slicc_reading.specs.Reading.IsNode.{spelled}
+use Rattle.slicc_reading.specs.Reading.AreParts.{nothing, inside, allowed}
+use Rattle.slicc_reading.proofs.Parts.{◌then◌, as_node, as_part, behind, of_alternative, token_read}
 use Rattle.slicc_expr.proofs.Ahead.{le_true, lt_true}
-use Rattle.slicc_expr.proofs.Choices.{absent, leads_here, leads_behind, once_more, fault_in_more, no_more, all_of, present_read}
+use Rattle.slicc_reading.proofs.Choices.{absent, leads_here, leads_behind, once_more, fault_in_more, no_more, all_of, present_read}
 
 -- arguments, and then further parts
 abbrev pub more_onto : List Expr → Parts → Parts

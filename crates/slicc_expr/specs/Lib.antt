@@ -1,4 +1,1 @@
-pub mod Reading
 pub mod Levels
-pub mod Answers
-pub mod Attributes

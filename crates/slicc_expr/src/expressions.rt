@@ -15,11 +15,10 @@ ghost use Rattle.slicc_grammar.specs.Parts.{◌▸◌, colon, comma, name as nam
 ghost use Rattle.slicc_grammar.specs.TokenKinds.{sign_kind, word_kind};
 ghost use Rattle.slicc_lex.specs.Syntax.{symbols};
 ghost use Rattle.slicc_expr.specs.Levels.{cast_inner, cast_part, chains, enclosed as enclosed_part, form_at};
-ghost use Rattle.slicc_expr.specs.Reading.{AreRead, IsNode, IsRead, Refuses};
+ghost use Rattle.slicc_reading.specs.Reading.{AreRead, IsNode, IsRead, Refuses};
 
 use crate::cast::cast_head;
-use crate::fault::Fault;
-use crate::leaf::{is_name, is_sign, is_word, name, open, refuse, sign, span, word};
+use slicc_reading::{Fault, is_name, is_sign, is_word, name, open, refuse, sign, span, word};
 use crate::nodes;
 use crate::operator_signs::operator;
 use crate::values::{begins_expression, begins_simple, new_entry, simple};

@@ -8,7 +8,7 @@ ghost use Rattle.slicc_grammar.specs.TokenKinds.{kind_of, sign_kind};
 ghost use Rattle.slicc_lex.specs.Syntax.{symbols};
 ghost use Rattle.slicc_expr.specs.Levels.{IsOperator, kinds_at};
 
-use crate::leaf::split_first;
+use slicc_reading::split_first;
 use slicc_ast::tree::{Operator, Sign, TokenKind};
 use slicc_lex::Token;
 

@@ -11,32 +11,13 @@ ghost use Rattle.slicc_grammar.specs.Parts.{◌▸◌, name as name_part, of, wo
 ghost use Rattle.slicc_grammar.specs.Form.Form.{constant as constant_form};
 ghost use Rattle.slicc_grammar.specs.TokenKinds.{kind_of, number, word_kind};
 ghost use Rattle.slicc_lex.specs.Syntax.{symbols};
-ghost use Rattle.slicc_expr.specs.Reading.{IsRead, Refuses};
+ghost use Rattle.slicc_reading.specs.Reading.{IsRead, Refuses};
 ghost use Rattle.slicc_expr.specs.Levels.{IsSimple, longer_kinds, simple_kinds};
 
-use crate::fault::Fault;
-use crate::leaf::{is_name, is_sign, is_word, name, refuse, span, split_first, word};
+use slicc_reading::{Fault, is_name, is_number, is_sign, is_word, name, refuse, span, split_first, word};
 use slicc_ast::tree::{Expr, Sign, Span, TokenKind, Word};
 use slicc_lex::Token;
 use std::alloc::Global;
-
-fn is_number_kind(kind: &TokenKind) -> bool
-    ensures { result ≡ has (number ∷ []) (kind_of kind.now) }
-{
-    match kind {
-        TokenKind::Number(_) => true,
-        _ => false,
-    }
-}
-
-fn is_number(tokens: &[Token]) -> bool
-    ensures { result ≡ is_ahead (number ∷ []) (symbols tokens.now) }
-{
-    match split_first(tokens) {
-        Some((first, _)) => is_number_kind(&first.kind),
-        None => false,
-    }
-}
 
 /// Whether the first token is an expression by itself and isn't a name.
 pub fn begins_simple(tokens: &[Token]) -> bool

@@ -3,9 +3,9 @@ use Rattle.grammar_rows.specs.Grammar.Row.{done, form}
 use Rattle.slicc_ast.specs.declared.tree.token.Sign.TheVariants.{CloseParenthesis}
 use Rattle.slicc_grammar.specs.Form.Form.{arguments, constant, expression, name_end, opening, suffix, unary}
 use Rattle.slicc_grammar.specs.Parts.{◌▸◌, of, optional, parentheses, repeated, sign as sign_part}
-use Rattle.slicc_expr.specs.Reading.Refuses.{no_memory}
-use Rattle.slicc_expr.proofs.Parts.{◌then◌, allow, as_allowed_behind, as_node, as_node_behind, as_part, as_tree, at_first, behind, behind_read, in_alternative, match_map, of_alternative, read_behind}
-use Rattle.slicc_expr.proofs.Choices.{absent, absent_read, present, present_read, fault_in_present, fault_in_more, in_nesting, fault_in_nesting}
+use Rattle.slicc_reading.specs.Reading.Refuses.{no_memory}
+use Rattle.slicc_reading.proofs.Parts.{◌then◌, allow, as_allowed_behind, as_node, as_node_behind, as_part, as_tree, at_first, behind, behind_read, in_alternative, match_map, of_alternative, read_behind}
+use Rattle.slicc_reading.proofs.Choices.{absent, absent_read, present, present_read, fault_in_present, fault_in_more, in_nesting, fault_in_nesting}
 use Rattle.slicc_expr.proofs.Loops.{more_items, items_begin, items_more, items_end, no_items, operands_begin, next_level, one_operand, fault_in_operand, all_operands, one_suffix, fault_in_suffix, all_suffixes}
 use Rattle.slicc_expr.proofs.Ahead.{bracket_ahead, colon_ahead, constant_ahead, invalid_ahead, le_true, level_read, fault_in_operators, fault_in_unary, neither_ahead, no_level, open_ahead, opening_ahead, unary_level}
 use Rattle.slicc_ast.specs.Expressions.{level_of}

@@ -1,8 +1,8 @@
 use Rattle.std.proofs.Common.{refl, sym, ◌∙◌, drop, length, ◌-◌, subst, ap}
 use Rattle.slicc_ast.specs.Expressions.{expr}
 use Rattle.slicc_grammar.specs.Form.Form.{expression}
-use Rattle.slicc_expr.specs.Answers.{IsFaultFrom, placed}
-use Rattle.slicc_expr.proofs.Border.{read_from, fault_from}
+use Rattle.slicc_reading.specs.Answers.{IsFaultFrom, placed}
+use Rattle.slicc_reading.proofs.Border.{read_from, fault_from}
 use Rattle.slicc_expr.proofs.reading.expr.Goals as goal
 
 pub returns-in-Ok : goal.returns-in-Ok
