@@ -85,6 +85,12 @@ le_true a b le = search rules
 pub lt_true : (a b : ℕ) → a < b → IsTrue (nat_lt a b)
 lt_true a b lt = search rules
 
+pub eq_true : (a b : ℕ) → a ≡ b → IsTrue (a == b)
+eq_true a b is = search rules
+
+pub is_true : (b : Bool) → b ≡ true → IsTrue b
+is_true b is = search rules
+
 pub unary_level : (n : ℕ) → 7 ≤ 0 + n → IsTrue (nat_le 7 n)
 unary_level n le = le_true 7 n (omega arith)
 
