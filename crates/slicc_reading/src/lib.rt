@@ -3,17 +3,16 @@
 #![tactic(auto)]
 
 mod attributes;
-
 mod fault;
 mod leaf;
 mod numbers;
 mod places;
 
 pub use attributes::{assigned, next_pair, pair, pairs};
-pub use places::{place, placed, room_within};
 pub use fault::{Fault, SyntaxFault};
 pub use leaf::{
     is_name, is_sign, is_string, is_word, name, open, refuse, sign, span, split_first, string,
     type_name, word,
 };
 pub use numbers::{is_number, number};
+pub use places::{place, placed, room_within};
