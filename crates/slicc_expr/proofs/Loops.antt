@@ -1,7 +1,7 @@
 -- What the loops of expressions have read so far, and how each goes on.
 use Rattle.std.proofs.lemmas.Bool.{false≢true}
 use Rattle.std.proofs.lemmas.List.{length-append}
-use Rattle.std.proofs.Common.{◌≡◌, ℕ, suc, ◌+◌, ◌-◌, ◌<◌, ◌≤◌, true, false, nat_le, nat_lt, List, [], ◌∷◌, ◌++◌, length, refl, sym, subst, ap, ◌∙◌, arith}
+use Rattle.std.proofs.Common.{◌≡◌, ℕ, suc, ◌+◌, ◌-◌, ◌<◌, ◌≤◌, true, false, List, [], ◌∷◌, ◌++◌, length, refl, sym, subst, ap, ◌∙◌, arith}
 use Rattle.slicc_ast.specs.declared.tree.expression.Expr.{Expr}
 use Rattle.slicc_ast.specs.declared.tree.expression.Operand.{Operand}
 use Rattle.slicc_ast.specs.declared.tree.expression.Operator.{Operator}
@@ -12,9 +12,9 @@ use Rattle.slicc_ast.specs.declared.tree.token.Sign.TheVariants.{Comma, Dot, Ope
 use Rattle.slicc_ast.specs.declared.tree.expression.Operator.TheVariants.{Or, And, Equal, Unequal, Less, Greater, LessOrEqual, GreaterOrEqual, Plus, Minus, Times}
 use Rattle.slicc_ast.specs.Expressions.{expr, suffix, level_of, list_level, operator_level, operator_sign, operand_list, suffix_list, args_list, more_args}
 use Rattle.slicc_ast.specs.Names.{sign}
-use Rattle.slicc_ast.specs.Outline.{Outline, node, Parts, none, part, provided}
+use Rattle.slicc_ast.specs.Outline.{node, Parts, none, part}
 use Rattle.grammar_rows.specs.Grammar.{Row}
-use Rattle.grammar_rows.specs.Grammar.Row.{done, form, many, maybe, token as token_row}
+use Rattle.grammar_rows.specs.Grammar.Row.{done, form, maybe, token as token_row}
 use Rattle.grammar_rows.specs.Reader.{Passes, Stops}
 use Rattle.grammar_rows.proofs.Steps.{passes_both, fails_first, fails_second}
 use Rattle.grammar_rows.specs.Grammar.{first_of}
@@ -37,7 +37,7 @@ use Rattle.slicc_expr.proofs.Ahead.{eq_true, is_true, le_true, lt_true}
 use Rattle.slicc_expr.specs.Nodes.{is_some, operand_parts, operands_before, operation_node, postfix_node, suffixes_before}
 use Rattle.slicc_reading.proofs.Repeats.{AreRepeated, all_read, each, fault_in_one, none_yet, one_more}
 use Rattle.slicc_reading.specs.Reading.Refuses.{no_memory, stops}
-use Rattle.slicc_reading.proofs.Choices.{absent, leads_here, leads_behind, once_more, fault_in_more, no_more, all_of, present_read}
+use Rattle.slicc_reading.proofs.Choices.{absent, leads_here, leads_behind, once_more, no_more, all_of, present_read}
 
 -- arguments, and then further parts
 abbrev pub more_onto : List Expr → Parts → Parts

@@ -4,7 +4,7 @@ use Rattle.slicc_ast.specs.declared.tree.span.Span.{Span}
 use Rattle.slicc_ast.specs.declared.tree.expression.Expr.{Expr}
 use Rattle.slicc_ast.specs.declared.tree.expression.Operand.{Operand}
 use Rattle.slicc_ast.specs.declared.tree.expression.Suffix.{Suffix}
-use Rattle.slicc_ast.specs.Outline.{Outline, node, Parts, none, part, provided}
+use Rattle.slicc_ast.specs.Outline.{Outline, node, Parts, part, provided}
 use Rattle.slicc_ast.specs.Names.{sign}
 use Rattle.slicc_ast.specs.Expressions.{expr, level_of, list_level, operand_list, operator_level, operator_sign, suffix, suffix_list}
 
