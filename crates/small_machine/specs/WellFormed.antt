@@ -5,10 +5,10 @@
 use Rattle.std.specs.Prelude.{◌≡◌, ◌≢◌, ◌≤◌, ◌&&◌, ◌++◌, ℕ, Bool, true, not, IsTrue, List, [], ◌∷◌, length, map, codes}
 use Rattle.std.specs.List.{list_any, list_all}
 use Rattle.std.specs.Str.{bytes_eq}
-use Rattle.slicc_ast.specs.declared.machine.Machine.{Machine}
-use Rattle.slicc_ast.specs.declared.machine.State.{State}
-use Rattle.slicc_ast.specs.declared.machine.Event.{Event}
-use Rattle.slicc_ast.specs.declared.machine.Transition.{Transition}
+use Rattle.small_machine.specs.declared.machine.Machine.{Machine}
+use Rattle.small_machine.specs.declared.machine.State.{State}
+use Rattle.small_machine.specs.declared.machine.Event.{Event}
+use Rattle.small_machine.specs.declared.machine.Transition.{Transition}
 
 -- gem5's access permissions
 abbrev pub permissions : List (List ℕ)

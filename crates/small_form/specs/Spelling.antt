@@ -3,21 +3,21 @@
 -- declared or equal. Each tree has one spelling.
 use Rattle.std.specs.Prelude.{◌++◌, ℕ, List, [], ◌∷◌, codes}
 use Rattle.std.specs.List.{flat_map}
-use Rattle.slicc_ast.specs.declared.token.Token.{Token}
-use Rattle.slicc_ast.specs.declared.token.Token.TheVariants.{Name, Reserved, Quoted, Sign}
-use Rattle.slicc_ast.specs.declared.token.Sign.TheVariants.{OpenBrace, CloseBrace, OpenParenthesis, CloseParenthesis, Comma, Colon, Semicolon, Dot, Assign, Star}
-use Rattle.slicc_ast.specs.declared.body.If.{If}
-use Rattle.slicc_ast.specs.declared.body.Peek.{Peek}
-use Rattle.slicc_ast.specs.declared.body.Trigger.{Trigger}
-use Rattle.slicc_ast.specs.declared.body.Dequeue.{Dequeue}
-use Rattle.slicc_ast.specs.declared.machine.Machine.{Machine}
-use Rattle.slicc_ast.specs.declared.machine.States.{States}
-use Rattle.slicc_ast.specs.declared.machine.State.{State}
-use Rattle.slicc_ast.specs.declared.machine.Events.{Events}
-use Rattle.slicc_ast.specs.declared.machine.Event.{Event}
-use Rattle.slicc_ast.specs.declared.machine.InPort.{InPort}
-use Rattle.slicc_ast.specs.declared.machine.Action.{Action}
-use Rattle.slicc_ast.specs.declared.machine.Transition.{Transition}
+use Rattle.small_form.specs.declared.token.Token.{Token}
+use Rattle.small_form.specs.declared.token.Token.TheVariants.{Name, Reserved, Quoted, Sign}
+use Rattle.small_form.specs.declared.token.Sign.TheVariants.{OpenBrace, CloseBrace, OpenParenthesis, CloseParenthesis, Comma, Colon, Semicolon, Dot, Assign, Star}
+use Rattle.small_machine.specs.declared.body.If.{If}
+use Rattle.small_machine.specs.declared.body.Peek.{Peek}
+use Rattle.small_machine.specs.declared.body.Trigger.{Trigger}
+use Rattle.small_machine.specs.declared.body.Dequeue.{Dequeue}
+use Rattle.small_machine.specs.declared.machine.Machine.{Machine}
+use Rattle.small_machine.specs.declared.machine.States.{States}
+use Rattle.small_machine.specs.declared.machine.State.{State}
+use Rattle.small_machine.specs.declared.machine.Events.{Events}
+use Rattle.small_machine.specs.declared.machine.Event.{Event}
+use Rattle.small_machine.specs.declared.machine.InPort.{InPort}
+use Rattle.small_machine.specs.declared.machine.Action.{Action}
+use Rattle.small_machine.specs.declared.machine.Transition.{Transition}
 
 -- desc = ".."
 abbrev pub described : List ℕ → List Token
