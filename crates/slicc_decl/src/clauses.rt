@@ -11,8 +11,8 @@ ghost use Rattle.slicc_reading.specs.Reading.{AreRead, IsRead, Refuses};
 
 use slicc_ast::Text;
 use slicc_ast::tree::{Item, Sign, Word};
-use slicc_reading::{Fault, is_word, sign, span, string, word};
 use slicc_lex::Token;
+use slicc_reading::{Fault, is_word, sign, span, string, word};
 use std::alloc::Global;
 
 /// A string and `;`.

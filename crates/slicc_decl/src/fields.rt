@@ -15,8 +15,8 @@ ghost use Rattle.slicc_reading.specs.Reading.{AreRead, IsNode, IsRead, Refuses};
 use crate::heads::ended_pairs;
 use crate::signatures::formals;
 use slicc_ast::tree::{Formals, Member, Pairs, Sign, TypeName};
-use slicc_reading::{Fault, is_sign, name, span};
 use slicc_lex::Token;
+use slicc_reading::{Fault, is_sign, name, span};
 use std::alloc::Global;
 
 /// The formals of a method in parentheses, attributes and `;`.

@@ -7,8 +7,8 @@ ghost use Rattle.slicc_grammar.specs.Parts.{◌▸◌, name as name_part, pairs 
 ghost use Rattle.slicc_reading.specs.Reading.{AreRead, Refuses};
 
 use slicc_ast::tree::{Name, Pairs, Sign};
-use slicc_reading::{Fault, name, open, pairs, sign};
 use slicc_lex::Token;
+use slicc_reading::{Fault, name, open, pairs, sign};
 use std::alloc::Global;
 
 /// Attributes and the sign that ends them.

@@ -7,10 +7,10 @@ ghost use Rattle.slicc_grammar.specs.Parts.{◌▸◌, number_token, of, sign as
 ghost use Rattle.slicc_reading.specs.Reading.{AreRead, IsRead, Refuses};
 
 use slicc_ast::tree::{Literal, Sign, Word};
+use slicc_lex::Token;
 use slicc_reading::{
     Fault, is_number, is_sign, is_string, is_word, number, refuse, sign, span, string, word,
 };
-use slicc_lex::Token;
 use std::alloc::Global;
 
 /// `-` and a number.

@@ -18,8 +18,8 @@ use crate::heads::ended_pairs;
 use crate::parameters::parameter;
 use slicc_ast::Text;
 use slicc_ast::tree::{Name, Pairs, Parameter, Sign, TokenKind};
-use slicc_reading::{Fault, is_name, is_sign, name, open, refuse, sign, split_first, string};
 use slicc_lex::Token;
+use slicc_reading::{Fault, is_name, is_sign, name, open, refuse, sign, split_first, string};
 use std::alloc::Global;
 
 fn is_machine_type_text(text: &[u8]) -> bool

@@ -10,8 +10,8 @@ ghost use Rattle.slicc_decl.specs.Members.{state_parts, state_row, symbol_row};
 
 use crate::heads::{ended_by, ended_name, head};
 use slicc_ast::tree::{Enumeration, Sign, State, States, Symbol, Word};
-use slicc_reading::{Fault, is_name, is_word, open, refuse, sign, span, word};
 use slicc_lex::Token;
+use slicc_reading::{Fault, is_name, is_word, open, refuse, sign, span, word};
 use std::alloc::Global;
 
 /// Members of an enumeration and `}`.

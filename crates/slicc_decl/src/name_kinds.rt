@@ -6,8 +6,8 @@ ghost use Rattle.slicc_grammar.specs.TokenKinds.{functional_name, kind_of};
 ghost use Rattle.slicc_lex.specs.Syntax.{symbols};
 
 use slicc_ast::tree::TokenKind;
-use slicc_reading::split_first;
 use slicc_lex::Token;
+use slicc_reading::split_first;
 
 fn is_skipped_text(text: &[u8]) -> bool
     ensures { result ≡ bytes_eq text.now (codes "functionalRead") || bytes_eq text.now (codes "functionalWrite") }

@@ -8,8 +8,8 @@ ghost use Rattle.slicc_grammar.specs.Parts.{◌▸◌, braces, comma, name as na
 ghost use Rattle.slicc_reading.specs.Reading.{AreRead, Refuses};
 
 use slicc_ast::tree::{Name, Names, Sign};
-use slicc_reading::{Fault, is_name, is_sign, name, open, refuse, sign, span};
 use slicc_lex::Token;
+use slicc_reading::{Fault, is_name, is_sign, name, open, refuse, sign, span};
 use std::alloc::Global;
 
 /// A comma and a name.

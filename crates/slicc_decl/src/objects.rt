@@ -8,8 +8,8 @@ ghost use Rattle.slicc_reading.specs.Reading.{IsNode, IsRead, Refuses};
 
 use crate::heads::{ended_name, ended_pairs};
 use slicc_ast::tree::{Name, Object, Sign, TypeName};
-use slicc_reading::{Fault, sign, span};
 use slicc_lex::Token;
+use slicc_reading::{Fault, sign, span};
 use std::alloc::Global;
 
 /// An object with a star, behind its type at `start`.

@@ -13,8 +13,8 @@ use crate::heads::ended_pairs;
 use crate::literals::literal;
 use crate::signatures::starred_type;
 use slicc_ast::tree::{Literal, Name, Pairs, Parameter, Sign};
-use slicc_reading::{Fault, is_name, is_sign, name, refuse, sign, span};
 use slicc_lex::Token;
+use slicc_reading::{Fault, is_name, is_sign, name, refuse, sign, span};
 use std::alloc::Global;
 
 /// `:=` and a literal.

@@ -10,8 +10,8 @@ ghost use Rattle.slicc_reading.specs.Reading.{AreRead, IsRead, Refuses};
 
 use crate::heads::{ended_by, ended_name};
 use slicc_ast::tree::{Name, OutPort, Pairs, Sign, TypeName, Word};
-use slicc_reading::{Fault, is_word, open, refuse, sign, span, type_name, word};
 use slicc_lex::Token;
+use slicc_reading::{Fault, is_word, open, refuse, sign, span, type_name, word};
 use std::alloc::Global;
 
 /// The name of a type and a comma.

@@ -9,8 +9,8 @@ ghost use Rattle.slicc_grammar.specs.Parts.{◌▸◌, comma, name as name_part,
 ghost use Rattle.slicc_reading.specs.Reading.{AreRead, IsRead, Refuses};
 
 use slicc_ast::tree::{Formal, Formals, Name, Sign, TypeName};
-use slicc_reading::{Fault, is_name, is_sign, name, open, refuse, sign, span, type_name};
 use slicc_lex::Token;
+use slicc_reading::{Fault, is_name, is_sign, name, open, refuse, sign, span, type_name};
 use std::alloc::Global;
 
 /// Whether a star is first, and what is behind it.

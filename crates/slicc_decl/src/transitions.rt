@@ -18,11 +18,11 @@ ghost use Rattle.slicc_decl.specs.Members.{action_row, pair_parts, transition_in
 use crate::heads::ended_by;
 use crate::name_sets::names;
 use slicc_ast::tree::{Name, Names, Pair, Pairs, Sign, Transition, Word};
+use slicc_lex::Token;
 use slicc_reading::{
     Fault, assigned, is_name, is_sign, is_string, is_word, name, next_pair, open, pairs, refuse,
     sign, span, string, word,
 };
-use slicc_lex::Token;
 use std::alloc::Global;
 
 /// Attributes of which the first one is read, with the comma at `start`.
