@@ -9,10 +9,10 @@ ghost use Rattle.slicc_grammar.specs.Parts.{◌▸◌, comma, string as string_p
 ghost use Rattle.slicc_reading.specs.Reading.{AreRead, Refuses};
 ghost use Rattle.slicc_expr.specs.Levels.{cast_head as cast_head_part, mode_part};
 
-use slicc_reading::{Fault, is_string, sign, string, type_name};
 use slicc_ast::Text;
 use slicc_ast::tree::{Sign, TypeName};
 use slicc_lex::Token;
+use slicc_reading::{Fault, is_string, sign, string, type_name};
 use std::alloc::Global;
 
 /// A type and a comma.

@@ -18,13 +18,13 @@ ghost use Rattle.slicc_expr.specs.Levels.{cast_inner, cast_part, chains, enclose
 ghost use Rattle.slicc_reading.specs.Reading.{AreRead, IsNode, IsRead, Refuses};
 
 use crate::cast::cast_head;
-use slicc_reading::{Fault, is_name, is_sign, is_word, name, open, refuse, sign, span, word};
 use crate::nodes;
 use crate::operator_signs::operator;
 use crate::values::{begins_expression, begins_simple, new_entry, simple};
 use slicc_ast::Text;
 use slicc_ast::tree::{Args, Expr, Name, Sign, TypeName, Word};
 use slicc_lex::Token;
+use slicc_reading::{Fault, is_name, is_sign, is_word, name, open, refuse, sign, span, word};
 use std::alloc::Global;
 
 /// A node that was made, with the tokens that are left behind it.

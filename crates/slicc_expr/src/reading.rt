@@ -6,10 +6,10 @@ ghost use Rattle.slicc_lex.specs.Syntax.{AreEnded, IsReadAs};
 ghost use Rattle.slicc_reading.specs.Answers.{IsFaultFrom};
 
 use crate::expressions::expression;
-use slicc_reading::{Fault, SyntaxFault, place, placed, room_within};
 use slicc_ast::Seq;
 use slicc_ast::tree::Expr;
 use slicc_lex::Token;
+use slicc_reading::{Fault, SyntaxFault, place, placed, room_within};
 use std::alloc::Global;
 
 /// The expression that the tokens from the place `at` on begin with, the longest there is, and the place behind it, where

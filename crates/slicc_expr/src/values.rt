@@ -14,9 +14,11 @@ ghost use Rattle.slicc_lex.specs.Syntax.{symbols};
 ghost use Rattle.slicc_reading.specs.Reading.{IsRead, Refuses};
 ghost use Rattle.slicc_expr.specs.Levels.{IsSimple, longer_kinds, simple_kinds};
 
-use slicc_reading::{Fault, is_name, is_number, is_sign, is_word, name, refuse, span, split_first, word};
 use slicc_ast::tree::{Expr, Sign, Span, TokenKind, Word};
 use slicc_lex::Token;
+use slicc_reading::{
+    Fault, is_name, is_number, is_sign, is_word, name, refuse, span, split_first, word,
+};
 use std::alloc::Global;
 
 /// Whether the first token is an expression by itself and isn't a name.
