@@ -1,11 +1,9 @@
 //! Functions that are read and not looked at.
 ghost use Rattle.std.specs.Prelude.{IsTrue, MatchResult};
-ghost use Rattle.slicc_ast.specs.Declarations.{is_skipped, pairs as pairs_of, skipped as skipped_of};
-ghost use Rattle.slicc_ast.specs.Names.{balanced as balanced_of, sign as sign_of};
+ghost use Rattle.slicc_ast.specs.Declarations.{is_skipped, skipped as skipped_of};
 ghost use Rattle.slicc_ast.specs.Outline.{node, none, token};
-ghost use Rattle.slicc_ast.specs.declared.tree.token.Sign.TheVariants.{CloseBrace, CloseParenthesis, OpenBrace, OpenParenthesis};
 ghost use Rattle.slicc_ast.specs.declared.tree.token.TokenKind.TheVariants.{Name as Named};
-ghost use Rattle.slicc_grammar.specs.Parts.{◌▸◌, balanced, braces, pairs as pairs_part, parentheses};
+ghost use Rattle.slicc_decl.specs.Members.{skipped_body_parts, skipped_body_row, skipped_parts, skipped_row};
 ghost use Rattle.slicc_reading.specs.Reading.{AreRead, IsNode, IsRead, Refuses};
 
 use slicc_ast::tree::{Balanced, Name, Pairs, Sign, Skipped, TypeName};
@@ -28,8 +26,9 @@ fn pairs_and_body(
     tokens: &[Token],
 ) -> Result<(Pairs, Balanced, &[Token]), Fault>
     ensures { MatchResult result
-        (λ read. AreRead room (pairs_part ▸ braces balanced) (λ others. pairs_of read.0 (sign_of OpenBrace (balanced_of read.1 (sign_of CloseBrace others)))) tokens.now read.2.now)
-        (Refuses room (pairs_part ▸ braces balanced) tokens.now) }
+        (λ read. AreRead room skipped_body_row
+        (skipped_body_parts read.0 read.1) tokens.now read.2.now)
+        (Refuses room skipped_body_row tokens.now) }
 {
     match pairs(alloc, room, tokens) {
         Ok((attributes, behind)) => {
@@ -45,8 +44,9 @@ fn pairs_and_body(
 /// Arguments in parentheses, attributes and a body in braces.
 fn skipped_end(alloc: Global, room: u32, tokens: &[Token]) -> Result<(SkippedEnd, &[Token]), Fault>
     ensures { MatchResult result
-        (λ read. AreRead room (parentheses balanced ▸ pairs_part ▸ braces balanced) (λ others. sign_of OpenParenthesis (balanced_of read.0.arguments (sign_of CloseParenthesis (pairs_of read.0.pairs (sign_of OpenBrace (balanced_of read.0.body (sign_of CloseBrace others))))))) tokens.now read.1.now)
-        (Refuses room (parentheses balanced ▸ pairs_part ▸ braces balanced) tokens.now) }
+        (λ read. AreRead room skipped_row
+        (skipped_parts read.0.arguments read.0.pairs read.0.body) tokens.now read.1.now)
+        (Refuses room skipped_row tokens.now) }
 {
     match bracketed(
         alloc,
@@ -84,8 +84,8 @@ pub fn skipped<'t>(
     requires name { IsNode (node name.span (token (Named name.text) none)) tokens.now behind.now }
     requires skipped { IsTrue (is_skipped name) }
     ensures { MatchResult result
-        (λ read. IsRead room (parentheses balanced ▸ pairs_part ▸ braces balanced) (skipped_of read.0) start.now behind.now read.1.now)
-        (Refuses room (parentheses balanced ▸ pairs_part ▸ braces balanced) behind.now) }
+        (λ read. IsRead room skipped_row (skipped_of read.0) start.now behind.now read.1.now)
+        (Refuses room skipped_row behind.now) }
 {
     match skipped_end(alloc, room, behind) {
         Ok((end, left)) => {

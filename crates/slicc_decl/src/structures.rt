@@ -1,14 +1,13 @@
 //! Structures, and their members.
 ghost use Rattle.std.specs.Prelude.{◌≡◌, ◌∷◌, ◌<◌, [], IsTrue, true, length, IfOk, MatchResult};
 ghost use Rattle.grammar_rows.specs.Kinds.{is_ahead};
-ghost use Rattle.slicc_ast.specs.Declarations.{is_skipped, member as member_of, member_list, structure as structure_of};
-ghost use Rattle.slicc_ast.specs.Names.{sign as sign_of};
+ghost use Rattle.slicc_ast.specs.Declarations.{is_skipped, member as member_of, structure as structure_of};
 ghost use Rattle.slicc_ast.specs.Outline.{node, none, token};
-ghost use Rattle.slicc_ast.specs.declared.tree.token.Sign.TheVariants.{CloseBrace, OpenBrace};
 ghost use Rattle.slicc_ast.specs.declared.tree.token.TokenKind.TheVariants.{Name as Named};
 ghost use Rattle.slicc_grammar.specs.Form.Form.{functional_end as functional_end_form, member as member_form, member_end as member_end_form, structure as structure_form};
-ghost use Rattle.slicc_grammar.specs.Parts.{◌▸◌, braces, of, repeated, sign as sign_part, skipped_name};
+ghost use Rattle.slicc_grammar.specs.Parts.{of};
 ghost use Rattle.slicc_grammar.specs.TokenKinds.{functional_name};
+ghost use Rattle.slicc_decl.specs.Members.{members_parts, members_row, skipped_member_row, structure_parts, structure_row};
 ghost use Rattle.slicc_lex.specs.Syntax.{symbols};
 ghost use Rattle.slicc_reading.specs.Reading.{AreRead, IsNode, IsRead, Refuses};
 
@@ -37,7 +36,8 @@ fn functional_member<'t>(
     requires name { IsNode (node name.span (token (Named name.text) none)) tokens.now behind.now }
     requires skipped { IsTrue (is_skipped name) }
     ensures { MatchResult result
-        (λ read. IsRead room (of functional_end_form) (member_of read.0) start.now behind.now read.1.now)
+        (λ read. IsRead room (of functional_end_form)
+        (member_of read.0) start.now behind.now read.1.now)
         (Refuses room (of functional_end_form) behind.now) }
 {
     if is_sign(Sign::OpenParenthesis, behind) {
@@ -77,8 +77,9 @@ fn skipped_member<'t>(
     requires kind { IsNode (node kind.span (token (Named kind.text) none)) start.now tokens.now }
     requires skipped { is_ahead (functional_name ∷ []) (symbols tokens.now) ≡ true }
     ensures { MatchResult result
-        (λ read. IsRead room (skipped_name ▸ of functional_end_form) (member_of read.0) start.now tokens.now read.1.now)
-        (Refuses room (skipped_name ▸ of functional_end_form) tokens.now) }
+        (λ read. IsRead room skipped_member_row
+        (member_of read.0) start.now tokens.now read.1.now)
+        (Refuses room skipped_member_row tokens.now) }
 {
     match name(alloc, room, tokens) {
         Ok((name, behind)) => functional_member(alloc, room, start, kind, tokens, name, behind),
@@ -96,7 +97,8 @@ fn member_end<'t>(
 ) -> Result<(Member, &'t [Token]), Fault>
     requires { IsNode (node kind.span (token (Named kind.text) none)) start.now tokens.now }
     ensures { MatchResult result
-        (λ read. IsRead room (of member_end_form) (member_of read.0) start.now tokens.now read.1.now)
+        (λ read. IsRead room (of member_end_form)
+        (member_of read.0) start.now tokens.now read.1.now)
         (Refuses room (of member_end_form) tokens.now) }
 {
     if is_skipped_name(tokens) {
@@ -131,8 +133,8 @@ fn closed_members(
     tokens: &[Token],
 ) -> Result<(Vec<Member>, &[Token]), Fault>
     ensures { MatchResult result
-        (λ read. AreRead room (repeated (of member_form) ▸ sign_part CloseBrace) (λ others. member_list read.0.items (sign_of CloseBrace others)) tokens.now read.1.now)
-        (Refuses room (repeated (of member_form) ▸ sign_part CloseBrace) tokens.now) }
+        (λ read. AreRead room members_row (members_parts read.0.items) tokens.now read.1.now)
+        (Refuses room members_row tokens.now) }
 {
     let mut items = Vec::new(alloc);
     let mut left = tokens;
@@ -158,8 +160,8 @@ fn member_block(
     tokens: &[Token],
 ) -> Result<(Vec<Member>, &[Token]), Fault>
     ensures { MatchResult result
-        (λ read. AreRead room (braces (repeated (of member_form))) (λ others. sign_of OpenBrace (member_list read.0.items (sign_of CloseBrace others))) tokens.now read.1.now)
-        (Refuses room (braces (repeated (of member_form))) tokens.now) }
+        (λ read. AreRead room structure_row (structure_parts read.0.items) tokens.now read.1.now)
+        (Refuses room structure_row tokens.now) }
 {
     match open(room, Sign::OpenBrace, tokens) {
         Ok(behind) => closed_members(alloc, room - 1, behind),
@@ -170,7 +172,8 @@ fn member_block(
 /// A structure.
 pub fn structure(alloc: Global, room: u32, tokens: &[Token]) -> Result<(Structure, &[Token]), Fault>
     ensures { MatchResult result
-        (λ read. IsRead room (of structure_form) (structure_of read.0) tokens.now tokens.now read.1.now)
+        (λ read. IsRead room (of structure_form)
+        (structure_of read.0) tokens.now tokens.now read.1.now)
         (Refuses room (of structure_form) tokens.now) }
 {
     if !is_word(Word::Structure, tokens) {
