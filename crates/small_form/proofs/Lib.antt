@@ -1,9 +1,7 @@
+pub mod Calls
 pub mod Checked
-pub mod Front
-pub mod Lexed
-pub mod Listed
-pub mod Machines
+pub mod Finding
+pub mod Mapped
 pub mod Parts
-pub mod Patterns
-pub mod Trees
-pub mod Written
+pub mod Rows
+pub mod Bodies
