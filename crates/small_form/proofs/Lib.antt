@@ -1,5 +1,6 @@
 pub mod Calls
 pub mod Checked
+pub mod Declared
 pub mod Finding
 pub mod Mapped
 pub mod Parts

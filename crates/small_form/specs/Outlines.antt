@@ -14,6 +14,8 @@ use Rattle.slicc_ast.specs.Names.{word, sign}
 use Rattle.slicc_ast.specs.Expressions.{expr}
 use Rattle.slicc_ast.specs.Declarations.{pair}
 use Rattle.slicc_ast.specs.Statements.{stmt, block_outline}
+use Rattle.small_form.specs.declared.machine.Content.{Content}
+use Rattle.small_form.specs.Shapes.{declarations}
 
 -- attributes
 abbrev pub outlines : Pairs → List Outline
@@ -36,3 +38,7 @@ otherwise_parts (Some b) = word Else (part (block_outline b) none)
 -- what stands behind the first block of a conditional
 abbrev pub else_parts : If → Parts
 else_parts i = else_if_list (out-If i).others.items (otherwise_parts (out-If i).otherwise)
+
+-- the declarations of a machine of the small form
+abbrev pub content_shape : Content → Parts
+content_shape c = declarations c.states c.events c.port c.action c.transitions

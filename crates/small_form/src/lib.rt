@@ -3,9 +3,12 @@
 
 mod attributes;
 mod checker;
+mod declarations;
 mod expressions;
+mod heads;
 mod items;
 mod lists;
+mod machine;
 mod members;
 mod statements;
 mod words;
