@@ -2,6 +2,7 @@ pub mod Calls
 pub mod Checked
 pub mod Declared
 pub mod Finding
+pub mod Machines
 pub mod Mapped
 pub mod Parts
 pub mod Rows

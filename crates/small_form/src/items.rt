@@ -1,4 +1,4 @@
-ghost use Rattle.std.specs.Prelude.{◌≡◌, ◌≢◌, ◌↔◌, [], ◌∷◌, IsTrue, MatchOption};
+ghost use Rattle.std.specs.Prelude.{◌≡◌, ◌≢◌, ◌↔◌, [], ◌∷◌, IsTrue, List, MatchOption};
 ghost use Rattle.std.specs.Option.{option_copied};
 ghost use Rattle.small_form.specs.Found.{IsFound};
 
@@ -25,6 +25,16 @@ pub fn two_items<T>(items: &[T]) -> Option<(&T, &T)>
 {
     match items {
         [first, second] => Some((first, second)),
+        _ => None,
+    }
+}
+
+/// The first four items, and those after them.
+pub fn split_four<T>(items: &[T]) -> Option<(&T, &T, &T, &T, &[T])>
+    ensures { MatchOption result ((a b c d : T) (rest : List T) → items.now ≢ a ∷ b ∷ c ∷ d ∷ rest) (λ s. items.now ≡ s.0.now ∷ s.1.now ∷ s.2.now ∷ s.3.now ∷ s.4.now) }
+{
+    match items {
+        [first, second, third, fourth, rest @ ..] => Some((first, second, third, fourth, rest)),
         _ => None,
     }
 }

@@ -11,7 +11,7 @@ ghost use Rattle.small_form.specs.Shapes.{file, machine as machine_shape};
 
 use crate::declarations::{action, events, in_port, states};
 use crate::heads::are_queue;
-use crate::items::{are_none, only_item};
+use crate::items::{are_none, only_item, split_four};
 use crate::lists::all_from;
 use crate::words::copied;
 use ruby_base::{NoMemory, Seq};
@@ -33,7 +33,7 @@ struct Content {
 fn declared(alloc: Global, declarations: &[Decl]) -> Result<Option<Content>, NoMemory>
     ensures { IfOk result (IsFound (shape_in (decl_list declarations.now (sign CloseBrace none))) content_shape) }
 {
-    let [first, second, third, fourth, rest @ ..] = declarations else {
+    let Some((first, second, third, fourth, rest)) = split_four(declarations) else {
         return Ok(None);
     };
     let Some(states) = states(alloc, first)? else {
