@@ -85,10 +85,10 @@ same_pairs [] (q ∷ qs) same = absurd (cc)
 same_pairs (p ∷ ps) [] same = absurd (cc)
 same_pairs (p ∷ ps) (q ∷ qs) same = let rest : ps ≡ qs = same_pairs ps qs (cc) in cc
 
-same_peek : (p q : Peek) → p.port ≡ q.port → p.then.event ≡ q.then.event → p ≡ q
+pub same_peek : (p q : Peek) → p.port ≡ q.port → p.then.event ≡ q.then.event → p ≡ q
 same_peek p q port event = λ i. record { port = port i; then = record { event = event i } }
 
-same_if : (i j : SmallIf) → i.port ≡ j.port → i.then ≡ j.then → i ≡ j
+pub same_if : (i j : SmallIf) → i.port ≡ j.port → i.then ≡ j.then → i ≡ j
 same_if i j port then = λ k. record { port = port k; then = then k }
 
 -- peeks

@@ -118,7 +118,7 @@ machine_of_parts true called title inner [] (p ∷ []) ds outer m is =
     let e : shape_in (parameter_list (p ∷ []) none) ≡ part queue none = is.parameters_are in
     let f : shape_in (decl_list ds closed) ≡ declarations m.states m.events m.port m.action m.transitions = is.content_is in cc
 
-same_machine : (m n : Machine) → m.name ≡ n.name → m.title ≡ n.title → m.states ≡ n.states → m.events ≡ n.events → m.port ≡ n.port → m.action ≡ n.action → m.transitions ≡ n.transitions → m ≡ n
+pub same_machine : (m n : Machine) → m.name ≡ n.name → m.title ≡ n.title → m.states ≡ n.states → m.events ≡ n.events → m.port ≡ n.port → m.action ≡ n.action → m.transitions ≡ n.transitions → m ≡ n
 same_machine m n called title s e p a t =
     λ i. record { name = called i; title = title i; states = s i; events = e i; port = p i; action = a i; transitions = t i }
 

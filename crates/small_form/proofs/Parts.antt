@@ -30,7 +30,7 @@ pub no_event : (whole : Parts) (called : List ℕ) (attributes : List Outline) �
 no_event whole called attributes is gone = unfound whole (λ e. event e none) (λ e same.
     missing attributes described None gone refl e.description (event_parts whole called attributes e is same).1)
 
-same_event : (e f : Event) → e.name ≡ f.name → e.description ≡ f.description → e ≡ f
+pub same_event : (e f : Event) → e.name ≡ f.name → e.description ≡ f.description → e ≡ f
 same_event e f called text = λ i. record { name = called i; description = text i }
 
 pub an_event : (whole : Parts) (called text : List ℕ) (attributes : List Outline) (e : Event) → whole ≡ event_view called attributes → IsFound attributes described (Some text) → e.name ≡ called → e.description ≡ text → IsFound whole (λ e. event e none) (Some e)
@@ -53,7 +53,7 @@ pub no_state : (whole : Parts) (called owner permission : List ℕ) (attributes 
 no_state whole called owner permission attributes is gone = unfound whole (λ s. state s none) (λ s same.
     missing attributes described None gone refl s.description (state_parts whole called owner permission attributes s is same).2)
 
-same_state : (s t : State) → s.name ≡ t.name → s.permission ≡ t.permission → s.description ≡ t.description → s ≡ t
+pub same_state : (s t : State) → s.name ≡ t.name → s.permission ≡ t.permission → s.description ≡ t.description → s ≡ t
 same_state s t called allowed text = λ i. record { name = called i; permission = allowed i; description = text i }
 
 pub a_state : (whole : Parts) (called owner permission text : List ℕ) (attributes : List Outline) (s : State) → whole ≡ state_view called owner permission attributes → owner ≡ codes "AccessPermission" → IsFound attributes described (Some text) → s.name ≡ called → s.permission ≡ permission → s.description ≡ text → IsFound whole (λ s. state s none) (Some s)
