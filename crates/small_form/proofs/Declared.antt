@@ -21,7 +21,6 @@ use Rattle.slicc_ast.specs.Machines.{decl, decl_list, parameter, parameter_list,
 use Rattle.slicc_ast.specs.Names.{word, sign, star, name, type_name}
 use Rattle.slicc_ast.specs.Outline.{Outline, node, Parts, none, part, no_span, shape_in, shape_of}
 use Rattle.slicc_ast.specs.Statements.{block_outline}
-use Rattle.small_machine.specs.declared.body.If.{If}
 use Rattle.small_machine.specs.declared.machine.States.{States}
 use Rattle.small_machine.specs.declared.machine.State.{State}
 use Rattle.small_machine.specs.declared.machine.Events.{Events}

@@ -1,22 +1,17 @@
 -- A reader of the whole grammar makes the outlines of the small form of their tokens: bodies of ports and actions.
-use Rattle.std.proofs.Common.{◌≡◌, ℕ, true, List, [], ◌∷◌, codes, refl}
-use Rattle.slicc_ast.specs.declared.tree.token.TokenKind.{TokenKind}
-use Rattle.slicc_ast.specs.declared.tree.token.Sign.TheVariants.{CloseBrace}
+use Rattle.std.proofs.Common.{ℕ, List, [], ◌∷◌, codes, refl}
 use Rattle.slicc_ast.specs.declared.tree.name.Name.{Name}
 use Rattle.slicc_ast.specs.declared.tree.declaration.Pair.TheVariants.{Named as NamedPair, Bare}
 use Rattle.slicc_ast.specs.declared.tree.declaration.PairValue.TheVariants.{Quoted as QuotedValue}
-use Rattle.slicc_ast.specs.Outline.{Outline, node, Parts, none, part, no_span, is_allowed, shape_of}
-use Rattle.grammar_rows.specs.Grammar.{Row, Rows}
-use Rattle.grammar_rows.specs.Grammar.Row.{done, many}
-use Rattle.grammar_rows.specs.Grammar.Rows.{next}
+use Rattle.slicc_ast.specs.Outline.{Outline, Parts, no_span}
 use Rattle.grammar_rows.proofs.Building.Builds.{one, alternative, present, absent, again, enough, on}
 use Rattle.slicc_grammar.specs.Form.{Form}
-use Rattle.slicc_grammar.proofs.Shapes.{◌▸◌, Made, Step, Makes, of, at, close, name as name_row, sign, whole, more_pairs, pairs as pairs_row}
-use Rattle.slicc_grammar.proofs.Making.{spelled, Forms, Closes, Place, Behind, marked, any_name, closed, closed_last, then_token, then_name, then_form, then_node, then_on, then_alternative, then_absent, then_again, then_enough, by_node}
+use Rattle.slicc_grammar.proofs.Shapes.{name as name_row, pairs as pairs_row}
+use Rattle.slicc_grammar.proofs.Making.{Forms, Closes, Place, Behind, marked, any_name, closed, closed_last, then_token, then_name, then_form, then_node, then_on, then_alternative, then_absent, then_again, then_enough, by_node}
 use Rattle.slicc_grammar.proofs.MakingParts.{pair_forms}
 use Rattle.small_machine.specs.declared.body.If.{If}
 use Rattle.small_machine.specs.declared.body.Peek.{Peek}
-use Rattle.small_form.specs.Shapes.{named, name, quoted, bare, pairs, pair_list, described, call, clock_edge, asked, event_name, line_address, event_arguments, triggered, dequeued, block, peek, conditional}
+use Rattle.small_form.specs.Shapes.{named, quoted, bare, pairs, clock_edge, asked, event_name, line_address, triggered, dequeued, block, peek, conditional}
 
 -- names and attributes
 abbrev at_no_place : List ℕ → Name

@@ -2,14 +2,13 @@
 -- that has these tokens is that of the machine.
 use Rattle.std.proofs.Common.{◌≡◌, ◌∙◌, ℕ, true, List, [], ◌∷◌, ◌++◌, codes, refl, sym, ap, subst}
 use Rattle.slicc_ast.specs.declared.tree.token.TokenKind.TheVariants.{End, Name}
-use Rattle.slicc_ast.specs.declared.tree.token.TokenKind.{TokenKind}
 use Rattle.slicc_ast.specs.declared.tree.token.Sign.TheVariants.{CloseBrace, Colon}
 use Rattle.slicc_ast.specs.declared.tree.token.Word.TheVariants.{Protocol}
 use Rattle.slicc_ast.specs.Names.{sign as sign_parts}
 use Rattle.slicc_ast.specs.declared.tree.item.Tree.{Tree}
-use Rattle.slicc_ast.specs.Outline.{Outline, node, Parts, none, token, part, no_span, kinds_of, is_allowed, are_allowed, shape_of}
+use Rattle.slicc_ast.specs.Outline.{Outline, node, Parts, none, token, part, no_span, kinds_of, is_allowed, shape_of}
 use Rattle.slicc_ast.specs.Trees.{tree}
-use Rattle.grammar_rows.specs.Grammar.{Row, Rows}
+use Rattle.grammar_rows.specs.Grammar.{Row}
 use Rattle.grammar_rows.specs.Grammar.Row.{done, many}
 use Rattle.grammar_rows.specs.Grammar.Rows.{end, next}
 use Rattle.grammar_rows.proofs.Building.{one_form_built}
@@ -18,7 +17,7 @@ use Rattle.slicc_grammar.specs.Form.{Form}
 use Rattle.slicc_grammar.specs.TokenKinds.{end_of_text}
 use Rattle.slicc_grammar.proofs.Shapes.{◌▸◌, Made, start, opened, with_token, with_part, plain, Step, Makes, of, at, close, name, comma, colon, semicolon, optional, word, string, pairs, sign, shaper}
 use Rattle.slicc_grammar.proofs.ShapesDecided.{shapes_decided}
-use Rattle.slicc_grammar.proofs.Making.{spelled, spelled-kinds, Forms, Closes, Place, Behind, marked, a_name, any_name, closed, closed_last, then_token, then_form, then_on, then_alternative, then_present, then_absent, then_again, then_enough, by_node, by_form}
+use Rattle.slicc_grammar.proofs.Making.{spelled, spelled-kinds, Forms, Closes, Place, Behind, marked, a_name, any_name, closed, closed_last, then_token, then_form, then_on, then_absent, then_again, then_enough, by_node, by_form}
 use Rattle.slicc_grammar.proofs.MakingParts.{then_star}
 use Rattle.slicc_grammar.proofs.MakingTrees.{tree_makes}
 use Rattle.small_machine.specs.declared.machine.Machine.{Machine}
