@@ -6,6 +6,7 @@ mod expressions;
 mod nodes;
 mod operator_signs;
 mod reading;
+mod statement_values;
 mod values;
 
 pub use expressions::{after_name, expression, opening, operators};
