@@ -1,3 +1,4 @@
 pub mod Rows
 pub mod Ahead
 pub mod Loops
+pub mod StatementForms

@@ -19,7 +19,7 @@ use Rattle.slicc_ast.specs.Outline.{Outline, node, none, Parts, part, token}
 use Rattle.slicc_ast.specs.Statements.{block as block_parts, latency_parts, print_word as print_word_of}
 use Rattle.grammar_rows.specs.Kinds.{has, is_ahead}
 use Rattle.slicc_grammar.specs.Form.Form.{block, expression, name_end, opening, otherwise, suffix}
-use Rattle.slicc_grammar.specs.Parts.{Part, ◌▸◌, assign, comma, name, of, operators, optional, pairs, parentheses, repeated, semicolon, sign, string, type, word, words}
+use Rattle.slicc_grammar.specs.Parts.{Part, ◌▸◌, assign, balanced, comma, name, of, operators, optional, pairs, parentheses, repeated, semicolon, sign, string, type, word, words}
 use Rattle.slicc_grammar.specs.TokenKinds.{kind_of, sign_kind, word_kind}
 
 -- a name by itself
@@ -72,6 +72,10 @@ port_value = name ▸ comma_value
 abbrev pub port_value_parts : Name → Expr → Parts → Parts
 port_value_parts port value others = name_parts port (comma_value_parts value others)
 
+-- NAME ,
+abbrev pub port_and_comma_parts : Name → Parts → Parts
+port_and_comma_parts port others = name_parts port (sign_of Comma others)
+
 -- NAME , type
 abbrev pub port_and_message : Part
 port_and_message = name ▸ comma ▸ type
@@ -87,12 +91,16 @@ abbrev pub peek_inside_parts : Name → TypeName → Pairs → Parts → Parts
 peek_inside_parts port message attributes others =
     port_and_message_parts port message (pairs_parts attributes others)
 
+abbrev pub peek_parentheses_parts : Name → TypeName → Pairs → Parts → Parts
+peek_parentheses_parts port message attributes others =
+    sign_of OpenParenthesis (peek_inside_parts port message attributes (sign_of CloseParenthesis others))
+
 abbrev pub peek_head : Part
 peek_head = word PeekWord ▸ parentheses peek_inside
 
 abbrev pub peek_head_parts : Name → TypeName → Pairs → Parts → Parts
 peek_head_parts port message attributes others =
-    word_of PeekWord (sign_of OpenParenthesis (peek_inside_parts port message attributes (sign_of CloseParenthesis others)))
+    word_of PeekWord (peek_parentheses_parts port message attributes others)
 
 -- enqueue ( NAME , type [ , expr ] )
 abbrev pub enqueue_inside : Part
@@ -102,12 +110,16 @@ abbrev pub enqueue_inside_parts : Name → TypeName → Option Expr → Parts �
 enqueue_inside_parts port message latency others =
     port_and_message_parts port message (latency_parts latency others)
 
+abbrev pub enqueue_parentheses_parts : Name → TypeName → Option Expr → Parts → Parts
+enqueue_parentheses_parts port message latency others =
+    sign_of OpenParenthesis (enqueue_inside_parts port message latency (sign_of CloseParenthesis others))
+
 abbrev pub enqueue_head : Part
 enqueue_head = word EnqueueWord ▸ parentheses enqueue_inside
 
 abbrev pub enqueue_head_parts : Name → TypeName → Option Expr → Parts → Parts
 enqueue_head_parts port message latency others =
-    word_of EnqueueWord (sign_of OpenParenthesis (enqueue_inside_parts port message latency (sign_of CloseParenthesis others)))
+    word_of EnqueueWord (enqueue_parentheses_parts port message latency others)
 
 -- the words of a text for a trace
 abbrev pub print_word : Part
@@ -162,6 +174,10 @@ abbrev pub statement_words : List ℕ
 statement_words =
     word_kind ReturnWord ∷ word_kind IfWord ∷ word_kind PeekWord ∷ word_kind EnqueueWord ∷ calling_words
 
+-- return [ expr ] ;
+abbrev pub return_form : Part
+return_form = word ReturnWord ▸ optional (of expression) ▸ semicolon
+
 -- WORD ( .. ) ;
 abbrev pub stall_and_wait : Part
 stall_and_wait = word StallAndWaitWord ▸ parentheses port_value ▸ semicolon
@@ -174,6 +190,9 @@ error = word ErrorWord ▸ parentheses string ▸ semicolon
 
 abbrev pub assert : Part
 assert = word AssertWord ▸ condition ▸ semicolon
+
+abbrev pub print_statement : Part
+print_statement = print_word ▸ parentheses balanced ▸ semicolon
 
 abbrev pub name_inside_parts : Name → Parts → Parts
 name_inside_parts called others = sign_of OpenParenthesis (name_parts called (sign_of CloseParenthesis others))

@@ -1,11 +1,15 @@
 //! Reads tokens as expressions and statements of SLICC, or finds the first token with which they can't go on.
 #![tactic(auto)]
 
+mod called_statements;
 mod cast;
 mod expressions;
 mod nodes;
 mod operator_signs;
+mod plain_statements;
+mod port_heads;
 mod reading;
+mod statement_ahead;
 mod statement_values;
 mod values;
 
