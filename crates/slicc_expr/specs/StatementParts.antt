@@ -8,18 +8,21 @@ use Rattle.slicc_ast.specs.declared.tree.name.TypeName.{TypeName}
 use Rattle.slicc_ast.specs.declared.tree.statement.Block.{Block}
 use Rattle.slicc_ast.specs.declared.tree.statement.ElseIf.{ElseIf}
 use Rattle.slicc_ast.specs.declared.tree.statement.PrintWord.{PrintWord}
+use Rattle.slicc_ast.specs.declared.tree.statement.Stmt.{Stmt}
 use Rattle.slicc_ast.specs.declared.tree.token.TokenKind.{TokenKind}
 use Rattle.slicc_ast.specs.declared.tree.token.TokenKind.TheVariants.{Name as Named, Quoted, Word as WordOf}
-use Rattle.slicc_ast.specs.declared.tree.token.Sign.TheVariants.{OpenParenthesis, CloseParenthesis, Comma, Assign as AssignSign, Colon, Dot, OpenBracket, Star, Plus, Minus, Less, Greater, LessOrEqual, GreaterOrEqual, Equal, Unequal, And, Or, Semicolon}
+use Rattle.slicc_ast.specs.declared.tree.token.Sign.TheVariants.{CloseBrace, OpenParenthesis, CloseParenthesis, Comma, Assign as AssignSign, Colon, Dot, OpenBracket, Star, Plus, Minus, Less, Greater, LessOrEqual, GreaterOrEqual, Equal, Unequal, And, Or, Semicolon}
 use Rattle.slicc_ast.specs.declared.tree.token.Word.TheVariants.{Return as ReturnWord, If as IfWord, Else as ElseWord, Peek as PeekWord, Enqueue as EnqueueWord, StallAndWait as StallAndWaitWord, CheckAllocate as CheckAllocateWord, Error as ErrorWord, Assert as AssertWord, Dprintf, AppendTransitionComment}
 use Rattle.slicc_ast.specs.Declarations.{pairs as pairs_parts}
 use Rattle.slicc_ast.specs.Expressions.{expr}
 use Rattle.slicc_ast.specs.Names.{name as name_parts, sign as sign_of, type_name as type_parts, word as word_of}
 use Rattle.slicc_ast.specs.Outline.{Outline, node, none, Parts, part, token}
-use Rattle.slicc_ast.specs.Statements.{block as block_parts, latency_parts, print_word as print_word_of}
+use Rattle.slicc_ast.specs.Statements.{block as block_parts, latency_parts, print_word as print_word_of, stmt_list}
 use Rattle.grammar_rows.specs.Kinds.{has, is_ahead}
-use Rattle.slicc_grammar.specs.Form.Form.{block, expression, name_end, opening, otherwise, suffix}
+use Rattle.slicc_grammar.specs.Form.Form.{block, expression, name_end, opening, otherwise, statement, suffix}
 use Rattle.slicc_grammar.specs.Parts.{Part, ◌▸◌, assign, balanced, comma, name, of, operators, optional, pairs, parentheses, repeated, semicolon, sign, string, type, word, words}
+use Rattle.slicc_lex.specs.declared.token.Token.{Token}
+use Rattle.slicc_reading.specs.Reading.{IsSpelledBefore, Leads}
 use Rattle.slicc_grammar.specs.TokenKinds.{kind_of, sign_kind, word_kind}
 
 -- a name by itself
@@ -138,6 +141,12 @@ branch = word IfWord ▸ condition ▸ of block
 abbrev pub branch_parts : Expr → Block → Parts → Parts
 branch_parts e then others = word_of IfWord (condition_parts e (block_parts then others))
 
+abbrev pub if_condition : Part
+if_condition = word IfWord ▸ condition
+
+abbrev pub if_condition_parts : Expr → Parts → Parts
+if_condition_parts e others = word_of IfWord (condition_parts e others)
+
 -- else if ( expr ) block
 abbrev pub else_if_parts : ElseIf → Parts → Parts
 else_if_parts e others = word_of ElseWord (branch_parts e.condition e.then others)
@@ -150,7 +159,20 @@ abbrev pub last_parts : Option Block → Parts → Parts
 last_parts None others = others
 last_parts (Some last) others = word_of ElseWord (block_parts last others)
 
--- the first two tokens are these words
+-- further branches, and a last block where there is one
+abbrev pub else_ifs_parts : List ElseIf → Parts → Parts
+else_ifs_parts [] others = others
+else_ifs_parts (first ∷ items) others = else_if_parts first (else_ifs_parts items others)
+
+abbrev pub other_branches_parts : List ElseIf → Option Block → Parts → Parts
+other_branches_parts items last others = else_ifs_parts items (last_parts last others)
+
+-- so many further branches are read, behind which branches may come as behind those before
+pub record AreElseIfs (room : ℕ) (tokens : List Token) (items : List ElseIf) (now : List Token) : Type 0 where
+  pub leads : Leads room branches_end tokens branches_end now
+  pub spells : IsSpelledBefore (else_ifs_parts items) tokens now
+
+-- the first two tokens are `else` and `if`
 abbrev pub is_else_if : List ℕ → Bool
 is_else_if [] = false
 is_else_if (kind ∷ kinds) = has (word_kind ElseWord ∷ []) kind && is_ahead (word_kind IfWord ∷ []) kinds
@@ -173,6 +195,20 @@ calling_words =
 abbrev pub statement_words : List ℕ
 statement_words =
     word_kind ReturnWord ∷ word_kind IfWord ∷ word_kind PeekWord ∷ word_kind EnqueueWord ∷ calling_words
+
+-- statements and what closes their block
+abbrev pub statements_end : Part
+statements_end = repeated (of statement) ▸ sign CloseBrace
+
+abbrev pub statements_parts : List Stmt → Parts → Parts
+statements_parts items others = stmt_list items (sign_of CloseBrace others)
+
+-- statements that hold a block, besides those with branches
+abbrev pub peek_statement : Part
+peek_statement = peek_head ▸ of block
+
+abbrev pub enqueue_statement : Part
+enqueue_statement = enqueue_head ▸ of block
 
 -- return [ expr ] ;
 abbrev pub return_form : Part
