@@ -1,0 +1,3 @@
+pub mod Bools
+pub mod BalancedLists
+pub mod NotParts

@@ -1,0 +1,6 @@
+//! Whether two trees are the same, spans aside.
+#![tactic(auto)]
+
+mod balanced;
+mod list;
+mod token;
