@@ -6,7 +6,8 @@ use Rattle.slicc_ast.specs.declared.tree.token.TokenKind.TheVariants.{Sign}
 use Rattle.slicc_ast.specs.declared.tree.token.Sign.TheVariants.{OpenParenthesis, OpenBracket, OpenBrace, CloseParenthesis, CloseBracket, CloseBrace}
 use Rattle.slicc_ast.specs.Names.{sign, balanced_part, balanced_row, balanced_list}
 use Rattle.slicc_ast.specs.Outline.{Outline, node, Parts, part, shape_of, shape_in}
-use Rattle.slicc_same.specs.Alike.{alike, alike_in, alike_kind, alike_part, all_alike, same_parts}
+use Rattle.slicc_same.specs.Alike.{alike, alike_in, alike_kind, all_alike, same_parts}
+use Rattle.slicc_same.specs.AlikeItems.{alike_part}
 use Rattle.slicc_same.proofs.Bools.{and_true, and_false, and_grouped}
 
 pub list_of_row : (n : _) (row : Row_of-Part n) → balanced_row row ≡ balanced_list (items-the_row-Part n row)

@@ -1,3 +1,4 @@
 pub mod Bools
 pub mod BalancedLists
 pub mod NotParts
+pub mod ItemLists

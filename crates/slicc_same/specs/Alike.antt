@@ -9,8 +9,6 @@ use Rattle.slicc_ast.specs.declared.tree.token.Word.{Word as Reserved}
 use Rattle.slicc_ast.specs.declared.tree.token.Word.TheVariants.{Protocol, Include, Machine, Enumeration, StateDeclaration, Structure, InPort, OutPort, Action, Transition, Peek, Enqueue, StallAndWait, CheckAllocate, If, Else, Return, True, False, Ood, New, IsValid, IsInvalid, StaticCast, Error, Assert, Dprintf, AppendTransitionComment, While}
 use Rattle.slicc_ast.specs.declared.tree.token.Sign.{Sign as SignKind}
 use Rattle.slicc_ast.specs.declared.tree.token.Sign.TheVariants.{OpenBrace, CloseBrace, OpenParenthesis, CloseParenthesis, OpenBracket, CloseBracket, Semicolon, Colon, Comma, Dot, Equals, Assign, Equal, Unequal, Less, Greater, LessOrEqual, GreaterOrEqual, Plus, Minus, Star, Not, And, Or}
-use Rattle.slicc_ast.specs.declared.tree.balanced.Part.{Part}
-use Rattle.slicc_ast.specs.Names.{balanced_part}
 use Rattle.slicc_ast.specs.Outline.{Outline, node, Parts, none, token, part, provided, shape_of, shape_in}
 
 abbrev pub word_number : Reserved → ℕ
@@ -102,7 +100,3 @@ abbrev pub all_alike : {A : Type 0} → (A → A → Bool) → List A → List A
 all_alike one [] [] = true
 all_alike one (a ∷ more) (b ∷ others) = one a b && all_alike one more others
 all_alike one _ _ = false
-
--- balanced parts are alike
-abbrev pub alike_part : Part → Part → Bool
-alike_part a b = same_parts (balanced_part a none) (balanced_part b none)

@@ -1,7 +1,8 @@
 //! Balanced parts.
 ghost use Rattle.std.specs.Prelude.{◌≡◌};
 ghost use Rattle.slicc_ast.specs.Names.{balanced_list};
-ghost use Rattle.slicc_same.specs.Alike.{alike_part, all_alike, same_parts};
+ghost use Rattle.slicc_same.specs.Alike.{all_alike, same_parts};
+ghost use Rattle.slicc_same.specs.AlikeItems.{alike_part};
 
 use crate::token::same_kind;
 use slicc_ast::tree::{Balanced, Part};

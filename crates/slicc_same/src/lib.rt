@@ -2,5 +2,6 @@
 #![tactic(auto)]
 
 mod balanced;
+mod declaration;
 mod list;
 mod token;
