@@ -5,12 +5,14 @@ use Rattle.slicc_ast.specs.declared.tree.balanced.Part.{Part}
 use Rattle.slicc_ast.specs.declared.tree.declaration.State.{State}
 use Rattle.slicc_ast.specs.declared.tree.declaration.Symbol.{Symbol}
 use Rattle.slicc_ast.specs.declared.tree.expression.Operand.{Operand}
+use Rattle.slicc_ast.specs.declared.tree.expression.Expr.{Expr}
+use Rattle.slicc_ast.specs.declared.tree.expression.Suffix.{Suffix}
 use Rattle.slicc_ast.specs.declared.tree.name.Name.{Name}
 use Rattle.slicc_ast.specs.declared.tree.statement.ElseIf.{ElseIf}
 use Rattle.slicc_ast.specs.Outline.{none}
 use Rattle.slicc_ast.specs.Names.{balanced_part}
 use Rattle.slicc_ast.specs.Declarations.{pair_list}
-use Rattle.slicc_ast.specs.Expressions.{expr, operator_sign}
+use Rattle.slicc_ast.specs.Expressions.{expr, operator_sign, suffix}
 use Rattle.slicc_ast.specs.Statements.{block_end, stmt_list}
 use Rattle.slicc_same.specs.Alike.{same_parts, same_shape, sign_number}
 
@@ -29,6 +31,12 @@ abbrev pub alike_state : State → State → Bool
 alike_state a b =
     alike_name a.name b.name && alike_name a.owner b.owner && alike_name a.permission b.permission
     && same_parts (pair_list a.pairs.items.items) (pair_list b.pairs.items.items)
+
+abbrev pub alike_expr : Expr → Expr → Bool
+alike_expr a b = same_shape (expr a) (expr b)
+
+abbrev pub alike_suffix : Suffix → Suffix → Bool
+alike_suffix a b = same_shape (suffix a) (suffix b)
 
 -- an operator and its operand
 abbrev pub alike_operand : Operand → Operand → Bool

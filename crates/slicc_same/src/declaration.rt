@@ -111,7 +111,10 @@ impl Same for Member {
         match (self, other) {
             (
                 Member::Field {
-                    kind, name, pairs, ..
+                    kind,
+                    name,
+                    pairs,
+                    ..
                 },
                 Member::Field {
                     kind: other_kind,

@@ -3,5 +3,6 @@
 
 mod balanced;
 mod declaration;
+mod expression;
 mod list;
 mod token;
