@@ -4,3 +4,5 @@ pub mod NotParts
 pub mod ItemLists
 pub mod NotExpressions
 pub mod ExpressionLists
+pub mod StatementLists
+pub mod Symmetric

@@ -18,14 +18,6 @@ not_open : (op : Operator) → (sign_number (operator_sign op) == 2) ≡ false
 not_open Or = refl
 not_open op = refl
 
-colon_not : (op : Operator) → (7 == sign_number (operator_sign op)) ≡ false
-colon_not Or = refl
-colon_not op = refl
-
-open_not : (op : Operator) → (2 == sign_number (operator_sign op)) ≡ false
-open_not Or = refl
-open_not op = refl
-
 pub operands_colon : (l : ℕ) {n : _} (row : Row_of-Operand n) (p : Parts) → alike_in (shape_in (operand_row l row)) (token (SignToken Colon) p) ≡ false
 operands_colon l end_of-Operand p = refl
 operands_colon l (more_of-Operand op value row) p = ap (λ b. b && alike_in (shape_in (part (expr value) (operand_row l row))) p) (not_colon op)
@@ -34,18 +26,6 @@ pub operands_open : (l : ℕ) {n : _} (row : Row_of-Operand n) (p : Parts) → a
 operands_open l end_of-Operand p = refl
 operands_open l (more_of-Operand op value row) p = ap (λ b. b && alike_in (shape_in (part (expr value) (operand_row l row))) p) (not_open op)
 
-pub colon_operands : (l : ℕ) {n : _} (row : Row_of-Operand n) (p : Parts) → alike_in (token (SignToken Colon) p) (shape_in (operand_row l row)) ≡ false
-colon_operands l end_of-Operand p = refl
-colon_operands l (more_of-Operand op value row) p = ap (λ b. b && alike_in p (shape_in (part (expr value) (operand_row l row)))) (colon_not op)
-
-pub open_operands : (l : ℕ) {n : _} (row : Row_of-Operand n) (p : Parts) → alike_in (token (SignToken OpenParenthesis) p) (shape_in (operand_row l row)) ≡ false
-open_operands l end_of-Operand p = refl
-open_operands l (more_of-Operand op value row) p = ap (λ b. b && alike_in p (shape_in (part (expr value) (operand_row l row)))) (open_not op)
-
 pub suffixes_token : {n : _} (row : Row_of-Suffix n) (k : _) (p : Parts) → alike_in (shape_in (suffix_row row)) (token k p) ≡ false
 suffixes_token end_of-Suffix k p = refl
 suffixes_token (more_of-Suffix first row) k p = refl
-
-pub token_suffixes : {n : _} (row : Row_of-Suffix n) (k : _) (p : Parts) → alike_in (token k p) (shape_in (suffix_row row)) ≡ false
-token_suffixes end_of-Suffix k p = refl
-token_suffixes (more_of-Suffix first row) k p = refl

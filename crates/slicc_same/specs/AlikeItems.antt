@@ -1,5 +1,5 @@
 -- Whether two items of a list of a tree are the same but for spans.
-use Rattle.std.specs.Prelude.{◌==◌, ◌&&◌, Bool}
+use Rattle.std.specs.Prelude.{◌==◌, ◌&&◌, Bool, true, false, Option, Some, None}
 use Rattle.std.specs.Str.{bytes_eq}
 use Rattle.slicc_ast.specs.declared.tree.balanced.Part.{Part}
 use Rattle.slicc_ast.specs.declared.tree.declaration.State.{State}
@@ -9,11 +9,13 @@ use Rattle.slicc_ast.specs.declared.tree.expression.Expr.{Expr}
 use Rattle.slicc_ast.specs.declared.tree.expression.Suffix.{Suffix}
 use Rattle.slicc_ast.specs.declared.tree.name.Name.{Name}
 use Rattle.slicc_ast.specs.declared.tree.statement.ElseIf.{ElseIf}
+use Rattle.slicc_ast.specs.declared.tree.statement.Block.{Block}
+use Rattle.slicc_ast.specs.declared.tree.statement.Stmt.{Stmt}
 use Rattle.slicc_ast.specs.Outline.{none}
 use Rattle.slicc_ast.specs.Names.{balanced_part}
 use Rattle.slicc_ast.specs.Declarations.{pair_list}
 use Rattle.slicc_ast.specs.Expressions.{expr, operator_sign, suffix}
-use Rattle.slicc_ast.specs.Statements.{block_end, stmt_list}
+use Rattle.slicc_ast.specs.Statements.{block_end, stmt, stmt_list}
 use Rattle.slicc_same.specs.Alike.{same_parts, same_shape, sign_number}
 
 abbrev pub alike_part : Part → Part → Bool
@@ -49,3 +51,11 @@ abbrev pub alike_else_if : ElseIf → ElseIf → Bool
 alike_else_if a b =
     same_shape (expr a.condition) (expr b.condition)
     && same_parts (stmt_list a.then.statements.items block_end) (stmt_list b.then.statements.items block_end)
+
+abbrev pub alike_stmt : Stmt → Stmt → Bool
+alike_stmt a b = same_shape (stmt a) (stmt b)
+
+abbrev pub alike_else : Option Block → Option Block → Bool
+alike_else None None = true
+alike_else (Some a) (Some b) = same_parts (stmt_list a.statements.items block_end) (stmt_list b.statements.items block_end)
+alike_else _ _ = false

@@ -5,4 +5,5 @@ mod balanced;
 mod declaration;
 mod expression;
 mod list;
+mod statement;
 mod token;

@@ -1,10 +1,14 @@
-use Rattle.std.proofs.Common.{rules}
+use Rattle.std.proofs.Common.{rules, ◌≡◌, false, ◌∙◌}
 use Rattle.slicc_ast.specs.declared.tree.expression.Expr.TheViews.{the_lemmas}
 use Rattle.slicc_ast.proofs.RowsOfExpressions.{args_of_row, operands_of_row, suffixes_of_row}
 use Rattle.slicc_same.specs.AlikeItems.{alike_expr}
 use Rattle.slicc_same.proofs.Bools.{and_true, and_false, listed}
 use Rattle.slicc_same.proofs.ExpressionLists.{args_alike, operands_alike, operands_suffixes, suffixes_alike, suffixes_operands}
-use Rattle.slicc_same.proofs.NotExpressions.{operands_colon, operands_open, colon_operands, open_operands, suffixes_token, token_suffixes}
+use Rattle.slicc_same.proofs.NotExpressions.{operands_colon, operands_open, suffixes_token}
+use Rattle.slicc_same.proofs.Symmetric.{symmetric}
+use Rattle.slicc_ast.specs.Expressions.{expr}
+use Rattle.slicc_ast.specs.Outline.{shape_of}
+use Rattle.slicc_same.specs.Alike.{same_shape}
 use Rattle.slicc_same.proofs.expression.+expression.Goals as goal
 
 pub same_args-returns : goal.same_args-returns
@@ -43,7 +47,11 @@ pub same_expr-returns-in_default-2 : goal.same_expr-returns-in_default-2
 same_expr-returns-in_default-2 t c = search (rules, the_lemmas, and_false, suffixes_token)
 
 pub same_expr-returns-in_default-10 : goal.same_expr-returns-in_default-10
-same_expr-returns-in_default-10 t c = search (rules, the_lemmas, and_false, colon_operands, token_suffixes)
+same_expr-returns-in_default-10 t c =
+    let turned : false ≡ same_shape (expr c.args.b.now) (expr c.args.a.now) = search (rules, the_lemmas, and_false, operands_colon, suffixes_token) in
+    turned ∙ symmetric (shape_of (expr c.args.b.now)) (shape_of (expr c.args.a.now))
 
 pub same_expr-returns-in_default-11 : goal.same_expr-returns-in_default-11
-same_expr-returns-in_default-11 t c = search (rules, the_lemmas, and_false, open_operands, token_suffixes)
+same_expr-returns-in_default-11 t c =
+    let turned : false ≡ same_shape (expr c.args.b.now) (expr c.args.a.now) = search (rules, the_lemmas, and_false, operands_open, suffixes_token) in
+    turned ∙ symmetric (shape_of (expr c.args.b.now)) (shape_of (expr c.args.a.now))
