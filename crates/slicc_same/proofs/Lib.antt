@@ -6,3 +6,5 @@ pub mod NotExpressions
 pub mod ExpressionLists
 pub mod StatementLists
 pub mod Symmetric
+pub mod MachineLists
+pub mod Equal

@@ -5,5 +5,9 @@ mod balanced;
 mod declaration;
 mod expression;
 mod list;
+mod machine;
 mod statement;
 mod token;
+mod tree;
+
+pub use tree::same;

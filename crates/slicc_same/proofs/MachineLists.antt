@@ -1,0 +1,57 @@
+-- Lists in machines and files are alike where their items are.
+use Rattle.std.proofs.Common.{◌≡◌, ◌&&◌, Bool, true, false, List, [], ◌∷◌, refl, sym, ap, ◌∙◌}
+use Rattle.slicc_ast.specs.declared.tree.item.Item.{Item}
+use Rattle.slicc_ast.specs.declared.tree.machine.Decl.{Decl}
+use Rattle.slicc_ast.specs.declared.tree.machine.Parameter.{Parameter}
+use Rattle.slicc_ast.specs.declared.tree.name.Name.{Name}
+use Rattle.slicc_ast.specs.declared.tree.token.Sign.TheVariants.{OpenBrace, CloseBrace}
+use Rattle.slicc_ast.specs.Outline.{Parts, none}
+use Rattle.slicc_ast.specs.Names.{sign}
+use Rattle.slicc_ast.specs.Machines.{action_list, decl, decl_list, more_names, name_list, parameter, parameter_list}
+use Rattle.slicc_ast.specs.Trees.{item, item_list}
+use Rattle.slicc_same.specs.Alike.{all_alike, same_parts, same_shape}
+use Rattle.slicc_same.specs.AlikeItems.{alike_name}
+use Rattle.slicc_same.proofs.Bools.{and_grouped}
+
+name_step : (a r s : Bool) → r ≡ s → (a && true) && r ≡ a && s
+name_step true r s is = is
+name_step false r s is = refl
+
+more_names_alike : (xs ys : List Name) → same_parts (more_names xs (sign CloseBrace none)) (more_names ys (sign CloseBrace none)) ≡ all_alike alike_name xs ys
+more_names_alike [] [] = refl
+more_names_alike [] (y ∷ ys) = refl
+more_names_alike (x ∷ xs) [] = refl
+more_names_alike (x ∷ xs) (y ∷ ys) = name_step (alike_name x y) _ _ (more_names_alike xs ys)
+
+pub names_alike : (xs ys : List Name) → same_parts (name_list xs (sign CloseBrace none)) (name_list ys (sign CloseBrace none)) ≡ all_alike alike_name xs ys
+names_alike [] [] = refl
+names_alike [] (y ∷ ys) = refl
+names_alike (x ∷ xs) [] = refl
+names_alike (x ∷ xs) (y ∷ ys) = name_step (alike_name x y) _ _ (more_names_alike xs ys)
+
+pub actions_alike : (xs ys : List Name) → same_parts (action_list xs (sign CloseBrace none)) (action_list ys (sign CloseBrace none)) ≡ all_alike alike_name xs ys
+actions_alike [] [] = refl
+actions_alike [] (y ∷ ys) = refl
+actions_alike (x ∷ xs) [] = refl
+actions_alike (x ∷ xs) (y ∷ ys) = name_step (alike_name x y) _ _ (actions_alike xs ys)
+
+pub decls_alike : (xs ys : List Decl) → same_parts (decl_list xs (sign CloseBrace none)) (decl_list ys (sign CloseBrace none)) ≡ all_alike (λ a b. same_shape (decl a) (decl b)) xs ys
+decls_alike [] [] = refl
+decls_alike [] (y ∷ ys) = refl
+decls_alike (x ∷ xs) [] = refl
+decls_alike (x ∷ xs) (y ∷ ys) = ap (λ b. same_shape (decl x) (decl y) && b) (decls_alike xs ys)
+
+pub items_alike : (xs ys : List Item) → same_parts (item_list xs) (item_list ys) ≡ all_alike (λ a b. same_shape (item a) (item b)) xs ys
+items_alike [] [] = refl
+items_alike [] (y ∷ ys) = refl
+items_alike (x ∷ xs) [] = refl
+items_alike (x ∷ xs) (y ∷ ys) = ap (λ b. same_shape (item x) (item y) && b) (items_alike xs ys)
+
+-- parameters before the brace of a machine
+pub parameters_alike : (xs ys : List Parameter) (p q : Parts) → same_parts (parameter_list xs (sign OpenBrace p)) (parameter_list ys (sign OpenBrace q)) ≡ all_alike (λ a b. same_shape (parameter a) (parameter b)) xs ys && same_parts p q
+parameters_alike [] [] p q = refl
+parameters_alike [] (y ∷ ys) p q = refl
+parameters_alike (x ∷ xs) [] p q = refl
+parameters_alike (x ∷ xs) (y ∷ ys) p q =
+    ap (λ b. same_shape (parameter x) (parameter y) && b) (parameters_alike xs ys p q)
+    ∙ and_grouped (same_shape (parameter x) (parameter y)) (all_alike (λ a b. same_shape (parameter a) (parameter b)) xs ys) (same_parts p q)
