@@ -1,5 +1,5 @@
 -- Outlines that are alike have one shape, and the other way round.
-use Rattle.std.proofs.Common.{◌≡◌, ◌↔◌, ◌==◌, ◌&&◌, ℕ, Bool, true, false, refl, sym, subst, ap, ◌∙◌}
+use Rattle.std.proofs.Common.{rules, ◌≡◌, ◌↔◌, ◌&&◌, Bool, true, refl, sym, ap, ◌∙◌}
 use Rattle.std.proofs.lemmas.Bool.{and_parts, false≢true}
 use Rattle.std.proofs.lemmas.Bool.Decides.{Decides-eqb, Decides-int_eq}
 use Rattle.std.proofs.lemmas.Cmp.{int_eq_equiv, nat_eq_equiv, nat_list_eq_equiv}
@@ -12,10 +12,10 @@ use Rattle.slicc_ast.specs.Outline.{Outline, node, Parts, none, token, part, pro
 use Rattle.slicc_same.specs.Alike.{alike, alike_in, alike_kind, same_shape, sign_number, word_number}
 
 same_word : (a b : Reserved) → word_number a ≡ word_number b → a ≡ b
-same_word a b is = ?
+same_word a b is = search rules
 
 same_sign : (a b : SignKind) → sign_number a ≡ sign_number b → a ≡ b
-same_sign a b is = ?
+same_sign a b is = search rules
 
 equal_kinds : (a b : TokenKind) → alike_kind a b ≡ true → a ≡ b
 equal_kinds (Named a) (Named b) is = ap Named ((bytes_eq-Decides a b).0 is)

@@ -1,5 +1,5 @@
 -- Lists of a tree's parts are alike where their items are.
-use Rattle.std.proofs.Common.{◌≡◌, ◌&&◌, Bool, true, false, List, [], ◌∷◌, refl, sym, ap, ◌∙◌}
+use Rattle.std.proofs.Common.{◌≡◌, ◌&&◌, Bool, true, false, List, [], ◌∷◌, refl, ap}
 use Rattle.slicc_ast.specs.declared.tree.declaration.Formal.{Formal}
 use Rattle.slicc_ast.specs.declared.tree.declaration.Member.{Member}
 use Rattle.slicc_ast.specs.declared.tree.declaration.Pair.{Pair}

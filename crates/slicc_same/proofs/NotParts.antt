@@ -1,5 +1,5 @@
 -- What a balanced part is, and that a part of one kind is like none of another kind.
-use Rattle.std.proofs.Common.{◌≡◌, Bool, false, refl, sym, subst}
+use Rattle.std.proofs.Common.{◌≡◌, false, refl, sym, subst}
 use Rattle.slicc_ast.specs.declared.tree.balanced.Balanced.{Balanced}
 use Rattle.slicc_ast.specs.declared.tree.balanced.Part.{Part}
 use Rattle.slicc_ast.specs.declared.tree.balanced.Part.TheOpen as layer

@@ -1,10 +1,8 @@
 -- Lists of statements, and those behind an `if`, are alike where their items are.
-use Rattle.std.proofs.Common.{rules, ◌==◌, ◌≡◌, ◌&&◌, Bool, true, false, Option, Some, None, List, [], ◌∷◌, refl, sym, ap, ◌∙◌}
-use Rattle.slicc_ast.specs.declared.tree.expression.Expr.{Expr}
-use Rattle.slicc_ast.specs.declared.tree.span.Span.{Span}
+use Rattle.std.proofs.Common.{rules, ◌==◌, ◌≡◌, ◌&&◌, Bool, true, false, Option, Some, None, List, [], ◌∷◌, refl, ap, ◌∙◌}
 use Rattle.slicc_ast.specs.declared.tree.statement.Block.{Block}
 use Rattle.slicc_ast.specs.declared.tree.statement.ElseIf.{ElseIf}
-use Rattle.slicc_ast.specs.declared.tree.statement.If.{If, If', None', Some', Held-If-otherwise, Row_of-ElseIf, end_of-ElseIf, more_of-ElseIf, items-the_row-ElseIf, out-If}
+use Rattle.slicc_ast.specs.declared.tree.statement.If.{If, If', None', Some', Row_of-ElseIf, end_of-ElseIf, more_of-ElseIf, items-the_row-ElseIf, out-If}
 use Rattle.slicc_ast.specs.declared.tree.statement.PrintWord.{PrintWord}
 use Rattle.slicc_ast.specs.declared.tree.statement.PrintWord.TheVariants.{Dprintf}
 use Rattle.slicc_ast.specs.declared.tree.statement.Stmt.{Stmt, Row_of-Stmt, end_of-Stmt, more_of-Stmt, items-the_row-Stmt}
@@ -14,7 +12,7 @@ use Rattle.slicc_ast.specs.declared.tree.token.Word.TheVariants.{Else, If as IfW
 use Rattle.slicc_ast.specs.Expressions.{expr}
 use Rattle.slicc_ast.specs.Names.{sign, word}
 use Rattle.slicc_ast.specs.Outline.{Outline, node, Parts, none, part}
-use Rattle.slicc_ast.specs.Statements.{block_end, block_part, else_if_row, else_part, if_outline, print_word, stmt, stmt_list, stmt_row}
+use Rattle.slicc_ast.specs.Statements.{block_end, block_part, else_if_row, if_outline, print_word, stmt, stmt_list, stmt_row}
 use Rattle.slicc_same.specs.Alike.{all_alike, same_parts, same_shape, word_number}
 use Rattle.slicc_same.specs.AlikeItems.{alike_else, alike_else_if, alike_stmt}
 

@@ -1,10 +1,10 @@
 -- What is alike one way is alike the other way.
-use Rattle.std.proofs.Common.{◌≡◌, ◌==◌, ◌&&◌, Bool, refl, ap, ◌∙◌}
+use Rattle.std.proofs.Common.{◌≡◌, ◌&&◌, refl, ap, ◌∙◌}
 use Rattle.std.proofs.lemmas.Cmp.{int_eq_equiv, nat_eq_equiv, nat_list_eq_equiv}
 use Rattle.slicc_ast.specs.declared.tree.token.TokenKind.{TokenKind}
 use Rattle.slicc_ast.specs.declared.tree.token.TokenKind.TheVariants.{Name as Named, Number, Quoted, Word, Sign, End}
-use Rattle.slicc_ast.specs.Outline.{Outline, node, Parts, none, token, part, provided, shape_of}
-use Rattle.slicc_same.specs.Alike.{alike, alike_in, alike_kind, same_shape, sign_number, word_number}
+use Rattle.slicc_ast.specs.Outline.{Outline, node, Parts, none, token, part, provided}
+use Rattle.slicc_same.specs.Alike.{alike, alike_in, alike_kind, sign_number, word_number}
 
 kind_symmetric : (a b : TokenKind) → alike_kind a b ≡ alike_kind b a
 kind_symmetric (Named a) (Named b) = nat_list_eq_equiv.symm a b

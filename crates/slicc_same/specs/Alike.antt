@@ -9,7 +9,7 @@ use Rattle.slicc_ast.specs.declared.tree.token.Word.{Word as Reserved}
 use Rattle.slicc_ast.specs.declared.tree.token.Word.TheVariants.{Protocol, Include, Machine, Enumeration, StateDeclaration, Structure, InPort, OutPort, Action, Transition, Peek, Enqueue, StallAndWait, CheckAllocate, If, Else, Return, True, False, Ood, New, IsValid, IsInvalid, StaticCast, Error, Assert, Dprintf, AppendTransitionComment, While}
 use Rattle.slicc_ast.specs.declared.tree.token.Sign.{Sign as SignKind}
 use Rattle.slicc_ast.specs.declared.tree.token.Sign.TheVariants.{OpenBrace, CloseBrace, OpenParenthesis, CloseParenthesis, OpenBracket, CloseBracket, Semicolon, Colon, Comma, Dot, Equals, Assign, Equal, Unequal, Less, Greater, LessOrEqual, GreaterOrEqual, Plus, Minus, Star, Not, And, Or}
-use Rattle.slicc_ast.specs.Outline.{Outline, node, Parts, none, token, part, provided, shape_of, shape_in}
+use Rattle.slicc_ast.specs.Outline.{Outline, node, Parts, none, token, part, shape_of, shape_in}
 
 abbrev pub word_number : Reserved → ℕ
 word_number Protocol = 0

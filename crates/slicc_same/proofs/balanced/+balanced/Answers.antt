@@ -1,5 +1,5 @@
 use Rattle.slicc_same.proofs.NotParts.{not_token, not_parentheses, not_brackets, not_braces}
-use Rattle.std.proofs.Common.{rules, sym, ◌∙◌}
+use Rattle.std.proofs.Common.{rules}
 use Rattle.slicc_ast.specs.declared.tree.balanced.Part.TheViews.{the_lemmas}
 use Rattle.slicc_same.proofs.Bools.{and_true, and_false, listed}
 use Rattle.slicc_same.specs.AlikeItems.{alike_part}

@@ -1,4 +1,3 @@
-use Rattle.std.proofs.Common.{rules}
 use Rattle.slicc_ast.specs.Declarations.{formal}
 use Rattle.slicc_same.specs.Alike.{same_shape}
 use Rattle.slicc_same.proofs.Bools.{listed}

@@ -1,4 +1,3 @@
-use Rattle.std.proofs.Common.{rules}
 use Rattle.slicc_ast.specs.Trees.{tree}
 use Rattle.slicc_same.proofs.Equal.{shapes_equal}
 use Rattle.slicc_same.proofs.tree.same.Goals as goal
