@@ -1,3 +1,4 @@
+pub mod RowsOfExpressions
 pub mod SpansOfLists
 pub mod SpansOfParts
 pub mod SpansOfStatements

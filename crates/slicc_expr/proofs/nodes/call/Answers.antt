@@ -1,6 +1,6 @@
 use Rattle.std.proofs.Common.{rules}
 use Rattle.slicc_ast.specs.declared.tree.expression.Expr.TheViews.{the_lemmas}
-use Rattle.slicc_expr.proofs.Rows.{args_of_row}
+use Rattle.slicc_ast.proofs.RowsOfExpressions.{args_of_row}
 use Rattle.slicc_expr.proofs.nodes.call.Goals as goal
 
 pub returns-clause-spells : goal.returns-clause-spells

@@ -1,0 +1,21 @@
+-- Rows of Booleans that are joined by `and`, in another grouping.
+use Rattle.std.proofs.Common.{◌≡◌, ◌&&◌, Bool, true, false, List, refl, sym, ap, ◌∙◌}
+use Rattle.slicc_same.specs.Alike.{all_alike}
+
+pub and_true : (a : Bool) → a && true ≡ a
+and_true true = refl
+and_true false = refl
+
+pub and_false : (a : Bool) → a && false ≡ false
+and_false true = refl
+and_false false = refl
+
+pub and_grouped : (a b c : Bool) → a && (b && c) ≡ (a && b) && c
+and_grouped true b c = refl
+and_grouped false b c = refl
+
+-- what a comparison of lists answers, by what else says the same
+pub listed : {A : Type 0} (one : A → A → Bool) (xs ys as_lent bs_lent : List A) (r whole : Bool)
+    → r ≡ all_alike one as_lent bs_lent → as_lent ≡ xs → bs_lent ≡ ys → whole ≡ all_alike one xs ys → r ≡ whole
+listed one xs ys as_lent bs_lent r whole is a b same =
+    is ∙ ap (λ l. all_alike one l bs_lent) a ∙ ap (λ l. all_alike one xs l) b ∙ sym same

@@ -1,0 +1,7 @@
+use Rattle.std.proofs.Common.{rules}
+use Rattle.slicc_same.proofs.Bools.{and_true}
+use Rattle.slicc_same.proofs.ItemLists.{symbols_alike}
+use Rattle.slicc_same.proofs.declaration.same_enumeration.Goals as goal
+
+pub returns-then-same_pairs : goal.returns-then-same_pairs
+returns-then-same_pairs c = search (rules, and_true, symbols_alike)
