@@ -1,0 +1,5 @@
+mod Folders
+mod ReadTexts
+mod WantedItems
+mod TreeTexts
+mod Stepping
