@@ -3,3 +3,7 @@ mod ReadTexts
 mod WantedItems
 mod TreeTexts
 mod Stepping
+mod SameWants
+mod OneText
+mod OneGathering
+mod OneNameEach

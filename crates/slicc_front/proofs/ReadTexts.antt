@@ -1,5 +1,5 @@
 -- From what the lexer and the parser answer to what a text is read as.
-use Rattle.std.proofs.Common.{◌≡◌, ◌<◌, ◌≤◌, ◌+◌, ◌++◌, ◌⊎◌, inl, inr, ℕ, Option, None, Some, Result, Ok, Err, List, [], ◌∷◌, length, map, refl, sym, subst, ap, ◌∙◌, arith, length-append, IsSomeAnd, MatchResult}
+use Rattle.std.proofs.Common.{◌≡◌, ◌<◌, ◌+◌, ◌++◌, ◌⊎◌, inl, inr, ℕ, Option, None, Some, Result, Ok, Err, List, ◌∷◌, length, refl, sym, subst, ap, ◌∙◌, arith, length-append, IsSomeAnd, MatchResult}
 use Rattle.std.proofs.lemmas.List.{length-map}
 use Rattle.std.specs.List.{slice_get}
 use Rattle.slicc_ast.specs.declared.tree.item.Tree.{Tree}
@@ -12,7 +12,7 @@ use Rattle.slicc_grammar.specs.Written.{written}
 use Rattle.slicc_lex.specs.declared.fault.LexFault.{LexFault}
 use Rattle.slicc_lex.specs.declared.fault.LexFault.TheVariants.{NoMemory}
 use Rattle.slicc_lex.specs.declared.token.Token.{Token}
-use Rattle.slicc_lex.specs.Syntax.{IsBadAt, IsDeepAt, IsStoppedAt, symbols}
+use Rattle.slicc_lex.specs.Syntax.{IsBadAt, IsDeepAt, symbols}
 use Rattle.slicc_lex.specs.Tokens.{Reads}
 use Rattle.slicc_front.specs.declared.reading.Broken.{Broken}
 use Rattle.slicc_front.specs.declared.reading.TextFault.{TextFault}

@@ -1,22 +1,20 @@
 -- One step of gathering and what is left to do after it.
-use Rattle.std.proofs.Common.{◌≡◌, ◌<◌, ◌≤◌, ◌+◌, ◌-◌, ◌*◌, ◌++◌, ◌⊎◌, inl, inr, ℕ, true, false, Option, None, Some, Result, Ok, Err, List, [], ◌∷◌, length, reverse, refl, sym, subst, ap, ◌∙◌, arith, length-append, append_assoc, All, IsUtf8, IfNone, IsSomeAnd, MatchOption, codes}
+use Rattle.std.proofs.Common.{◌≡◌, ◌<◌, ◌≤◌, ◌+◌, ◌++◌, inl, inr, ℕ, true, false, Option, None, Some, List, [], ◌∷◌, length, reverse, refl, sym, subst, ap, ◌∙◌, arith, length-append, append_assoc, All, IsUtf8, IfNone, IsSomeAnd, MatchOption, codes}
 use Rattle.std.proofs.lemmas.List.{append-nil, length-reverse, reverse-append, reverse-reverse}
-use Rattle.std.proofs.lemmas.List.Elements.{All-append, All-cons, All-nil, All-head, All-push, All-tail, All-weaker}
+use Rattle.std.proofs.lemmas.List.Elements.{All-append, All-nil, All-head, All-push, All-tail, All-weaker}
 use Rattle.std.specs.List.{slice_get}
 use Rattle.ruby_outside.specs.declared.library.Got.{Got}
 use Rattle.ruby_outside.specs.declared.library.Got.TheVariants as got
 use Rattle.slicc_ast.specs.declared.tree.item.Tree.{Tree}
 use Rattle.slicc_front.specs.declared.gathered.Gathered.{Gathered}
-use Rattle.slicc_front.specs.declared.gathered.Gathered.TheVariants.{Files, Refused, Absent, TooLarge, ReadFault, NoMemory}
+use Rattle.slicc_front.specs.declared.gathered.Gathered.TheVariants.{Files}
 use Rattle.slicc_front.specs.declared.gathered.Source.{Source}
-use Rattle.slicc_front.specs.declared.reading.Broken.{Broken}
 use Rattle.slicc_front.specs.declared.state.State.{State}
 use Rattle.slicc_front.specs.declared.state.Wanted.{Wanted}
-use Rattle.slicc_front.specs.Gathering.{IsGathered, IsNext, is_seen, most_files, read_of, refusal, source_of, wanted_of}
+use Rattle.slicc_front.specs.Gathering.{IsGathered, IsNext, is_seen, most_files, read_of, source_of, wanted_of}
 use Rattle.slicc_front.specs.Gathering.IsGathered.{finished, went_on, refused, passed_by, one_too_many, no_memory, no_memory_for}
 use Rattle.slicc_front.specs.Reads.{Read, AreMade, file_limit}
 use Rattle.slicc_front.specs.Steps.{AreSound, EndsBy, GoesOnBy, IsRefusalOf, IsRefusedFor, IsShort, IsSound, IsTakenIn, Leads, in_order, steps_left}
-use Rattle.slicc_front.specs.Texts.{IsReadText, code_of}
 use Rattle.slicc_front.proofs.TreeTexts.{few_wanted, sound_wanted}
 
 -- what is wanted after a file was taken in

@@ -1,12 +1,12 @@
 -- What is known of the include lines of a text: there are at most as many as bytes, and what they quote is printable.
-use Rattle.std.proofs.Common.{◌≡◌, ◌<◌, ◌≤◌, ◌+◌, ◌-◌, ◌++◌, ◌&&◌, ℕ, suc, zero, Bool, true, false, IsTrue, not, nat_le, Option, None, Some, Result, Ok, Err, List, [], ◌∷◌, length, map, refl, sym, subst, ap, ◌∙◌, arith, length-append, All, IsUtf8, if◌then◌else◌, slice_index}
+use Rattle.std.proofs.Common.{◌≡◌, ◌<◌, ◌≤◌, ◌+◌, ◌-◌, ◌++◌, ℕ, suc, zero, Bool, true, false, IsTrue, nat_le, Option, None, Some, Result, Ok, Err, List, [], ◌∷◌, length, sym, subst, ap, ◌∙◌, arith, length-append, All, IsUtf8, if◌then◌else◌, slice_index}
 use Rattle.std.proofs.lemmas.Bool.{and_parts}
 use Rattle.std.proofs.lemmas.List.{length-map, map-append}
 use Rattle.std.proofs.lemmas.List.Elements.{All-append, All-cons, All-nil}
 use Rattle.std.proofs.lemmas.Str.{IsUtf8-append, IsUtf8-from_ascii}
 use Rattle.std.specs.List.{flat_map, list_all}
 use Rattle.slicc_ast.specs.Bytes.{is_printable}
-use Rattle.slicc_ast.specs.Outline.{kinds_in, kinds_of, part}
+use Rattle.slicc_ast.specs.Outline.{kinds_in, kinds_of}
 use Rattle.slicc_ast.specs.Trees.{item as item_of, item_list, protocol_parts, tree_parts}
 use Rattle.slicc_ast.specs.declared.tree.item.Item.{Item}
 use Rattle.slicc_ast.specs.declared.tree.item.Item.TheVariants.{Include, Enumeration, Structure, Machine}

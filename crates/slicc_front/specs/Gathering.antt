@@ -3,7 +3,7 @@
 -- counts as no name. The order of reading is that of the trees. The first that is absent, too long or refused, or the include
 -- line of one name too many, is the answer in place of the trees. A lack of memory may come at any time. The limit of names
 -- and how an included file is named are this project's own.
-use Rattle.std.specs.Prelude.{◌≡◌, ◌<◌, ◌≤◌, ◌++◌, ℕ, Bool, true, false, Option, None, Some, Result, Ok, Err, List, [], ◌∷◌, length, codes, if◌then◌else◌}
+use Rattle.std.specs.Prelude.{◌≡◌, ◌<◌, ◌≤◌, ◌++◌, ℕ, Bool, true, false, None, Some, Ok, Err, List, [], ◌∷◌, length, codes, if◌then◌else◌}
 use Rattle.std.specs.List.{flat_map, list_any, slice_get}
 use Rattle.std.specs.Str.{bytes_eq}
 use Rattle.ruby_outside.specs.declared.library.Got.{Got}

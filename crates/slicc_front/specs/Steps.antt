@@ -1,5 +1,5 @@
 -- How far gathering has come, as its functions say it: what is left to do from here leads to the same answer as before.
-use Rattle.std.specs.Prelude.{◌≡◌, ◌+◌, ◌-◌, ◌*◌, ◌≤◌, ◌++◌, ◌⊎◌, ℕ, Option, Result, Ok, Err, List, [], ◌∷◌, length, MatchOption, All, IsUtf8, reverse}
+use Rattle.std.specs.Prelude.{◌≡◌, ◌+◌, ◌-◌, ◌*◌, ◌≤◌, ◌++◌, ◌⊎◌, ℕ, Option, Ok, Err, List, [], ◌∷◌, length, MatchOption, All, IsUtf8, reverse}
 use Rattle.ruby_outside.specs.declared.library.Got.{Got}
 use Rattle.slicc_ast.specs.declared.tree.item.Tree.{Tree}
 use Rattle.slicc_front.specs.Gathering.{IsGathered, most_files, protocol_file, refusal, wanted_of}

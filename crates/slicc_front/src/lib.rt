@@ -4,10 +4,12 @@
 
 mod gathered;
 mod gathering;
+mod laws;
 mod names;
 mod reading;
 mod state;
 
 pub use gathered::{Gathered, Refused, Source};
 pub use gathering::gather;
+pub use laws::{files_are_gathered_in_one_way, texts_are_read_in_one_way};
 pub use reading::{Broken, TextFault, TextRule, read_text};

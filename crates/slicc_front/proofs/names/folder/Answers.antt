@@ -1,4 +1,4 @@
-use Rattle.std.proofs.Common.{◌≡◌, List, ℕ, length, ◌-◌, take, ap, sym, subst, ◌∙◌, IsUtf8}
+use Rattle.std.proofs.Common.{◌≡◌, length, ◌-◌, take, ap, sym, subst, ◌∙◌, IsUtf8}
 use Rattle.slicc_front.specs.Names.{folder_of}
 use Rattle.slicc_front.proofs.Folders.{folder_text}
 use Rattle.slicc_front.proofs.names.folder.Goals as goal
