@@ -2,9 +2,10 @@
 use Rattle.std.proofs.Common.{◌≡◌, List, [], ◌∷◌, ◌++◌, ℕ, ◌≤◌, length, take, refl, sym, subst, ap, ◌∙◌, append_assoc, append-nil}
 use Rattle.std.proofs.lemmas.List.{take_all}
 use Rattle.std.specs.List.{flat_map}
-use Rattle.slicc_ast.specs.declared.tree.expression.Expr.{Expr, Row_of-Expr, end_of-Expr, more_of-Expr, items-the_row-Expr}
+use Rattle.slicc_ast.specs.declared.tree.expression.Expr.{Expr, Row_of-Expr, end_of-Expr, more_of-Expr, items-the_row-Expr, Row_of-Operand, end_of-Operand, more_of-Operand, items-the_row-Operand, Row_of-Suffix, end_of-Suffix, more_of-Suffix, items-the_row-Suffix}
 use Rattle.slicc_ast.specs.Outline.{spans_of, spans_in}
-use Rattle.slicc_ast.specs.Expressions.{expr, args_row, more_args_row, args_list, more_args}
+use Rattle.slicc_ast.specs.Expressions.{expr, suffix, operand_row, suffix_row, args_row, more_args_row, args_list, more_args}
+use Rattle.slicc_ast.specs.Spans.{operand_spans, suffix_spans}
 
 more_args_spans : (es : List Expr) → spans_in (more_args es) ≡ flat_map (λ e. spans_of (expr e)) es
 more_args_spans [] = refl
@@ -22,15 +23,18 @@ pub args_row_spans : (n : _) (row : Row_of-Expr n) → spans_in (args_row row) �
 args_row_spans n end_of-Expr = refl
 args_row_spans n (more_of-Expr first row) = ap (λ spans. spans_of (expr first) ++ spans) (more_args_row_spans row)
 
+pub operand_row_spans : (level : ℕ) (n : _) (row : Row_of-Operand n) → spans_in (operand_row level row) ≡ flat_map operand_spans (items-the_row-Operand n row)
+operand_row_spans level n end_of-Operand = refl
+operand_row_spans level n (more_of-Operand operator value row) = ap (λ spans. spans_of (expr value) ++ spans) (operand_row_spans level _ row)
+
+pub suffix_row_spans : (n : _) (row : Row_of-Suffix n) → spans_in (suffix_row row) ≡ flat_map suffix_spans (items-the_row-Suffix n row)
+suffix_row_spans n end_of-Suffix = refl
+suffix_row_spans n (more_of-Suffix first row) = ap (λ spans. spans_of (suffix first) ++ spans) (suffix_row_spans _ row)
+
 -- spans that were added one after another
 pub added_two : {X : Type 0} (old : List X) (a b : X) (more one two new all : List X) → one ≡ old ++ a ∷ [] → two ≡ one ++ b ∷ [] → new ≡ two ++ more → all ≡ a ∷ b ∷ more → new ≡ old ++ all
 added_two old a b more one two new all p q r s =
     r ∙ ap (λ xs. xs ++ more) (q ∙ ap (λ xs. xs ++ b ∷ []) p ∙ append_assoc old (a ∷ []) (b ∷ [])) ∙ append_assoc old (a ∷ b ∷ []) more ∙ ap (λ xs. old ++ xs) (sym s)
-
-pub added_around : {X : Type 0} (old : List X) (a b : X) (inner more one two three new all : List X) → one ≡ old ++ a ∷ [] → two ≡ one ++ inner → three ≡ two ++ b ∷ [] → new ≡ three ++ more → all ≡ a ∷ inner ++ b ∷ more → new ≡ old ++ all
-added_around old a b inner more one two three new all p i q r s =
-    r ∙ ap (λ xs. xs ++ more) (q ∙ ap (λ xs. xs ++ b ∷ []) (i ∙ ap (λ xs. xs ++ inner) p)) ∙ append_assoc ((old ++ a ∷ []) ++ inner) (b ∷ []) more
-    ∙ append_assoc (old ++ a ∷ []) inner (b ∷ more) ∙ append_assoc old (a ∷ []) (inner ++ b ∷ more) ∙ ap (λ xs. old ++ xs) (sym s)
 
 pub added_all : {X Y : Type 0} (f : Y → List X) (old : List X) (a : X) (items lent : List Y) (i : ℕ) (one new inside : List X) → one ≡ old ++ a ∷ [] → lent ≡ items → length lent ≤ i → new ≡ one ++ flat_map f (take i items) → inside ≡ flat_map f items → new ≡ old ++ a ∷ inside
 added_all f old a items lent i one new inside p same le r s =

@@ -16,7 +16,7 @@ pub use declaration::{
     Enumeration, Formal, Formals, Function, Member, Pair, PairValue, Pairs, Skipped, State, States,
     Structure, Symbol,
 };
-pub use expression::{Args, Expr, Operator};
+pub use expression::{Args, Expr, Operand, Operator, Suffix};
 pub use item::{Item, Tree};
 pub use machine::{
     Action, Decl, InPort, Literal, Machine, Names, Object, OutPort, Parameter, Transition,

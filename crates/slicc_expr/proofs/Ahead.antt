@@ -17,11 +17,11 @@ use Rattle.slicc_grammar.specs.Table.{table}
 use Rattle.slicc_grammar.specs.TokenKinds.{kind_of, number, sign_kind, word_kind}
 use Rattle.slicc_lex.specs.declared.token.Token.{Token}
 use Rattle.slicc_lex.specs.Syntax.{symbols}
-use Rattle.slicc_expr.specs.declared.fault.Fault.{Fault}
+use Rattle.slicc_reading.specs.declared.fault.Fault.{Fault}
 use Rattle.slicc_expr.specs.Levels.{chains, form_at, IsSimple, simple_kinds}
-use Rattle.slicc_expr.specs.Reading.{AreRead, IsRead, IsStopOf, Refuses}
-use Rattle.slicc_expr.proofs.Parts.{as_node, as_tree, at_first, at_no_alternative, behind_read, by_alternative, in_alternative, of_alternative, read_behind, token_read}
-use Rattle.slicc_expr.proofs.Spans.{token_covers}
+use Rattle.slicc_reading.specs.Reading.{AreRead, IsRead, IsStopOf, Refuses}
+use Rattle.slicc_reading.proofs.Parts.{as_node, as_tree, at_first, at_no_alternative, behind_read, by_alternative, in_alternative, of_alternative, read_behind, token_read}
+use Rattle.slicc_reading.proofs.Spans.{token_covers}
 
 or_later : (a b c : Bool) → (a || b) ≡ true → (a || c) ≡ false → (b ≡ true) × (c ≡ false)
 or_later true b c some absent_there = absurd (false≢true (sym absent_there))
@@ -84,6 +84,12 @@ le_true a b le = search rules
 
 pub lt_true : (a b : ℕ) → a < b → IsTrue (nat_lt a b)
 lt_true a b lt = search rules
+
+pub eq_true : (a b : ℕ) → a ≡ b → IsTrue (a == b)
+eq_true a b is = search rules
+
+pub is_true : (b : Bool) → b ≡ true → IsTrue b
+is_true b is = search rules
 
 pub unary_level : (n : ℕ) → 7 ≤ 0 + n → IsTrue (nat_le 7 n)
 unary_level n le = le_true 7 n (omega arith)

@@ -1,11 +1,3 @@
 pub mod Rows
-pub mod Refusals
-pub mod Spans
-pub mod Parts
-pub mod Choices
 pub mod Ahead
-pub mod PairLists
 pub mod Loops
-pub mod Spelled
-pub mod Endless
-pub mod Border

@@ -64,7 +64,7 @@ longer_kinds = word_kind New ∷ word_kind IsValid ∷ word_kind IsInvalid ∷ w
 -- a token makes this expression
 pub record IsSimple (kind : TokenKind) (span : Span) (e : Expr) : Type 0 where
   pub spells : expr e ≡ node span (token kind none)
-  pub tight : 8 ≤ level_of e
+  pub tight : 9 ≤ level_of e
   pub is_kind : has simple_kinds (kind_of kind) ≡ true
 
 -- what is inside the parentheses of a cast

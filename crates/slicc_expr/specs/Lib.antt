@@ -1,4 +1,2 @@
-pub mod Reading
 pub mod Levels
-pub mod Answers
-pub mod Attributes
+pub mod Nodes

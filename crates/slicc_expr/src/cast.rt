@@ -6,14 +6,13 @@ ghost use Rattle.slicc_ast.specs.Outline.{token};
 ghost use Rattle.slicc_ast.specs.declared.tree.token.Sign.TheVariants.{Comma as CommaSign};
 ghost use Rattle.slicc_ast.specs.declared.tree.token.TokenKind.TheVariants.{Quoted as QuotedKind};
 ghost use Rattle.slicc_grammar.specs.Parts.{◌▸◌, comma, string as string_part, type as type_part};
-ghost use Rattle.slicc_expr.specs.Reading.{AreRead, Refuses};
+ghost use Rattle.slicc_reading.specs.Reading.{AreRead, Refuses};
 ghost use Rattle.slicc_expr.specs.Levels.{cast_head as cast_head_part, mode_part};
 
-use crate::fault::Fault;
-use crate::leaf::{is_string, sign, string, type_name};
 use slicc_ast::Text;
 use slicc_ast::tree::{Sign, TypeName};
 use slicc_lex::Token;
+use slicc_reading::{Fault, is_string, sign, string, type_name};
 use std::alloc::Global;
 
 /// A type and a comma.

@@ -1,9 +1,9 @@
 //! Expressions. A cycle of functions, each of which reads one form; what is in brackets, parentheses or behind a unary operator
-//! is read with one more nesting open, so that the cycle goes no deeper than the nesting may. Chains of operators, suffixes and
-//! arguments are loops.
-ghost use Rattle.std.specs.Prelude.{◌≡◌, ◌+◌, ◌∷◌, ◌<◌, ◌≤◌, [], true, length, IfOk, MatchResult};
+//! is read with one more nesting open, so that the cycle goes no deeper than the nesting may. Operands of one level, suffixes and
+//! arguments are read by loops.
+ghost use Rattle.std.specs.Prelude.{◌≡◌, ◌+◌, ◌-◌, ◌∷◌, ◌<◌, ◌≤◌, [], true, length, IfOk, MatchResult};
 ghost use Rattle.grammar_rows.specs.Kinds.{is_ahead};
-ghost use Rattle.slicc_ast.specs.Expressions.{args as args_of, expr, level_of, mode_parts};
+ghost use Rattle.slicc_ast.specs.Expressions.{args as args_of, expr, level_of, list_level, mode_parts, suffix as suffix_of};
 ghost use Rattle.slicc_ast.specs.Names.{name as name_of, sign as sign_of, type_name, word as word_of};
 ghost use Rattle.slicc_ast.specs.Outline.{node, none, part, token};
 ghost use Rattle.slicc_ast.specs.declared.tree.token.Sign.TheVariants.{CloseParenthesis, Comma, Dot, Minus as MinusSign, Not as NotSign, OpenBracket, OpenParenthesis};
@@ -14,18 +14,18 @@ ghost use Rattle.slicc_grammar.specs.Form.Form.{arguments as arguments_form, con
 ghost use Rattle.slicc_grammar.specs.Parts.{◌▸◌, colon, comma, name as name_part, of, optional, parentheses, prefixed as prefixed_part, repeated, sign as sign_part, word as word_part};
 ghost use Rattle.slicc_grammar.specs.TokenKinds.{sign_kind, word_kind};
 ghost use Rattle.slicc_lex.specs.Syntax.{symbols};
-ghost use Rattle.slicc_expr.specs.Levels.{cast_inner, cast_part, chains, enclosed as enclosed_part, form_at};
-ghost use Rattle.slicc_expr.specs.Reading.{AreRead, IsNode, IsRead, Refuses};
+ghost use Rattle.slicc_expr.specs.Levels.{cast_inner, cast_part, chain, chains, enclosed as enclosed_part, form_at, kinds_at};
+ghost use Rattle.slicc_expr.specs.Nodes.{is_some, operands_before, suffixes_before};
+ghost use Rattle.slicc_reading.specs.Reading.{AreRead, IsNode, IsRead, Refuses};
 
 use crate::cast::cast_head;
-use crate::fault::Fault;
-use crate::leaf::{is_name, is_sign, is_word, name, open, refuse, sign, span, word};
 use crate::nodes;
 use crate::operator_signs::operator;
 use crate::values::{begins_expression, begins_simple, new_entry, simple};
 use slicc_ast::Text;
-use slicc_ast::tree::{Args, Expr, Name, Sign, TypeName, Word};
+use slicc_ast::tree::{Args, Expr, Name, Operand, Sign, Suffix, TypeName, Word};
 use slicc_lex::Token;
+use slicc_reading::{Fault, is_name, is_sign, is_word, name, open, refuse, sign, span, word};
 use std::alloc::Global;
 
 /// A node that was made, with the tokens that are left behind it.
@@ -92,21 +92,75 @@ pub fn operators<'t>(
     let mut left = tokens;
     let mut at: u8 = 0;
     'levels: while at < height {
-        match operator(at, left) {
-            None => at += 1,
-            Some((operator, behind)) => match level(alloc, room, at, behind) {
-                Ok((operand, after)) => {
-                    match nodes::binary(alloc, operator, joined, operand, span(start, after)) {
-                        Ok(more) => joined = more,
-                        Err(_) => return Err(Fault::NoMemory),
-                    }
-                    left = after;
-                }
-                Err(fault) => return Err(fault),
-            },
+        match operation(alloc, room, at, start, joined, left) {
+            Ok((more, after)) => {
+                joined = more;
+                left = after;
+                at += 1;
+            }
+            Err(fault) => return Err(fault),
         }
     }
     Ok((joined, left))
+}
+
+/// Joins the first operand with those behind it that have an operator of this height before them, where there are any.
+#[cycle(expression)]
+fn operation<'t>(
+    alloc: Global,
+    room: u32,
+    height: u8,
+    start: &[Token],
+    first: Expr,
+    tokens: &'t [Token],
+) -> Result<(Expr, &'t [Token]), Fault>
+    requires within { height ≤ 5 }
+    requires first { IsNode (expr first) start.now tokens.now }
+    requires tight { 7 ≤ height + level_of first }
+    ensures read { MatchResult result
+        (λ read. IsRead room (chain height) (expr read.0) start.now tokens.now read.1.now)
+        (Refuses room (chain height) tokens.now) }
+    ensures tight { IfOk result (λ read. 6 ≤ height + level_of read.0) }
+{
+    let Some(_) = operator(height, tokens) else {
+        return Ok((first, tokens));
+    };
+    match operands(alloc, room, height, tokens) {
+        Ok((others, left)) => with_left!(
+            nodes::operation(alloc, first, others, span(start, left)),
+            left
+        ),
+        Err(fault) => Err(fault),
+    }
+}
+
+/// Operators of this height, each with its operand.
+#[cycle(expression)]
+fn operands<'t>(
+    alloc: Global,
+    room: u32,
+    height: u8,
+    tokens: &'t [Token],
+) -> Result<(Vec<Operand>, &'t [Token]), Fault>
+    requires within { height ≤ 5 }
+    requires begins { is_ahead (kinds_at height) (symbols tokens.now) ≡ true }
+    ensures read { MatchResult result
+        (λ read. AreRead room (chain height) (operands_before (6 - height) read.0.items) tokens.now read.1.now)
+        (Refuses room (chain height) tokens.now) }
+    ensures level { IfOk result (λ read. list_level read.0.items + height ≡ 6) }
+{
+    let mut items = Vec::new(alloc);
+    let mut left = tokens;
+    'more: while let Some((operator, behind)) = operator(height, left) {
+        match level(alloc, room, height, behind) {
+            Ok((value, after)) => match items.push(Operand { operator, value }) {
+                Ok(()) => left = after,
+                Err(_) => return Err(Fault::NoMemory),
+            },
+            Err(fault) => return Err(fault),
+        }
+    }
+    Ok((items, left))
 }
 
 #[cycle(expression)]
@@ -221,7 +275,7 @@ fn named<'t>(
     ensures read { MatchResult result
         (λ read. IsRead room (optional (of name_end)) (expr read.0) start.now tokens.now read.1.now)
         (Refuses room (optional (of name_end)) tokens.now) }
-    ensures tight { IfOk result (λ read. 8 ≤ level_of read.0) }
+    ensures tight { IfOk result (λ read. 9 ≤ level_of read.0) }
 {
     if is_sign(Sign::Colon, tokens) {
         return member(alloc, room, start, owner, tokens);
@@ -301,7 +355,7 @@ fn next_argument(alloc: Global, room: u32, tokens: &[Token]) -> Result<(Expr, &[
     }
 }
 
-/// Goes on with members, calls and indices behind a primary expression.
+/// Joins a primary expression with the members, calls and indices behind it, where there are any.
 #[cycle(expression)]
 fn suffixes<'t>(
     alloc: Global,
@@ -311,24 +365,45 @@ fn suffixes<'t>(
     tokens: &'t [Token],
 ) -> Result<(Expr, &'t [Token]), Fault>
     requires value { IsNode (expr value) start.now tokens.now }
-    requires tight { 8 ≤ level_of value }
+    requires tight { 9 ≤ level_of value }
     ensures read { MatchResult result
         (λ read. IsRead room (repeated (of suffix_form)) (expr read.0) start.now tokens.now read.1.now)
         (Refuses room (repeated (of suffix_form)) tokens.now) }
     ensures tight { IfOk result (λ read. 8 ≤ level_of read.0) }
 {
-    let mut value = value;
+    if !begins_suffix(tokens) {
+        return Ok((value, tokens));
+    }
+    match suffix_list(alloc, room, tokens) {
+        Ok((suffixes, left)) => with_left!(
+            nodes::postfix(alloc, value, suffixes, span(start, left)),
+            left
+        ),
+        Err(fault) => Err(fault),
+    }
+}
+
+/// At least one member, call or index.
+#[cycle(expression)]
+fn suffix_list(alloc: Global, room: u32, tokens: &[Token]) -> Result<(Vec<Suffix>, &[Token]), Fault>
+    requires { is_ahead (sign_kind Dot ∷ sign_kind OpenBracket ∷ []) (symbols tokens.now) ≡ true }
+    ensures read { MatchResult result
+        (λ read. AreRead room (repeated (of suffix_form)) (suffixes_before read.0.items) tokens.now read.1.now)
+        (Refuses room (repeated (of suffix_form)) tokens.now) }
+    ensures some { IfOk result (λ read. is_some read.0.items ≡ true) }
+{
+    let mut items = Vec::new(alloc);
     let mut left = tokens;
     'more: while begins_suffix(left) {
-        match suffix(alloc, room, start, value, left) {
-            Ok((more, after)) => {
-                value = more;
-                left = after;
-            }
+        match suffix(alloc, room, left) {
+            Ok((next, after)) => match items.push(next) {
+                Ok(()) => left = after,
+                Err(_) => return Err(Fault::NoMemory),
+            },
             Err(fault) => return Err(fault),
         }
     }
-    Ok((value, left))
+    Ok((items, left))
 }
 
 fn begins_suffix(tokens: &[Token]) -> bool
@@ -337,63 +412,42 @@ fn begins_suffix(tokens: &[Token]) -> bool
     is_sign(Sign::Dot, tokens) || is_sign(Sign::OpenBracket, tokens)
 }
 
-/// A member, a call or an index behind a primary expression.
+/// A member, a call or an index.
 #[cycle(expression)]
-fn suffix<'t>(
-    alloc: Global,
-    room: u32,
-    start: &[Token],
-    value: Expr,
-    tokens: &'t [Token],
-) -> Result<(Expr, &'t [Token]), Fault>
-    requires value { IsNode (expr value) start.now tokens.now }
-    requires tight { 8 ≤ level_of value }
-    requires begins { is_ahead (sign_kind Dot ∷ sign_kind OpenBracket ∷ []) (symbols tokens.now) ≡ true }
+fn suffix(alloc: Global, room: u32, tokens: &[Token]) -> Result<(Suffix, &[Token]), Fault>
+    requires { is_ahead (sign_kind Dot ∷ sign_kind OpenBracket ∷ []) (symbols tokens.now) ≡ true }
     ensures read { MatchResult result
-        (λ read. IsRead room (of suffix_form) (expr read.0) start.now tokens.now read.1.now)
+        (λ read. IsRead room (of suffix_form) (suffix_of read.0) tokens.now tokens.now read.1.now)
         (Refuses room (of suffix_form) tokens.now) }
-    ensures tight { IfOk result (λ read. 8 ≤ level_of read.0) }
     ensures shorter { IfOk result (λ read. length read.1.now < length tokens.now) }
 {
     if is_sign(Sign::Dot, tokens) {
-        return dotted(alloc, room, start, value, tokens);
+        return dotted(alloc, room, tokens);
     }
     match enclosed(alloc, room, Sign::OpenBracket, Sign::CloseBracket, tokens) {
-        Ok((key, left)) => with_left!(nodes::index(alloc, value, key, span(start, left)), left),
+        Ok((key, left)) => Ok((nodes::index(key, span(tokens, left)), left)),
         Err(fault) => Err(fault),
     }
 }
 
 /// `.`, a name, and arguments where there are any.
 #[cycle(expression)]
-fn dotted<'t>(
-    alloc: Global,
-    room: u32,
-    start: &[Token],
-    value: Expr,
-    tokens: &'t [Token],
-) -> Result<(Expr, &'t [Token]), Fault>
-    requires value { IsNode (expr value) start.now tokens.now }
-    requires tight { 8 ≤ level_of value }
+fn dotted(alloc: Global, room: u32, tokens: &[Token]) -> Result<(Suffix, &[Token]), Fault>
     ensures read { MatchResult result
-        (λ read. IsRead room (sign_part Dot ▸ name_part ▸ optional (parentheses (optional (of arguments_form)))) (expr read.0) start.now tokens.now read.1.now)
+        (λ read. IsRead room (sign_part Dot ▸ name_part ▸ optional (parentheses (optional (of arguments_form)))) (suffix_of read.0) tokens.now tokens.now read.1.now)
         (Refuses room (sign_part Dot ▸ name_part ▸ optional (parentheses (optional (of arguments_form)))) tokens.now) }
-    ensures tight { IfOk result (λ read. 8 ≤ level_of read.0) }
     ensures shorter { IfOk result (λ read. length read.1.now < length tokens.now) }
 {
     match dot_name(alloc, room, tokens) {
         Ok((name, behind)) => {
             if !is_sign(Sign::OpenParenthesis, behind) {
-                return with_left!(
-                    nodes::field(alloc, value, name, span(start, behind)),
-                    behind
-                );
+                return Ok((nodes::field(name, span(tokens, behind)), behind));
             }
             match arguments(alloc, room, behind) {
-                Ok((arguments, left)) => with_left!(
-                    nodes::method(alloc, value, name, arguments, span(start, left)),
-                    left
-                ),
+                Ok((arguments, left)) => Ok((
+                    nodes::method(name, arguments, span(tokens, left)),
+                    left,
+                )),
                 Err(fault) => Err(fault),
             }
         }
@@ -426,7 +480,7 @@ fn member<'t>(
     ensures read { MatchResult result
         (λ read. IsRead room (colon ▸ name_part) (expr read.0) start.now tokens.now read.1.now)
         (Refuses room (colon ▸ name_part) tokens.now) }
-    ensures tight { IfOk result (λ read. 8 ≤ level_of read.0) }
+    ensures tight { IfOk result (λ read. 9 ≤ level_of read.0) }
 {
     match sign(room, Sign::Colon, tokens) {
         Ok(behind) => match name(alloc, room, behind) {
@@ -480,7 +534,7 @@ fn constant(alloc: Global, room: u32, tokens: &[Token]) -> Result<(Expr, &[Token
     ensures read { MatchResult result
         (λ read. IsRead room (of constant_form) (expr read.0) tokens.now tokens.now read.1.now)
         (Refuses room (of constant_form) tokens.now) }
-    ensures tight { IfOk result (λ read. 8 ≤ level_of read.0) }
+    ensures tight { IfOk result (λ read. 9 ≤ level_of read.0) }
     ensures shorter { IfOk result (λ read. length read.1.now < length tokens.now) }
 {
     if begins_simple(tokens) {
@@ -504,7 +558,7 @@ fn group(alloc: Global, room: u32, tokens: &[Token]) -> Result<(Expr, &[Token]),
     ensures read { MatchResult result
         (λ read. IsRead room (parentheses (of expression_form)) (expr read.0) tokens.now tokens.now read.1.now)
         (Refuses room (parentheses (of expression_form)) tokens.now) }
-    ensures tight { IfOk result (λ read. 8 ≤ level_of read.0) }
+    ensures tight { IfOk result (λ read. 9 ≤ level_of read.0) }
     ensures shorter { IfOk result (λ read. length read.1.now < length tokens.now) }
 {
     match enclosed(
@@ -526,7 +580,7 @@ fn validity(alloc: Global, room: u32, tokens: &[Token]) -> Result<(Expr, &[Token
     ensures read { MatchResult result
         (λ read. IsRead room (of constant_form) (expr read.0) tokens.now tokens.now read.1.now)
         (Refuses room (of constant_form) tokens.now) }
-    ensures tight { IfOk result (λ read. 8 ≤ level_of read.0) }
+    ensures tight { IfOk result (λ read. 9 ≤ level_of read.0) }
     ensures shorter { IfOk result (λ read. length read.1.now < length tokens.now) }
 {
     if is_word(Word::IsValid, tokens) {
@@ -575,7 +629,7 @@ fn cast(alloc: Global, room: u32, tokens: &[Token]) -> Result<(Expr, &[Token]), 
     ensures read { MatchResult result
         (λ read. IsRead room cast_part (expr read.0) tokens.now tokens.now read.1.now)
         (Refuses room cast_part tokens.now) }
-    ensures tight { IfOk result (λ read. 8 ≤ level_of read.0) }
+    ensures tight { IfOk result (λ read. 9 ≤ level_of read.0) }
     ensures shorter { IfOk result (λ read. length read.1.now < length tokens.now) }
 {
     match word(room, Word::StaticCast, tokens) {

@@ -1,32 +1,29 @@
 //! Nodes of expressions that hold expressions, made of their parts, each with what it is spelled by.
-ghost use Rattle.std.specs.Prelude.{◌≡◌, IfOk, nat_le, nat_lt};
+ghost use Rattle.std.specs.Prelude.{◌≡◌, IfOk, nat_le};
 ghost use Rattle.slicc_ast.specs.declared.tree.token.Sign.TheVariants.{CloseBracket, CloseParenthesis, Comma, Dot, Minus as MinusSign, Not as NotSign, OpenBracket, OpenParenthesis};
 ghost use Rattle.slicc_ast.specs.declared.tree.token.Word.TheVariants.{IsInvalid as IsInvalidWord, IsValid as IsValidWord, StaticCast};
-ghost use Rattle.slicc_ast.specs.Expressions.{args, expr, level_of, mode_parts, operator_level, operator_sign};
+ghost use Rattle.slicc_ast.specs.Expressions.{args, expr, level_of, list_level, mode_parts, suffix};
 ghost use Rattle.slicc_ast.specs.Names.{name as name_of, sign, type_name, word};
 ghost use Rattle.slicc_ast.specs.Outline.{node, none, part, provided};
+ghost use Rattle.slicc_expr.specs.Nodes.{operation_node, postfix_node};
 
-use slicc_ast::tree::{Args, Expr, Name, Operator, Span, TypeName};
+use slicc_ast::tree::{Args, Expr, Name, Operand, Span, Suffix, TypeName};
 use slicc_ast::{NoMemory, Text};
 use std::alloc::Global;
 
-pub fn binary(
+pub fn operation(
     alloc: Global,
-    operator: Operator,
-    left: Expr,
-    right: Expr,
+    first: Expr,
+    others: Vec<Operand>,
     span: Span,
 ) -> Result<Expr, NoMemory>
-    ensures spells { IfOk result (λ e. expr e ≡ node span
-        (provided (nat_le (operator_level operator) (level_of left)) (provided (nat_lt (operator_level operator) (level_of right)) (part (expr left) (sign (operator_sign operator) (part (expr right) none)))))) }
-    ensures level { IfOk result (λ e. level_of e ≡ operator_level operator) }
+    ensures spells { IfOk result (λ e. expr e ≡ operation_node span first others.items) }
+    ensures level { IfOk result (λ e. level_of e ≡ list_level others.items) }
 {
-    let left = Box::new(alloc, left)?;
-    let right = Box::new(alloc, right)?;
-    Ok(Expr::Binary {
-        operator,
-        left,
-        right,
+    let first = Box::new(alloc, first)?;
+    Ok(Expr::Operation {
+        first,
+        others,
         span,
     })
 }
@@ -47,50 +44,48 @@ pub fn negate(alloc: Global, operand: Expr, span: Span) -> Result<Expr, NoMemory
     Ok(Expr::Negate(Box::new(alloc, operand)?, span))
 }
 
-pub fn field(alloc: Global, value: Expr, name: Name, span: Span) -> Result<Expr, NoMemory>
-    ensures spells { IfOk result (λ e. expr e ≡ node span
-        (provided (nat_le 8 (level_of value)) (part (expr value) (sign Dot (name_of name none))))) }
-    ensures level { IfOk result (λ e. level_of e ≡ 8) }
+pub fn field(name: Name, span: Span) -> Suffix
+    ensures { suffix result ≡ node span (sign Dot (name_of name none)) }
 {
-    Ok(Expr::Field {
-        value: Box::new(alloc, value)?,
-        name,
-        span,
-    })
+    Suffix::Field(name, span)
 }
 
-pub fn method(
-    alloc: Global,
-    value: Expr,
-    name: Name,
-    arguments: Args,
-    span: Span,
-) -> Result<Expr, NoMemory>
-    ensures spells { IfOk result (λ e. expr e ≡ node span
-        (provided (nat_le 8 (level_of value)) (part (expr value) (sign Dot (name_of name (sign OpenParenthesis (part (args arguments) (sign CloseParenthesis none)))))))) }
-    ensures level { IfOk result (λ e. level_of e ≡ 8) }
+pub fn method(name: Name, arguments: Args, span: Span) -> Suffix
+    ensures { suffix result ≡ node span (sign Dot (name_of name (sign OpenParenthesis (part (args arguments) (sign CloseParenthesis none))))) }
 {
-    Ok(Expr::Method {
-        value: Box::new(alloc, value)?,
+    Suffix::Method {
         name,
         arguments,
         span,
-    })
+    }
 }
 
-pub fn index(alloc: Global, value: Expr, key: Expr, span: Span) -> Result<Expr, NoMemory>
-    ensures spells { IfOk result (λ e. expr e ≡ node span
-        (provided (nat_le 8 (level_of value)) (part (expr value) (sign OpenBracket (part (expr key) (sign CloseBracket none)))))) }
+pub fn index(key: Expr, span: Span) -> Suffix
+    ensures { suffix result ≡ node span (sign OpenBracket (part (expr key) (sign CloseBracket none))) }
+{
+    Suffix::Index(key, span)
+}
+
+pub fn postfix(
+    alloc: Global,
+    value: Expr,
+    suffixes: Vec<Suffix>,
+    span: Span,
+) -> Result<Expr, NoMemory>
+    ensures spells { IfOk result (λ e. expr e ≡ postfix_node span value suffixes.items) }
     ensures level { IfOk result (λ e. level_of e ≡ 8) }
 {
     let value = Box::new(alloc, value)?;
-    let key = Box::new(alloc, key)?;
-    Ok(Expr::Index { value, key, span })
+    Ok(Expr::Postfix {
+        value,
+        suffixes,
+        span,
+    })
 }
 
 pub fn call(name: Name, arguments: Args, span: Span) -> Expr
     ensures spells { expr result ≡ node span (name_of name (sign OpenParenthesis (part (args arguments) (sign CloseParenthesis none)))) }
-    ensures level { level_of result ≡ 8 }
+    ensures level { level_of result ≡ 9 }
 {
     Expr::Call {
         name,
@@ -102,7 +97,7 @@ pub fn call(name: Name, arguments: Args, span: Span) -> Expr
 pub fn is_valid(alloc: Global, value: Expr, span: Span) -> Result<Expr, NoMemory>
     ensures spells { IfOk result (λ e. expr e ≡ node span
         (word IsValidWord (sign OpenParenthesis (part (expr value) (sign CloseParenthesis none))))) }
-    ensures level { IfOk result (λ e. level_of e ≡ 8) }
+    ensures level { IfOk result (λ e. level_of e ≡ 9) }
 {
     Ok(Expr::IsValid(Box::new(alloc, value)?, span))
 }
@@ -110,7 +105,7 @@ pub fn is_valid(alloc: Global, value: Expr, span: Span) -> Result<Expr, NoMemory
 pub fn is_invalid(alloc: Global, value: Expr, span: Span) -> Result<Expr, NoMemory>
     ensures spells { IfOk result (λ e. expr e ≡ node span
         (word IsInvalidWord (sign OpenParenthesis (part (expr value) (sign CloseParenthesis none))))) }
-    ensures level { IfOk result (λ e. level_of e ≡ 8) }
+    ensures level { IfOk result (λ e. level_of e ≡ 9) }
 {
     Ok(Expr::IsInvalid(Box::new(alloc, value)?, span))
 }
@@ -124,7 +119,7 @@ pub fn cast(
 ) -> Result<Expr, NoMemory>
     ensures spells { IfOk result (λ e. expr e ≡ node span
         (word StaticCast (sign OpenParenthesis (type_name target (sign Comma (mode_parts mode (part (expr value) (sign CloseParenthesis none)))))))) }
-    ensures level { IfOk result (λ e. level_of e ≡ 8) }
+    ensures level { IfOk result (λ e. level_of e ≡ 9) }
 {
     Ok(Expr::Cast {
         target,
@@ -137,7 +132,7 @@ pub fn cast(
 pub fn group(alloc: Global, inner: Expr, span: Span) -> Result<Expr, NoMemory>
     ensures spells { IfOk result (λ e. expr e ≡ node span
         (sign OpenParenthesis (part (expr inner) (sign CloseParenthesis none)))) }
-    ensures level { IfOk result (λ e. level_of e ≡ 8) }
+    ensures level { IfOk result (λ e. level_of e ≡ 9) }
 {
     Ok(Expr::Group(Box::new(alloc, inner)?, span))
 }

@@ -8,9 +8,9 @@ ghost use Rattle.slicc_grammar.specs.TokenKinds.{kind_of, sign_kind};
 ghost use Rattle.slicc_lex.specs.Syntax.{symbols};
 ghost use Rattle.slicc_expr.specs.Levels.{IsOperator, kinds_at};
 
-use crate::leaf::split_first;
 use slicc_ast::tree::{Operator, Sign, TokenKind};
 use slicc_lex::Token;
+use slicc_reading::split_first;
 
 fn product_operator(sign: Sign) -> Option<Operator>
     ensures { MatchOption result (has (kinds_at 0) (sign_kind sign) ≡ false) (λ o. (operator_sign o ≡ sign) × (operator_level o ≡ 6)) }

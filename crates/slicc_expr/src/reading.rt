@@ -1,38 +1,16 @@
 //! Readings of the tokens of a whole text from a place on.
-ghost use Rattle.std.specs.Prelude.{◌≡◌, ◌-◌, ◌<◌, ◌≤◌, length, MatchResult};
+ghost use Rattle.std.specs.Prelude.{◌<◌, ◌≤◌, length, MatchResult};
 ghost use Rattle.slicc_ast.specs.Expressions.{expr};
 ghost use Rattle.slicc_grammar.specs.Form.Form.{expression as expression_form};
 ghost use Rattle.slicc_lex.specs.Syntax.{AreEnded, IsReadAs};
-ghost use Rattle.slicc_expr.specs.Answers.{IsFaultFrom, placed};
+ghost use Rattle.slicc_reading.specs.Answers.{IsFaultFrom};
 
 use crate::expressions::expression;
-use crate::fault::{Fault, SyntaxFault};
 use slicc_ast::Seq;
 use slicc_ast::tree::Expr;
 use slicc_lex::Token;
+use slicc_reading::{Fault, SyntaxFault, place, placed, room_within};
 use std::alloc::Global;
-
-/// How many nestings may be open.
-const NESTING_LIMIT: u32 = 64;
-
-/// The place of the first of so many tokens that are left.
-fn place(count: usize, left: usize) -> u32
-    requires { count ≤ 1048577 }
-    ensures { result ≡ count - left }
-{
-    count.saturating_sub(left) as u32
-}
-
-fn placed(count: usize, fault: Fault) -> SyntaxFault
-    requires { count ≤ 1048577 }
-    ensures { result ≡ placed count fault }
-{
-    match fault {
-        Fault::Syntax(left) => SyntaxFault::Syntax(place(count, left)),
-        Fault::Deep(left) => SyntaxFault::Deep(place(count, left)),
-        Fault::NoMemory => SyntaxFault::NoMemory,
-    }
-}
 
 /// The expression that the tokens from the place `at` on begin with, the longest there is, and the place behind it, where
 /// `depth` nestings are open before `at`. The last token is the end token.
@@ -52,7 +30,7 @@ pub fn expr(
 {
     let count = tokens.len();
     let (_, from) = tokens.as_slice().split_at(at as usize);
-    match expression(alloc, NESTING_LIMIT - depth, from) {
+    match expression(alloc, room_within(depth), from) {
         Ok((tree, left)) => Ok((tree, place(count, left.len()))),
         Err(fault) => Err(placed(count, fault)),
     }

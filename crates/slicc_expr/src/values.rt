@@ -11,32 +11,15 @@ ghost use Rattle.slicc_grammar.specs.Parts.{◌▸◌, name as name_part, of, wo
 ghost use Rattle.slicc_grammar.specs.Form.Form.{constant as constant_form};
 ghost use Rattle.slicc_grammar.specs.TokenKinds.{kind_of, number, word_kind};
 ghost use Rattle.slicc_lex.specs.Syntax.{symbols};
-ghost use Rattle.slicc_expr.specs.Reading.{IsRead, Refuses};
+ghost use Rattle.slicc_reading.specs.Reading.{IsRead, Refuses};
 ghost use Rattle.slicc_expr.specs.Levels.{IsSimple, longer_kinds, simple_kinds};
 
-use crate::fault::Fault;
-use crate::leaf::{is_name, is_sign, is_word, name, refuse, span, split_first, word};
 use slicc_ast::tree::{Expr, Sign, Span, TokenKind, Word};
 use slicc_lex::Token;
+use slicc_reading::{
+    Fault, is_name, is_number, is_sign, is_word, name, refuse, span, split_first, word,
+};
 use std::alloc::Global;
-
-fn is_number_kind(kind: &TokenKind) -> bool
-    ensures { result ≡ has (number ∷ []) (kind_of kind.now) }
-{
-    match kind {
-        TokenKind::Number(_) => true,
-        _ => false,
-    }
-}
-
-fn is_number(tokens: &[Token]) -> bool
-    ensures { result ≡ is_ahead (number ∷ []) (symbols tokens.now) }
-{
-    match split_first(tokens) {
-        Some((first, _)) => is_number_kind(&first.kind),
-        None => false,
-    }
-}
 
 /// Whether the first token is an expression by itself and isn't a name.
 pub fn begins_simple(tokens: &[Token]) -> bool
@@ -108,7 +91,7 @@ pub fn simple(room: u32, tokens: &[Token]) -> Result<(Expr, &[Token]), Fault>
     ensures read { MatchResult result
         (λ read. IsRead room (of constant_form) (expr read.0) tokens.now tokens.now read.1.now)
         (Refuses room (of constant_form) tokens.now) }
-    ensures tight { IfOk result (λ read. 8 ≤ level_of read.0) }
+    ensures tight { IfOk result (λ read. 9 ≤ level_of read.0) }
     ensures shorter { IfOk result (λ read. length read.1.now < length tokens.now) }
 {
     let Some((first, left)) = split_first(tokens) else {
@@ -125,7 +108,7 @@ pub fn new_entry(alloc: Global, room: u32, tokens: &[Token]) -> Result<(Expr, &[
     ensures read { MatchResult result
         (λ read. IsRead room (word_part NewWord ▸ name_part) (expr read.0) tokens.now tokens.now read.1.now)
         (Refuses room (word_part NewWord ▸ name_part) tokens.now) }
-    ensures tight { IfOk result (λ read. 8 ≤ level_of read.0) }
+    ensures tight { IfOk result (λ read. 9 ≤ level_of read.0) }
     ensures shorter { IfOk result (λ read. length read.1.now < length tokens.now) }
 {
     match word(room, Word::New, tokens) {

@@ -1,17 +1,18 @@
 ghost use Rattle.std.specs.Prelude.{◌≤◌, length};
 
-use slicc_ast::tree::{Expr, Operator, Span};
+use slicc_ast::tree::{Expr, Operand, Operator, Span, Suffix};
 use slicc_expr::SyntaxFault::{Deep, Syntax};
 use slicc_expr::{SyntaxFault, expr};
 use slicc_lex::lex;
 use std::alloc::Global;
 use std::test::Fail;
 
-/// Texts, how many tokens the expression at the front of each has, what it is, and where the last expression or name in it
-/// begins.
+/// Texts, how many tokens the expression at the front of each has, what it is, by its last operator or suffix where it has
+/// any, and where the last expression or name in it begins.
 const READ: &[(&[u8], u32, &str, u32)] = &[
-    // operators of one level group to the left
+    // operators of one level are one node
     (b"a - b - c", 5, "-", 8),
+    (b"a + b - c + d", 7, "+", 12),
     (b"a - b + c", 5, "+", 8),
     (b"a * b * c", 5, "*", 8),
     (b"a || b || c", 5, "||", 10),
@@ -146,12 +147,10 @@ fn operator_text(operator: Operator) -> &'static str {
 
 fn span_of(e: &Expr) -> Span {
     match e {
-        Expr::Binary { span, .. } => *span,
+        Expr::Operation { span, .. } => *span,
         Expr::Not(_, span) => *span,
         Expr::Negate(_, span) => *span,
-        Expr::Field { span, .. } => *span,
-        Expr::Method { span, .. } => *span,
-        Expr::Index { span, .. } => *span,
+        Expr::Postfix { span, .. } => *span,
         Expr::Number(_, span) => *span,
         Expr::True(span) => *span,
         Expr::False(span) => *span,
@@ -167,19 +166,31 @@ fn span_of(e: &Expr) -> Span {
     }
 }
 
+/// The last operator, and where its operand begins.
+fn last_operand(others: &[Operand]) -> (&'static str, u32) {
+    match others.last() {
+        Some(last) => (operator_text(last.operator), span_of(&last.value).start),
+        None => ("", 0),
+    }
+}
+
+/// The last suffix, and where the name or the expression in it begins, or that of its arguments.
+fn last_suffix(suffixes: &[Suffix]) -> (&'static str, u32) {
+    match suffixes.last() {
+        Some(Suffix::Field(name, _)) => (".", name.span.start),
+        Some(Suffix::Method { arguments, .. }) => (".()", arguments.span.start),
+        Some(Suffix::Index(key, _)) => ("[]", span_of(key).start),
+        None => ("", 0),
+    }
+}
+
 /// What the expression is, and where the last expression or name in it begins, or that of its arguments.
 fn root(e: &Expr) -> (&'static str, u32) {
     match e {
-        Expr::Binary {
-            operator,
-            right,
-            ..
-        } => (operator_text(*operator), span_of(right).start),
+        Expr::Operation { others, .. } => last_operand(others),
         Expr::Not(operand, _) => ("!", span_of(operand).start),
         Expr::Negate(operand, _) => ("negate", span_of(operand).start),
-        Expr::Field { name, .. } => (".", name.span.start),
-        Expr::Method { arguments, .. } => (".()", arguments.span.start),
-        Expr::Index { key, .. } => ("[]", span_of(key).start),
+        Expr::Postfix { suffixes, .. } => last_suffix(suffixes),
         Expr::Number(_, span) => ("number", span.start),
         Expr::True(span) => ("true", span.start),
         Expr::False(span) => ("false", span.start),

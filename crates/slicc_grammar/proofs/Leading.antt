@@ -1,14 +1,15 @@
 -- What an expression's tree spells is a list of the written grammar, of each form from its own level up.
-use Rattle.std.proofs.Common.{◌≡◌, ℕ, zero, suc, ◌+◌, ◌-◌, ◌≤◌, ◌<◌, nat_le, nat_lt, true, ◌||◌, cond, List, [], ◌∷◌, Some, None, refl, subst, ◌∙◌, append-nil, inl, inr, arith, codes}
+use Rattle.std.proofs.Common.{◌≡◌, ℕ, zero, suc, ◌+◌, ◌-◌, ◌≤◌, ◌<◌, nat_le, nat_lt, ◌==◌, true, ◌||◌, cond, List, [], ◌∷◌, Some, None, refl, subst, ◌∙◌, append-nil, arith, codes}
 use Rattle.std.specs.Str.{bytes_eq}
 use Rattle.std.specs.List.{slice_get}
-use Rattle.std.proofs.lemmas.Bool.{and_parts, leb-true, ltb-true, cond_both, cases_lt}
+use Rattle.std.proofs.lemmas.Bool.{and_parts, eqb-true, leb-true, ltb-true, cond_both}
 use Rattle.slicc_ast.specs.declared.tree.token.Sign.TheVariants.{CloseParenthesis, Star, Plus as PlusSign, Minus as MinusSign, Less as LessSign, Greater as GreaterSign, LessOrEqual as LessOrEqualSign, GreaterOrEqual as GreaterOrEqualSign, Equal as EqualSign, Unequal as UnequalSign, And as AndSign, Or as OrSign}
 use Rattle.slicc_ast.specs.declared.tree.expression.Operator.{Operator}
 use Rattle.slicc_ast.specs.declared.tree.expression.Operator.TheVariants.{Or, And, Equal, Unequal, Less, Greater, LessOrEqual, GreaterOrEqual, Plus, Minus, Times}
-use Rattle.slicc_ast.specs.declared.tree.expression.Expr.{Expr, Binary', Not', Negate', Field', Method', Index', Number, True, False, Nothing, Variable, Member, Call', New, IsValid', IsInvalid', Cast', Group', Row_of-Expr, end_of-Expr, more_of-Expr}
+use Rattle.slicc_ast.specs.declared.tree.expression.Expr.{Expr, Operation', Not', Negate', Postfix', Number, True, False, Nothing, Variable, Member, Call', New, IsValid', IsInvalid', Cast', Group', Row_of-Expr, end_of-Expr, more_of-Expr, Row_of-Operand, end_of-Operand, more_of-Operand, Row_of-Suffix, end_of-Suffix, more_of-Suffix}
+use Rattle.slicc_ast.specs.declared.tree.expression.Suffix.{Suffix, Field, Method', Index}
 use Rattle.slicc_ast.specs.Outline.{is_allowed, are_allowed}
-use Rattle.slicc_ast.specs.Expressions.{expr, level_of, operator_sign, operator_level, args_row, more_args_row}
+use Rattle.slicc_ast.specs.Expressions.{expr, suffix, level_of, row_level, has_suffix, operator_sign, operator_level, operand_row, suffix_row, args_row, more_args_row}
 use Rattle.grammar_rows.specs.Kinds.{has}
 use Rattle.grammar_rows.specs.Grammar.{Row, Rows}
 use Rattle.grammar_rows.specs.Grammar.Row.{done, form, maybe, many}
@@ -19,7 +20,7 @@ use Rattle.grammar_rows.specs.Matches.Matches.{ended, one, absent, enough, insid
 use Rattle.grammar_rows.specs.Same.{joined}
 use Rattle.grammar_rows.proofs.Translating.{fold_to, to_present, to_again}
 use Rattle.slicc_grammar.specs.Form.{Form}
-use Rattle.slicc_grammar.specs.Form.Form.{expression, conjunction, equality, order, sum, product, unary, postfix, primary, constant, suffix}
+use Rattle.slicc_grammar.specs.Form.Form.{expression, conjunction, equality, order, sum, product, unary, postfix, primary, constant}
 use Rattle.slicc_grammar.specs.TokenKinds.{name_kind, machine_type, functional_name, other_name, sign_kind}
 use Rattle.slicc_grammar.specs.Parts.{names_of, of, comma, ◌▸◌, parentheses, optional, string}
 use Rattle.slicc_grammar.specs.Written.{written}
@@ -75,36 +76,24 @@ climb : (k d e : ℕ) (tokens : List ℕ → List ℕ) → d + k ≡ e → e ≤
 climb zero d e tokens same le leads = subst (λ f. Leads (form_at f) tokens) (let is : d ≡ e = omega arith in is) leads
 climb (suc k) d e tokens same le leads = climb k (suc d) e tokens (omega arith) le (climb_one d tokens (omega arith) leads)
 
--- the same before more operands of the level
-abbrev pub LeadsOn : ℕ → (List ℕ → List ℕ) → Type 0
-LeadsOn d tokens =
-    (r : Row Form) (S : Rows Form) (rest : List ℕ) (o : ℕ) → Matches written Whole (many (operand_at d) r) S rest o → Matches written Whole (form (form_at d) (many (operand_at d) r)) S (tokens rest) o
-
 abbrev pub suffix_part : Row Form
-suffix_part = form suffix done
+suffix_part = form Form.suffix done
 
-abbrev pub LeadsPrimary : (List ℕ → List ℕ) → Type 0
-LeadsPrimary tokens =
-    (r : Row Form) (S : Rows Form) (rest : List ℕ) (o : ℕ) → Matches written Whole (many suffix_part r) S rest o → Matches written Whole (form primary (many suffix_part r)) S (tokens rest) o
-
--- an expression of a level, from 1 for the loosest operator to 8, leads the forms from its own up
+-- an expression of a level, from 1 for the loosest operator to 9, leads the forms from its own up
 pub record Leading (level : ℕ) (tokens : List ℕ → List ℕ) : Type 0 where
+  pub some : 1 ≤ level
   pub up_from : (d : ℕ) → d ≤ 6 → 7 ≤ d + level → Leads (form_at d) tokens
-  pub before : (d : ℕ) → d ≤ 5 → 6 ≤ d + level → LeadsOn d tokens
-  pub with_suffixes : 8 ≤ level → LeadsPrimary tokens
+  pub as_primary : 9 ≤ level → Leads primary tokens
 
-of_unary : (level : ℕ) (tokens : List ℕ → List ℕ) → 7 ≤ level → Leads unary tokens → (8 ≤ level → LeadsPrimary tokens) → Leading level tokens
+of_unary : (level : ℕ) (tokens : List ℕ → List ℕ) → 7 ≤ level → Leads unary tokens → (9 ≤ level → Leads primary tokens) → Leading level tokens
 of_unary level tokens le leads tight =
-    record {
-      up_from = λ d small enough_of. climb d 0 d tokens (omega arith) small leads;
-      before = λ d small enough_of r S rest o m. climb d 0 d tokens (omega arith) (omega arith) leads (many (operand_at d) r) S rest o m;
-      with_suffixes = tight;
-    }
+    record { some = omega arith; up_from = λ d small wide. climb d 0 d tokens (omega arith) small leads; as_primary = tight }
 
-of_postfix : (tokens : List ℕ → List ℕ) → LeadsPrimary tokens → Leading 8 tokens
-of_postfix tokens leads =
-    of_unary 8 tokens (omega arith)
-    (λ r S rest o m. fold_to written unary 2 refl Whole (tokens rest) o (fold_to written postfix 0 refl Whole (tokens rest) o (leads r S rest o (enough m))))
+of_primary : (tokens : List ℕ → List ℕ) → Leads primary tokens → Leading 9 tokens
+of_primary tokens leads =
+    of_unary 9 tokens (omega arith)
+    (λ r S rest o m. fold_to written unary 2 refl Whole (tokens rest) o (fold_to written postfix 0 refl Whole (tokens rest) o
+    (leads (many suffix_part r) S rest o (enough m))))
     (λ le. leads)
 
 -- how far the operands of an operator are above unary expressions
@@ -147,7 +136,7 @@ sign_at Unequal = refl
 sign_at And = refl
 sign_at Or = refl
 
-pub some_level : (op : Operator) → 1 ≤ operator_level op
+some_level : (op : Operator) → 1 ≤ operator_level op
 some_level Times = omega arith
 some_level Plus = omega arith
 some_level Minus = omega arith
@@ -160,42 +149,26 @@ some_level Unequal = omega arith
 some_level And = omega arith
 some_level Or = omega arith
 
-of_binary : (op : Operator) (low high : ℕ) (left right : List ℕ → List ℕ) → operator_level op ≤ low → operator_level op < high → Leading low left → Leading high right → Leading (operator_level op) (λ rest. left (sign_kind (operator_sign op) ∷ right rest))
-of_binary op low high left right le lt l r =
-    let d = depth_of op in
-    let sums_to : d + operator_level op ≡ 6 = depth_level op in
-    let some : 1 ≤ operator_level op = some_level op in
-    let own : LeadsOn d (λ rest. left (sign_kind (operator_sign op) ∷ right rest)) =
-    λ q S rest o m. l.before d (omega arith) (omega arith) q S (sign_kind (operator_sign op) ∷ right rest) o
-    (to_again written (operand_at d) q Whole (sign_kind (operator_sign op) ∷ right rest) o
-    (one (sign_at op) (r.up_from d (omega arith) (omega arith) (many (operand_at d) q) S rest o m))) in
-    let above : Leads (form_at (suc d)) (λ rest. left (sign_kind (operator_sign op) ∷ right rest)) =
-    λ q S rest o m. fold_up d (omega arith) q S (left (sign_kind (operator_sign op) ∷ right rest)) o (own q S rest o (enough m)) in
+operator_at : (op : Operator) (d level : ℕ) → d + level ≡ 6 → operator_level op ≡ level → has (kinds_at d) (sign_kind (operator_sign op)) ≡ true
+operator_at op d level sums is =
+    let own : depth_of op + operator_level op ≡ 6 = depth_level op in
+    let same : depth_of op ≡ d = omega arith in
+    subst (λ n. has (kinds_at n) (sign_kind (operator_sign op)) ≡ true) same (sign_at op)
+
+pub most_level : {n : _} (row : Row_of-Operand n) → row_level row ≤ 6
+most_level end_of-Operand = omega arith
+most_level (more_of-Operand op value row) = let own : depth_of op + operator_level op ≡ 6 = depth_level op in omega arith
+
+-- operands of a level, from the first one on
+of_operation : (level : ℕ) (tokens : List ℕ → List ℕ) → 0 < level → level ≤ 6 → ((d : ℕ) → d + level ≡ 6 → (r : Row Form) (S : Rows Form) (rest : List ℕ) (o : ℕ) → Matches written Whole r S rest o → Matches written Whole (form (form_at d) (many (operand_at d) r)) S (tokens rest) o) → Leading level tokens
+of_operation level tokens some most own =
+    let d = 6 - level in
+    let above : Leads (form_at (suc d)) tokens = λ r S rest o m. fold_up d (omega arith) r S (tokens rest) o (own d (omega arith) r S rest o m) in
     record {
-      up_from = λ e small wide. up_by e small wide d sums_to above;
-      before = λ e small wide. before_by e small wide d sums_to own above;
-      with_suffixes = λ tight. absurd (let most : operator_level op ≤ 6 = omega arith in omega arith);
+      some = omega arith;
+      up_from = λ e small wide. climb (e - suc d) (suc d) e tokens (omega arith) small above;
+      as_primary = λ tight. absurd (omega arith);
     }
-  where
-    up_by : (e : ℕ) → e ≤ 6 → 7 ≤ e + operator_level op → (d : ℕ) → d + operator_level op ≡ 6 → Leads (form_at (suc d)) (λ rest. left (sign_kind (operator_sign op) ∷ right rest)) → Leads (form_at e) (λ rest. left (sign_kind (operator_sign op) ∷ right rest))
-    up_by e small wide d sums_to above =
-        elim (cases_lt d e) [
-          | inl less ↦ climb (e - suc d) (suc d) e (λ rest. left (sign_kind (operator_sign op) ∷ right rest)) (omega arith) small above
-          | inr more ↦ absurd (omega arith)
-        ]
-
-    before_by : (e : ℕ) → e ≤ 5 → 6 ≤ e + operator_level op → (d : ℕ) → d + operator_level op ≡ 6 → LeadsOn d (λ rest. left (sign_kind (operator_sign op) ∷ right rest)) → Leads (form_at (suc d)) (λ rest. left (sign_kind (operator_sign op) ∷ right rest)) → LeadsOn e (λ rest. left (sign_kind (operator_sign op) ∷ right rest))
-    before_by e small wide d sums_to own above =
-        elim (cases_lt d e) [
-          | inl less ↦ (λ q S rest o m. climb (e - suc d) (suc d) e (λ rest. left (sign_kind (operator_sign op) ∷ right rest)) (omega arith) (omega arith) above (many (operand_at e) q) S rest o m)
-          | inr more ↦ subst (λ v. LeadsOn v (λ rest. left (sign_kind (operator_sign op) ∷ right rest))) (let same : d ≡ e = omega arith in same) own
-        ]
-
-pub level_is_some : (e : Expr) → 1 ≤ level_of e
-level_is_some (Binary' op p left q right span) = some_level op
-level_is_some (Not' p operand span) = omega arith
-level_is_some (Negate' p operand span) = omega arith
-level_is_some e = omega arith
 
 abbrev pub close : Row Form
 close = Row.token (sign_kind CloseParenthesis ∷ []) done
@@ -205,22 +178,25 @@ argument = (comma ▸ of expression) done
 
 -- any expression leads the form of all
 pub as_expression : (e : Expr) → Leading (level_of e) (follow (expr e)) → Leads expression (follow (expr e))
-as_expression e leading = let some = level_is_some e in leading.up_from 6 (omega arith) (omega arith)
+as_expression e leading = let some = leading.some in leading.up_from 6 (omega arith) (omega arith)
 
 -- a primary expression of a constant's alternative
-of_constant : (place : ℕ) (chosen : Row Form) (tokens : List ℕ → List ℕ) → slice_get (written.alternatives constant) place ≡ Some chosen → ((r : Row Form) (S : Rows Form) (rest : List ℕ) (o : ℕ) → Matches written Whole r S rest o → Matches written Whole (joined chosen r) S (tokens rest) o) → LeadsPrimary tokens
+of_constant : (place : ℕ) (chosen : Row Form) (tokens : List ℕ → List ℕ) → slice_get (written.alternatives constant) place ≡ Some chosen → ((r : Row Form) (S : Rows Form) (rest : List ℕ) (o : ℕ) → Matches written Whole r S rest o → Matches written Whole (joined chosen r) S (tokens rest) o) → Leads primary tokens
 of_constant place chosen tokens at leads r S rest o m =
-    fold_to written primary 0 refl Whole (tokens rest) o (fold_to written constant place at Whole (tokens rest) o (leads (many suffix_part r) S rest o m))
+    fold_to written primary 0 refl Whole (tokens rest) o (fold_to written constant place at Whole (tokens rest) o (leads r S rest o m))
 
 mutual
   pub expr_leads : (e : Expr) → is_allowed (expr e) ≡ true → Leading (level_of e) (follow (expr e))
-  expr_leads (Binary' op p left q right span) allowed =
-      let low = and_parts (nat_le (operator_level op) (level_of left)) _ allowed in
-      let high = and_parts (nat_lt (operator_level op) (level_of right)) _ low.1 in
-      let both = and_parts (is_allowed (expr left)) _ high.1 in
-      of_binary op (level_of left) (level_of right) (follow (expr left)) (follow (expr right))
-      (leb-true (operator_level op) (level_of left) low.0) (ltb-true (operator_level op) (level_of right) high.0)
-      (expr_leads left both.0) (expr_leads right (and_parts (is_allowed (expr right)) true both.1).0)
+  expr_leads (Operation' p first n others span) allowed =
+      let some = and_parts (nat_lt 0 (row_level others)) _ allowed in
+      let low = and_parts (nat_lt (row_level others) (level_of first)) _ some.1 in
+      let both = and_parts (is_allowed (expr first)) _ low.1 in
+      let inner = expr_leads first both.0 in
+      let tighter = ltb-true (row_level others) (level_of first) low.0 in
+      of_operation (row_level others) (follow (expr (Operation' p first n others span)))
+      (ltb-true 0 (row_level others) some.0) (most_level others)
+      (λ d sums r S rest o m. inner.up_from d (omega arith) (omega arith) (many (operand_at d) r) S _ o
+      (operands_lead others (row_level others) d sums both.1 r S rest o m))
   expr_leads (Not' p operand span) allowed =
       let wide = and_parts (nat_le 7 (level_of operand)) _ allowed in
       let inner = expr_leads operand (and_parts (is_allowed (expr operand)) true wide.1).0 in
@@ -235,63 +211,76 @@ mutual
       of_unary 7 (follow (expr (Negate' p operand span))) (omega arith)
       (λ r S rest o m. fold_to written unary 1 refl Whole (follow (expr (Negate' p operand span)) rest) o (inside refl (inner.up_from 0 (omega arith) (omega arith) done (up r S) rest o (outside m))))
       (λ tight. absurd (omega arith))
-  expr_leads (Field' p value field span) allowed =
-      let wide = and_parts (nat_le 8 (level_of value)) _ allowed in
-      let inner = expr_leads value (and_parts (is_allowed (expr value)) _ wide.1).0 in
-      of_postfix (follow (expr (Field' p value field span)))
-      (λ r S rest o m. inner.with_suffixes (leb-true 8 (level_of value) wide.0) r S _ o
-      (to_again written suffix_part r Whole _ o (fold_to written suffix 0 refl Whole _ o (one refl (one (name_is_one field.text) (absent m))))))
-  expr_leads (Method' p value method shape row within span) allowed =
-      let wide = and_parts (nat_le 8 (level_of value)) _ allowed in
+  expr_leads (Postfix' p value n suffixes span) allowed =
+      let some = and_parts (has_suffix suffixes) _ allowed in
+      let wide = and_parts (nat_le 9 (level_of value)) _ some.1 in
       let both = and_parts (is_allowed (expr value)) _ wide.1 in
       let inner = expr_leads value both.0 in
-      of_postfix (follow (expr (Method' p value method shape row within span)))
-      (λ r S rest o m. inner.with_suffixes (leb-true 8 (level_of value) wide.0) r S _ o
-      (to_again written suffix_part r Whole _ o (fold_to written suffix 0 refl Whole _ o (one refl (one (name_is_one method.text)
-      (to_present written (parentheses (optional (of Form.arguments)) done) (many suffix_part r) Whole _ o
-      (inside refl (call_args row (and_parts (are_allowed (args_row row)) true both.1).0 (up (many suffix_part r) S) _ o (one refl (outside m))))))))))
-  expr_leads (Index' p value q key span) allowed =
-      let wide = and_parts (nat_le 8 (level_of value)) _ allowed in
-      let both = and_parts (is_allowed (expr value)) _ wide.1 in
-      let inner = expr_leads value both.0 in
-      let inside_it = as_expression key (expr_leads key (and_parts (is_allowed (expr key)) true both.1).0) in
-      of_postfix (follow (expr (Index' p value q key span)))
-      (λ r S rest o m. inner.with_suffixes (leb-true 8 (level_of value) wide.0) r S _ o
-      (to_again written suffix_part r Whole _ o (fold_to written suffix 1 refl Whole _ o
-      (inside refl (inside_it _ (up (many suffix_part r) S) _ o (one refl (outside m)))))))
-  expr_leads (Number n span) allowed = of_postfix _ (of_constant 0 _ (follow (expr (Number n span))) refl (λ r S rest o m. one refl m))
-  expr_leads (True span) allowed = of_postfix _ (of_constant 1 _ (follow (expr (True span))) refl (λ r S rest o m. one refl m))
-  expr_leads (False span) allowed = of_postfix _ (of_constant 2 _ (follow (expr (False span))) refl (λ r S rest o m. one refl m))
-  expr_leads (Nothing span) allowed = of_postfix _ (of_constant 3 _ (follow (expr (Nothing span))) refl (λ r S rest o m. one refl m))
+      of_unary 8 (follow (expr (Postfix' p value n suffixes span))) (omega arith)
+      (λ r S rest o m. fold_to written unary 2 refl Whole _ o (fold_to written postfix 0 refl Whole _ o
+      (inner.as_primary (leb-true 9 (level_of value) wide.0) (many suffix_part r) S _ o (suffixes_lead suffixes both.1 r S rest o m))))
+      (λ tight. absurd (omega arith))
+  expr_leads (Number n span) allowed = of_primary _ (of_constant 0 _ (follow (expr (Number n span))) refl (λ r S rest o m. one refl m))
+  expr_leads (True span) allowed = of_primary _ (of_constant 1 _ (follow (expr (True span))) refl (λ r S rest o m. one refl m))
+  expr_leads (False span) allowed = of_primary _ (of_constant 2 _ (follow (expr (False span))) refl (λ r S rest o m. one refl m))
+  expr_leads (Nothing span) allowed = of_primary _ (of_constant 3 _ (follow (expr (Nothing span))) refl (λ r S rest o m. one refl m))
   expr_leads (Variable variable) allowed =
-      of_postfix (follow (expr (Variable variable))) (λ r S rest o m. fold_to written primary 1 refl Whole _ o (one (name_is_one variable.text) m))
+      of_primary (follow (expr (Variable variable))) (λ r S rest o m. fold_to written primary 1 refl Whole _ o (one (name_is_one variable.text) m))
   expr_leads (Member owner member span) allowed =
-      of_postfix (follow (expr (Member owner member span)))
+      of_primary (follow (expr (Member owner member span)))
       (λ r S rest o m. fold_to written primary 2 refl Whole _ o (one (name_is_one owner.text) (one refl (one (name_is_one member.text) m))))
   expr_leads (Call' function shape row within span) allowed =
-      of_postfix (follow (expr (Call' function shape row within span)))
+      of_primary (follow (expr (Call' function shape row within span)))
       (λ r S rest o m. fold_to written primary 3 refl Whole _ o (one (name_is_one function.text)
-      (inside refl (call_args row (and_parts (are_allowed (args_row row)) true allowed).0 (up (many suffix_part r) S) _ o (one refl (outside m))))))
+      (inside refl (call_args row (and_parts (are_allowed (args_row row)) true allowed).0 (up r S) _ o (one refl (outside m))))))
   expr_leads (New made span) allowed =
-      of_postfix _ (of_constant 4 _ (follow (expr (New made span))) refl (λ r S rest o m. one refl (one (name_is_one made.text) m)))
+      of_primary _ (of_constant 4 _ (follow (expr (New made span))) refl (λ r S rest o m. one refl (one (name_is_one made.text) m)))
   expr_leads (IsValid' p value span) allowed =
       let inner = as_expression value (expr_leads value (and_parts (is_allowed (expr value)) true allowed).0) in
-      of_postfix _ (of_constant 5 _ (follow (expr (IsValid' p value span))) refl (λ r S rest o m. one refl (inside refl (inner close (up r S) _ o (one refl (outside m))))))
+      of_primary _ (of_constant 5 _ (follow (expr (IsValid' p value span))) refl (λ r S rest o m. one refl (inside refl (inner close (up r S) _ o (one refl (outside m))))))
   expr_leads (IsInvalid' p value span) allowed =
       let inner = as_expression value (expr_leads value (and_parts (is_allowed (expr value)) true allowed).0) in
-      of_postfix _ (of_constant 6 _ (follow (expr (IsInvalid' p value span))) refl (λ r S rest o m. one refl (inside refl (inner close (up r S) _ o (one refl (outside m))))))
+      of_primary _ (of_constant 6 _ (follow (expr (IsInvalid' p value span))) refl (λ r S rest o m. one refl (inside refl (inner close (up r S) _ o (one refl (outside m))))))
   expr_leads (Cast' target None p value span) allowed =
       let inner = as_expression value (expr_leads value (and_parts (is_allowed (expr value)) true allowed).0) in
-      of_postfix _ (of_constant 7 _ (follow (expr (Cast' target None p value span))) refl
+      of_primary _ (of_constant 7 _ (follow (expr (Cast' target None p value span))) refl
       (λ r S rest o m. one refl (inside refl (one (name_is_one target.text) (one refl (absent (inner close (up r S) _ o (one refl (outside m)))))))))
   expr_leads (Cast' target (Some mode) p value span) allowed =
       let inner = as_expression value (expr_leads value (and_parts (is_allowed (expr value)) true allowed).0) in
-      of_postfix _ (of_constant 7 _ (follow (expr (Cast' target (Some mode) p value span))) refl
+      of_primary _ (of_constant 7 _ (follow (expr (Cast' target (Some mode) p value span))) refl
       (λ r S rest o m. one refl (inside refl (one (name_is_one target.text) (one refl
       (to_present written ((string ▸ comma) done) (form expression close) Whole _ o (one refl (one refl (inner close (up r S) _ o (one refl (outside m)))))))))))
   expr_leads (Group' p inner span) allowed =
       let held = as_expression inner (expr_leads inner (and_parts (is_allowed (expr inner)) true allowed).0) in
-      of_postfix _ (of_constant 8 _ (follow (expr (Group' p inner span))) refl (λ r S rest o m. inside refl (held close (up r S) _ o (one refl (outside m)))))
+      of_primary _ (of_constant 8 _ (follow (expr (Group' p inner span))) refl (λ r S rest o m. inside refl (held close (up r S) _ o (one refl (outside m)))))
+
+  operands_lead : {n : _} (row : Row_of-Operand n) (level d : ℕ) → d + level ≡ 6 → are_allowed (operand_row level row) ≡ true → (r : Row Form) (S : Rows Form) (rest : List ℕ) (o : ℕ) → Matches written Whole r S rest o → Matches written Whole (many (operand_at d) r) S (follow_parts (operand_row level row) rest) o
+  operands_lead end_of-Operand level d sums allowed r S rest o m = enough m
+  operands_lead (more_of-Operand op value row) level d sums allowed r S rest o m =
+      let same = and_parts (operator_level op == level) _ allowed in
+      let high = and_parts (nat_lt level (level_of value)) _ same.1 in
+      let both = and_parts (is_allowed (expr value)) _ high.1 in
+      let tighter = ltb-true level (level_of value) high.0 in
+      to_again written (operand_at d) r Whole _ o (one (operator_at op d level sums (eqb-true (operator_level op) level same.0))
+      ((expr_leads value both.0).up_from d (omega arith) (omega arith) (many (operand_at d) r) S _ o
+      (operands_lead row level d sums both.1 r S rest o m)))
+
+  suffix_leads : (s : Suffix) → is_allowed (suffix s) ≡ true → Leads Form.suffix (follow (suffix s))
+  suffix_leads (Field field span) allowed r S rest o m =
+      fold_to written Form.suffix 0 refl Whole _ o (one refl (one (name_is_one field.text) (absent m)))
+  suffix_leads (Method' method shape row within span) allowed r S rest o m =
+      fold_to written Form.suffix 0 refl Whole _ o (one refl (one (name_is_one method.text)
+      (to_present written (parentheses (optional (of Form.arguments)) done) r Whole _ o
+      (inside refl (call_args row (and_parts (are_allowed (args_row row)) true allowed).0 (up r S) _ o (one refl (outside m)))))))
+  suffix_leads (Index key span) allowed r S rest o m =
+      let inside_it = as_expression key (expr_leads key (and_parts (is_allowed (expr key)) true allowed).0) in
+      fold_to written Form.suffix 1 refl Whole _ o (inside refl (inside_it _ (up r S) _ o (one refl (outside m))))
+
+  suffixes_lead : {n : _} (row : Row_of-Suffix n) → are_allowed (suffix_row row) ≡ true → (r : Row Form) (S : Rows Form) (rest : List ℕ) (o : ℕ) → Matches written Whole r S rest o → Matches written Whole (many suffix_part r) S (follow_parts (suffix_row row) rest) o
+  suffixes_lead end_of-Suffix allowed r S rest o m = enough m
+  suffixes_lead (more_of-Suffix first row) allowed r S rest o m =
+      let both = and_parts (is_allowed (suffix first)) (are_allowed (suffix_row row)) allowed in
+      to_again written suffix_part r Whole _ o (suffix_leads first both.0 (many suffix_part r) S _ o (suffixes_lead row both.1 r S rest o m))
 
   call_args : {n : _} (row : Row_of-Expr n) → are_allowed (args_row row) ≡ true → (S : Rows Form) (rest : List ℕ) (o : ℕ) → Matches written Whole close S rest o → Matches written Whole (maybe (form Form.arguments done) close) S (follow_parts (args_row row) rest) o
   call_args end_of-Expr allowed S rest o m = absent m

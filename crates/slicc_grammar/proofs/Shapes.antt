@@ -178,17 +178,25 @@ kinds_at (suc (suc (suc zero))) = sign_kind Equal ∷ sign_kind Unequal ∷ []
 kinds_at (suc (suc (suc (suc zero)))) = sign_kind And ∷ []
 kinds_at (suc (suc (suc (suc (suc d))))) = sign_kind Or ∷ []
 
+-- an operator of a level with its operand, and all operands of the level behind the first one, with which they are a node
 abbrev pub operand_at : ℕ → Row Step
-operand_at d = (at wrap ▸ Row.token (kinds_at d) ▸ of (form_at d) ▸ at close) Row.done
+operand_at d = (Row.token (kinds_at d) ▸ of (form_at d)) Row.done
+
+abbrev pub operation_at : ℕ → Row Step
+operation_at d = (at wrap ▸ Row.token (kinds_at d) ▸ of (form_at d) ▸ Row.many (operand_at d) ▸ at close) Row.done
 
 -- the operators of so many levels, the tightest first, and then the row
 abbrev pub operators_to : ℕ → Part
 operators_to zero row = row
-operators_to (suc d) row = operators_to d (Row.many (operand_at d) row)
+operators_to (suc d) row = operators_to d (Row.maybe (operation_at d) row)
+
+-- suffixes, which are a node with what they are behind
+abbrev pub suffixes : Part
+suffixes = optional (at wrap ▸ of suffix ▸ repeated (of suffix) ▸ at close)
 
 -- what is behind a name that an expression begins with
 abbrev pub name_ends : Part
-name_ends = optional (of name_end) ▸ repeated (of suffix)
+name_ends = optional (of name_end) ▸ suffixes
 
 -- the start of an expression, which is a name or isn't
 abbrev pub front : Bool → Part
@@ -314,7 +322,7 @@ shape_rows order = expression_rows 3
 shape_rows sum = expression_rows 2
 shape_rows product = expression_rows 1
 shape_rows unary = expression_rows 0
-shape_rows postfix = (of constant ▸ repeated (of suffix)) Row.done ∷ front true Row.done ∷ []
+shape_rows postfix = (of constant ▸ suffixes) Row.done ∷ front true Row.done ∷ []
 shape_rows primary = of constant Row.done ∷ (name ▸ optional (of name_end)) Row.done ∷ []
 shape_rows constant =
     whole (Row.token (number ∷ [])) Row.done
@@ -330,15 +338,15 @@ shape_rows constant =
 shape_rows opening =
     whole (sign Not ▸ of unary) Row.done
     ∷ whole (sign Minus ▸ of unary) Row.done
-    ∷ (of constant ▸ repeated (of suffix)) Row.done
+    ∷ (of constant ▸ suffixes) Row.done
     ∷ []
 shape_rows name_end =
     (at wrap ▸ colon ▸ name ▸ at close) Row.done
     ∷ (at wrap ▸ arguments_part ▸ at close) Row.done
     ∷ []
 shape_rows suffix =
-    (at wrap ▸ sign Dot ▸ name ▸ optional arguments_part ▸ at close) Row.done
-    ∷ (at wrap ▸ sign OpenBracket ▸ of expression ▸ sign CloseBracket ▸ at close) Row.done
+    whole (sign Dot ▸ name ▸ optional arguments_part) Row.done
+    ∷ whole (sign OpenBracket ▸ of expression ▸ sign CloseBracket) Row.done
     ∷ []
 shape_rows arguments = (of expression ▸ repeated (comma ▸ of expression)) Row.done ∷ []
 shape_rows balanced_part =

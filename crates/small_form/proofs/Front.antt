@@ -2,10 +2,10 @@
 use Rattle.std.proofs.Common.{◌≡◌, ◌≢◌, ◌≤◌, ◌<◌, ℕ, Bool, true, false, Option, Some, None, List, [], ◌∷◌, take, drop, sym, ap, ◌∙◌, arith, leb, le-leb, eq-eqb, ne_eqb}
 use Rattle.std.specs.List.{prefix_len}
 use Rattle.std.proofs.lemmas.Bool.{cond-true, cond-false, lt-leb}
-use Rattle.slicc_ast.specs.declared.token.Token.{Token}
-use Rattle.slicc_ast.specs.declared.token.Token.TheVariants.{Name, Reserved, Quoted}
+use Rattle.small_form.specs.declared.token.Token.{Token}
+use Rattle.small_form.specs.declared.token.Token.TheVariants.{Name, Reserved, Quoted}
 use Rattle.slicc_ast.specs.Bytes.{is_letter, is_word_byte, is_text_byte}
-use Rattle.slicc_ast.specs.Tokens.{is_reserved}
+use Rattle.small_form.specs.Tokens.{is_reserved}
 use Rattle.small_form.specs.Lexing.{is_quote, sign_of, token_of_word, word_front, closed, quoted_front, with_sign, front}
 
 pub token_of_reserved : (word text : List ℕ) (r : Bool) → text ≡ word → r ≡ is_reserved word → r ≡ true → Reserved text ≡ token_of_word word

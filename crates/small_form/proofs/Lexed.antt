@@ -4,10 +4,10 @@ use Rattle.std.proofs.lemmas.Bool.{true≢false}
 use Rattle.std.proofs.lemmas.List.{nil_from_length}
 use Rattle.std.proofs.lemmas.Option.{none-some, some_pair_parts}
 use Rattle.std.specs.List.{prefix_len, list_all}
-use Rattle.slicc_ast.specs.declared.token.Token.{Token}
-use Rattle.slicc_ast.specs.declared.token.Token.TheVariants.{Name, Reserved, Quoted, Sign}
+use Rattle.small_form.specs.declared.token.Token.{Token}
+use Rattle.small_form.specs.declared.token.Token.TheVariants.{Name, Reserved, Quoted, Sign}
 use Rattle.slicc_ast.specs.Bytes.{is_blank}
-use Rattle.slicc_ast.specs.Tokens.{IsWrittenAs, AreTokensOf}
+use Rattle.small_form.specs.Tokens.{IsWrittenAs, AreTokensOf}
 use Rattle.small_form.specs.Lexing.{front}
 use Rattle.small_form.proofs.Written.{IsWord-from_reserved, begins, len_span, span_is, front_of_written, written_of_front, front_unblank}
 

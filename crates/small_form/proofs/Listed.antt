@@ -3,9 +3,9 @@ use Rattle.std.proofs.Common.{◌≡◌, ◌≢◌, false, List, [], ◌∷◌, 
 use Rattle.std.specs.List.{flat_map}
 use Rattle.std.proofs.lemmas.Bool.{true≢false}
 use Rattle.std.proofs.lemmas.List.Concat.{flat_map-append}
-use Rattle.slicc_ast.specs.declared.token.Token.{Token}
-use Rattle.slicc_ast.specs.declared.token.Token.TheVariants.{Sign}
-use Rattle.slicc_ast.specs.declared.token.Sign.TheVariants.{CloseBrace}
+use Rattle.small_form.specs.declared.token.Token.{Token}
+use Rattle.small_form.specs.declared.token.Token.TheVariants.{Sign}
+use Rattle.small_form.specs.declared.token.Sign.TheVariants.{CloseBrace}
 use Rattle.small_form.specs.Parsing.{IsRead, IsUnread, begins_closed, list_tokens}
 
 pub record Listed {X : Type 0} (spell : X → List Token) (tokens : List Token) (done : List X) (rest : List Token) : Type 0 where

@@ -1,16 +1,16 @@
 -- A machine's tokens, part behind part, and the machine that is made of parts that were read.
 use Rattle.std.proofs.Common.{◌≡◌, ℕ, List, [], ◌∷◌, ◌++◌, length, drop, sym, ap, ◌∙◌, append_assoc, append-nil}
 use Rattle.std.specs.List.{flat_map}
-use Rattle.slicc_ast.specs.declared.token.Token.{Token}
-use Rattle.slicc_ast.specs.declared.token.Token.TheVariants.{Sign}
-use Rattle.slicc_ast.specs.declared.token.Sign.TheVariants.{OpenBrace, CloseBrace}
-use Rattle.slicc_ast.specs.declared.machine.Machine.{Machine}
-use Rattle.slicc_ast.specs.declared.machine.States.{States}
-use Rattle.slicc_ast.specs.declared.machine.Events.{Events}
-use Rattle.slicc_ast.specs.declared.machine.InPort.{InPort}
-use Rattle.slicc_ast.specs.declared.machine.Action.{Action}
-use Rattle.slicc_ast.specs.declared.machine.Transition.{Transition}
-use Rattle.slicc_ast.specs.Spelling.{states_tokens, events_tokens, port_tokens, action_tokens, transition_tokens, header_tokens, machine_tokens}
+use Rattle.small_form.specs.declared.token.Token.{Token}
+use Rattle.small_form.specs.declared.token.Token.TheVariants.{Sign}
+use Rattle.small_form.specs.declared.token.Sign.TheVariants.{OpenBrace, CloseBrace}
+use Rattle.small_machine.specs.declared.machine.Machine.{Machine}
+use Rattle.small_machine.specs.declared.machine.States.{States}
+use Rattle.small_machine.specs.declared.machine.Events.{Events}
+use Rattle.small_machine.specs.declared.machine.InPort.{InPort}
+use Rattle.small_machine.specs.declared.machine.Action.{Action}
+use Rattle.small_machine.specs.declared.machine.Transition.{Transition}
+use Rattle.small_form.specs.Spelling.{states_tokens, events_tokens, port_tokens, action_tokens, transition_tokens, header_tokens, machine_tokens}
 use Rattle.small_form.specs.declared.pattern.Piece.{Piece}
 use Rattle.small_form.specs.Parsing.{IsRead, Begins, text_at, list_tokens}
 use Rattle.small_form.proofs.Patterns.{filled, begins_filled}

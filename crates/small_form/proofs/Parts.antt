@@ -1,13 +1,13 @@
 -- Each part as it is made of the tokens at its front.
 use Rattle.std.proofs.Common.{◌≡◌, ℕ, List}
-use Rattle.slicc_ast.specs.declared.token.Token.{Token}
-use Rattle.slicc_ast.specs.declared.machine.State.{State}
-use Rattle.slicc_ast.specs.declared.machine.States.{States}
-use Rattle.slicc_ast.specs.declared.machine.Event.{Event}
-use Rattle.slicc_ast.specs.declared.machine.Events.{Events}
-use Rattle.slicc_ast.specs.declared.machine.InPort.{InPort}
-use Rattle.slicc_ast.specs.declared.machine.Action.{Action}
-use Rattle.slicc_ast.specs.declared.machine.Transition.{Transition}
+use Rattle.small_form.specs.declared.token.Token.{Token}
+use Rattle.small_machine.specs.declared.machine.State.{State}
+use Rattle.small_machine.specs.declared.machine.States.{States}
+use Rattle.small_machine.specs.declared.machine.Event.{Event}
+use Rattle.small_machine.specs.declared.machine.Events.{Events}
+use Rattle.small_machine.specs.declared.machine.InPort.{InPort}
+use Rattle.small_machine.specs.declared.machine.Action.{Action}
+use Rattle.small_machine.specs.declared.machine.Transition.{Transition}
 use Rattle.small_form.specs.Parsing.{text_at}
 
 abbrev pub make_state : List Token → State

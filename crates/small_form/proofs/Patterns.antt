@@ -4,10 +4,10 @@ use Rattle.std.proofs.lemmas.Bool.{and_parts, true≢false, false≢true}
 use Rattle.std.proofs.lemmas.Option.{some_pair_parts}
 use Rattle.std.proofs.lemmas.Slice.Eq.{bytes_eq-Decides}
 use denote.Ref.{Bor}
-use Rattle.slicc_ast.specs.declared.token.Token.{Token}
-use Rattle.slicc_ast.specs.declared.token.Token.TheVariants.{Name, Reserved, Quoted, Sign}
-use Rattle.slicc_ast.specs.declared.token.Sign.{Sign as SignKind}
-use Rattle.slicc_ast.specs.Tokens.{sign_byte}
+use Rattle.small_form.specs.declared.token.Token.{Token}
+use Rattle.small_form.specs.declared.token.Token.TheVariants.{Name, Reserved, Quoted, Sign}
+use Rattle.small_form.specs.declared.token.Sign.{Sign as SignKind}
+use Rattle.small_form.specs.Tokens.{sign_byte}
 use Rattle.small_form.specs.declared.pattern.Piece.{Piece}
 use Rattle.small_form.specs.declared.pattern.Piece.TheVariants.{Word, Keyword, Mark, AnyName, AnyString}
 use Rattle.small_form.specs.Lexing.{front}

@@ -2,11 +2,11 @@
 use Rattle.std.proofs.Common.{◌≡◌, ℕ, false, List, [], ◌∷◌, ◌++◌, drop, refl, sym, ap, ◌∙◌, subst}
 use Rattle.std.proofs.lemmas.Bool.{true≢false}
 use Rattle.std.proofs.lemmas.Option.{some_pair_parts}
-use Rattle.slicc_ast.specs.declared.token.Token.{Token}
-use Rattle.slicc_ast.specs.declared.machine.Machine.{Machine}
-use Rattle.slicc_ast.specs.Tokens.{AreTokensOf}
-use Rattle.slicc_ast.specs.Spelling.{state_tokens, states_tokens, event_tokens, events_tokens, port_tokens, action_tokens, transition_tokens, machine_tokens}
-use Rattle.slicc_ast.specs.SmallForm.{IsSmallForm}
+use Rattle.small_form.specs.declared.token.Token.{Token}
+use Rattle.small_machine.specs.declared.machine.Machine.{Machine}
+use Rattle.small_form.specs.Tokens.{AreTokensOf}
+use Rattle.small_form.specs.Spelling.{state_tokens, states_tokens, event_tokens, events_tokens, port_tokens, action_tokens, transition_tokens, machine_tokens}
+use Rattle.small_form.specs.SmallForm.{IsSmallForm}
 use Rattle.small_form.specs.Parsing.{begins_closed, list_tokens, text_at}
 use Rattle.small_form.proofs.Lexed.{front_of_tokens, ahead_of_blanks, only_end}
 use Rattle.small_form.proofs.Parts.{make_state, make_event, make_transition, make_port, make_action, make_states, make_events}

@@ -6,12 +6,12 @@ use Rattle.std.proofs.lemmas.Bool.{cond-true, cond-false, cond_both, cases_Bool,
 use Rattle.std.proofs.lemmas.Option.{none-some, some_pair_parts}
 use Rattle.std.proofs.lemmas.Slice.Eq.{bytes_eq-Decides}
 use Rattle.std.proofs.lemmas.List.Sums.{prefix_len-le-length}
-use Rattle.slicc_ast.specs.declared.token.Token.{Token}
-use Rattle.slicc_ast.specs.declared.token.Token.TheVariants.{Name, Reserved, Quoted, Sign}
-use Rattle.slicc_ast.specs.declared.token.Sign.{Sign as SignKind}
-use Rattle.slicc_ast.specs.declared.token.Sign.TheVariants.{OpenBrace, CloseBrace, OpenParenthesis, CloseParenthesis, Comma, Colon, Semicolon, Dot, Assign, Star}
+use Rattle.small_form.specs.declared.token.Token.{Token}
+use Rattle.small_form.specs.declared.token.Token.TheVariants.{Name, Reserved, Quoted, Sign}
+use Rattle.small_form.specs.declared.token.Sign.{Sign as SignKind}
+use Rattle.small_form.specs.declared.token.Sign.TheVariants.{OpenBrace, CloseBrace, OpenParenthesis, CloseParenthesis, Comma, Colon, Semicolon, Dot, Assign, Star}
 use Rattle.slicc_ast.specs.Bytes.{is_blank, is_letter, is_word_byte, is_text_byte, is_printable}
-use Rattle.slicc_ast.specs.Tokens.{is_reserved, reserved_words, sign_byte, IsWord, IsWrittenAs, IsEndedBefore, begins_with_word_byte}
+use Rattle.small_form.specs.Tokens.{is_reserved, reserved_words, sign_byte, IsWord, IsWrittenAs, IsEndedBefore, begins_with_word_byte}
 use Rattle.small_form.specs.Lexing.{is_quote, sign_of, token_of_word, word_front, closed, quoted_front, with_sign, front}
 use Rattle.small_form.proofs.Front.{token_of_reserved, token_of_name, word_front_short, quoted_front_closed, front_letter, front_quote}
 

@@ -2,12 +2,12 @@
 use Rattle.std.specs.Prelude.{◌==◌, ◌||◌, ℕ, Bool, cond, nat_le, Option, Some, None, List, [], ◌∷◌, take, drop}
 use Rattle.std.specs.List.{prefix_len}
 use denote.Ref.{Bor}
-use Rattle.slicc_ast.specs.declared.token.Token.{Token}
-use Rattle.slicc_ast.specs.declared.token.Token.TheVariants.{Name, Reserved, Quoted, Sign}
-use Rattle.slicc_ast.specs.declared.token.Sign.{Sign as SignKind}
-use Rattle.slicc_ast.specs.declared.token.Sign.TheVariants.{OpenBrace, CloseBrace, OpenParenthesis, CloseParenthesis, Comma, Colon, Semicolon, Dot, Assign, Star}
+use Rattle.small_form.specs.declared.token.Token.{Token}
+use Rattle.small_form.specs.declared.token.Token.TheVariants.{Name, Reserved, Quoted, Sign}
+use Rattle.small_form.specs.declared.token.Sign.{Sign as SignKind}
+use Rattle.small_form.specs.declared.token.Sign.TheVariants.{OpenBrace, CloseBrace, OpenParenthesis, CloseParenthesis, Comma, Colon, Semicolon, Dot, Assign, Star}
 use Rattle.slicc_ast.specs.Bytes.{is_letter, is_word_byte, is_text_byte}
-use Rattle.slicc_ast.specs.Tokens.{is_reserved}
+use Rattle.small_form.specs.Tokens.{is_reserved}
 
 -- what a string begins with
 abbrev pub is_quote : ℕ → Bool

@@ -3,10 +3,10 @@ use Rattle.std.specs.Prelude.{◌≡◌, ◌==◌, ◌&&◌, ◌++◌, ℕ, Bool
 use Rattle.std.specs.List.{flat_map, slice_get}
 use Rattle.std.specs.Str.{bytes_eq}
 use denote.Ref.{Bor}
-use Rattle.slicc_ast.specs.declared.token.Token.{Token}
-use Rattle.slicc_ast.specs.declared.token.Token.TheVariants.{Name, Reserved, Quoted, Sign}
-use Rattle.slicc_ast.specs.declared.token.Sign.TheVariants.{CloseBrace}
-use Rattle.slicc_ast.specs.Tokens.{sign_byte}
+use Rattle.small_form.specs.declared.token.Token.{Token}
+use Rattle.small_form.specs.declared.token.Token.TheVariants.{Name, Reserved, Quoted, Sign}
+use Rattle.small_form.specs.declared.token.Sign.TheVariants.{CloseBrace}
+use Rattle.small_form.specs.Tokens.{sign_byte}
 use Rattle.small_form.specs.declared.pattern.Piece.{Piece}
 use Rattle.small_form.specs.declared.pattern.Piece.TheVariants.{Word, Keyword, Mark, AnyName, AnyString}
 

@@ -1,6 +1,6 @@
 use crate::pattern::Piece;
 use crate::pattern::Piece::{AnyName, AnyString, Keyword, Mark, Word};
-use slicc_ast::Sign::{
+use crate::token::Sign::{
     Assign, CloseBrace, CloseParenthesis, Colon, Comma, Dot, OpenBrace, OpenParenthesis, Semicolon,
     Star,
 };

@@ -1,14 +1,14 @@
 ghost use Rattle.std.specs.Prelude.{◌≡◌, List, Option, Some, IfOk};
 ghost use Rattle.std.specs.Option.{IfSome, option_map};
-ghost use Rattle.slicc_ast.specs.declared.token.Token.{Token as Lexeme};
-ghost use Rattle.slicc_ast.specs.Tokens.{AreTokensOf};
+ghost use Rattle.small_form.specs.declared.token.Token.{Token as Lexeme};
+ghost use Rattle.small_form.specs.Tokens.{AreTokensOf};
 ghost use Rattle.small_form.specs.Lexing.{sign_of, token_of_word, word_front, quoted_front, front, with_rest};
 
 use crate::bytes::{blank_len, is_letter, is_quote, text_len, word_len};
 use crate::items::split_front;
+use crate::token::{Sign, Token};
 use crate::words::is_reserved;
 use ruby_base::{NoMemory, Seq};
-use slicc_ast::{Sign, Token};
 use std::alloc::Global;
 
 /// The longest name or reserved word of SLICC, in bytes. This limit is this project's own.

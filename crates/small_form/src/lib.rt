@@ -4,8 +4,8 @@
 
 ghost use Rattle.std.specs.Prelude.{◌≡◌, IfOk, Option, Some};
 ghost use Rattle.std.specs.Option.{IfSome};
-ghost use Rattle.slicc_ast.specs.declared.machine.Machine.{Machine as Tree};
-ghost use Rattle.slicc_ast.specs.SmallForm.{IsSmallForm};
+ghost use Rattle.small_machine.specs.declared.machine.Machine.{Machine as Tree};
+ghost use Rattle.small_form.specs.SmallForm.{IsSmallForm};
 
 mod bytes;
 mod checker;
@@ -15,6 +15,7 @@ mod laws;
 mod lexer;
 mod parser;
 mod pattern;
+mod token;
 mod words;
 
 use checker::is_well_formed;
@@ -22,7 +23,7 @@ pub use laws::trees_are_one;
 use lexer::tokens;
 use parser::machine;
 use ruby_base::NoMemory;
-use slicc_ast::Machine;
+use small_machine::Machine;
 use std::alloc::Global;
 
 /// Reads bytes as a machine of the small form: its tree where they are one's, and `None` where they are of another form.

@@ -1,16 +1,16 @@
 ghost use Rattle.std.specs.Prelude.{◌≡◌, ◌<◌, List, Option, Some, IfOk, false, length};
 ghost use Rattle.std.specs.Option.{IfSome};
-ghost use Rattle.slicc_ast.specs.declared.token.Token.{Token as Lexeme};
-ghost use Rattle.slicc_ast.specs.declared.machine.Machine.{Machine as Tree};
-ghost use Rattle.slicc_ast.specs.Spelling.{state_tokens, states_tokens, event_tokens, events_tokens, port_tokens, action_tokens, transition_tokens, machine_tokens};
+ghost use Rattle.small_form.specs.declared.token.Token.{Token as Lexeme};
+ghost use Rattle.small_machine.specs.declared.machine.Machine.{Machine as Tree};
+ghost use Rattle.small_form.specs.Spelling.{state_tokens, states_tokens, event_tokens, events_tokens, port_tokens, action_tokens, transition_tokens, machine_tokens};
 ghost use Rattle.small_form.specs.Parsing.{Reads, begins_closed, list_tokens};
 
 use crate::grammar::{ACTION, CLOSE, EVENT, EVENTS, MACHINE, PORT, STATE, STATES, TRANSITION};
 use crate::pattern::{behind, text_at};
+use crate::token::Token;
 use ruby_base::{NoMemory, Seq};
-use slicc_ast::{
-    Action, Dequeue, Event, Events, If, InPort, Machine, Peek, State, States, Token, Transition,
-    Trigger,
+use small_machine::{
+    Action, Dequeue, Event, Events, If, InPort, Machine, Peek, State, States, Transition, Trigger,
 };
 use std::alloc::Global;
 

@@ -2,8 +2,8 @@ ghost use Rattle.std.specs.Prelude.{◌≡◌, IfOk, MatchOption};
 ghost use Rattle.small_form.specs.Parsing.{is_piece, Begins, Differs, text_of, text_at};
 
 use crate::items::split_front;
+use crate::token::{Sign, Token};
 use ruby_base::{NoMemory, Seq, Text};
-use slicc_ast::{Sign, Token};
 use std::alloc::Global;
 
 /// What one token of a fixed stretch has to be.

@@ -1,8 +1,8 @@
 ghost use Rattle.std.specs.Prelude.{◌≡◌, ◌∷◌, IfOk, codes, map};
 ghost use Rattle.std.specs.List.{list_any};
 ghost use Rattle.std.specs.Str.{bytes_eq};
-ghost use Rattle.slicc_ast.specs.Tokens.{is_reserved};
-ghost use Rattle.slicc_ast.specs.WellFormed.{permissions, is_among};
+ghost use Rattle.small_form.specs.Tokens.{is_reserved};
+ghost use Rattle.small_machine.specs.WellFormed.{permissions, is_among};
 
 /// SLICC's reserved words.
 const RESERVED: [&str; 29] = [

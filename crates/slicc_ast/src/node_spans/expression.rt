@@ -1,9 +1,11 @@
 //! The spans of a tree's nodes, in the order of the text.
 ghost use Rattle.std.specs.Prelude.{◌≡◌, ◌++◌, OnOk};
-ghost use Rattle.slicc_ast.specs.Expressions.{args, expr};
+ghost use Rattle.std.specs.List.{flat_map};
+ghost use Rattle.slicc_ast.specs.Expressions.{args, expr, suffix};
 ghost use Rattle.slicc_ast.specs.Outline.{spans_of};
+ghost use Rattle.slicc_ast.specs.Spans.{operand_spans, suffix_spans};
 
-use crate::tree::{Args, Expr, Span};
+use crate::tree::{Args, Expr, Operand, Span, Suffix};
 use ruby_base::{NoMemory, Seq};
 
 /// Adds the spans of an expression.
@@ -12,15 +14,14 @@ pub fn add_expr(spans: &mut Seq<Span>, e: &Expr) -> Result<(), NoMemory>
     ensures { OnOk result (spans.new ≡ spans.old ++ spans_of (expr e.now)) }
 {
     match e {
-        Expr::Binary {
-            left,
-            right,
+        Expr::Operation {
+            first,
+            others,
             span,
-            ..
         } => {
             spans.push(*span)?;
-            add_expr(spans, left)?;
-            add_expr(spans, right)
+            add_expr(spans, first)?;
+            add_operands(spans, others)
         }
         Expr::Not(inner, span)
         | Expr::Negate(inner, span)
@@ -30,26 +31,14 @@ pub fn add_expr(spans: &mut Seq<Span>, e: &Expr) -> Result<(), NoMemory>
             spans.push(*span)?;
             add_expr(spans, inner)
         }
-        Expr::Field { value, name, span } => {
-            spans.push(*span)?;
-            add_expr(spans, value)?;
-            spans.push(name.span)
-        }
-        Expr::Method {
+        Expr::Postfix {
             value,
-            name,
-            arguments,
+            suffixes,
             span,
         } => {
             spans.push(*span)?;
             add_expr(spans, value)?;
-            spans.push(name.span)?;
-            add_args(spans, arguments)
-        }
-        Expr::Index { value, key, span } => {
-            spans.push(*span)?;
-            add_expr(spans, value)?;
-            add_expr(spans, key)
+            add_suffixes(spans, suffixes)
         }
         Expr::Number(_, span) | Expr::True(span) | Expr::False(span) | Expr::Nothing(span) => {
             spans.push(*span)
@@ -86,6 +75,51 @@ pub fn add_expr(spans: &mut Seq<Span>, e: &Expr) -> Result<(), NoMemory>
             spans.push(*span)?;
             spans.push(target.span)?;
             add_expr(spans, value)
+        }
+    }
+}
+
+#[cycle(expression_spans)]
+fn add_operands(spans: &mut Seq<Span>, operands: &[Operand]) -> Result<(), NoMemory>
+    ensures { OnOk result (spans.new ≡ spans.old ++ flat_map operand_spans operands.now) }
+{
+    for operand in operands {
+        add_expr(spans, &operand.value)?;
+    }
+    Ok(())
+}
+
+#[cycle(expression_spans)]
+fn add_suffixes(spans: &mut Seq<Span>, suffixes: &[Suffix]) -> Result<(), NoMemory>
+    ensures { OnOk result (spans.new ≡ spans.old ++ flat_map suffix_spans suffixes.now) }
+{
+    for suffix in suffixes {
+        add_suffix(spans, suffix)?;
+    }
+    Ok(())
+}
+
+#[cycle(expression_spans)]
+fn add_suffix(spans: &mut Seq<Span>, s: &Suffix) -> Result<(), NoMemory>
+    ensures { OnOk result (spans.new ≡ spans.old ++ spans_of (suffix s.now)) }
+{
+    match s {
+        Suffix::Field(name, span) => {
+            spans.push(*span)?;
+            spans.push(name.span)
+        }
+        Suffix::Method {
+            name,
+            arguments,
+            span,
+        } => {
+            spans.push(*span)?;
+            spans.push(name.span)?;
+            add_args(spans, arguments)
+        }
+        Suffix::Index(key, span) => {
+            spans.push(*span)?;
+            add_expr(spans, key)
         }
     }
 }

@@ -1,36 +1,24 @@
 use crate::tree::{Name, Span, TypeName};
 use ruby_base::Text;
 
-/// An expression, of any level of operators: the levels of the grammar are one type, in which a node's operands are of
-/// its own level or a tighter one on the left, and of a tighter one on the right.
+/// An expression, of any level of operators: the levels of the grammar are one type, in which the operands of a node bind
+/// tighter than its operators.
 #[derive(Drop)]
 #[cycle(expression)]
 pub enum Expr {
-    Binary {
-        operator: Operator,
-        left: Box<Expr>,
-        right: Box<Expr>,
+    /// Operands with operators of one level between them, at least two. They group to the left: `a - b + c` is
+    /// `(a - b) + c`, and each group on the left starts where the node does.
+    Operation {
+        first: Box<Expr>,
+        others: Vec<Operand>,
         span: Span,
     },
     Not(Box<Expr>, Span),
     Negate(Box<Expr>, Span),
-    /// `value.name`
-    Field {
+    /// A primary expression with at least one suffix. Each suffix is one of all that stands before it.
+    Postfix {
         value: Box<Expr>,
-        name: Name,
-        span: Span,
-    },
-    /// `value.name(arguments)`
-    Method {
-        value: Box<Expr>,
-        name: Name,
-        arguments: Args,
-        span: Span,
-    },
-    /// `value[key]`
-    Index {
-        value: Box<Expr>,
-        key: Box<Expr>,
+        suffixes: Vec<Suffix>,
         span: Span,
     },
     Number(i64, Span),
@@ -63,6 +51,30 @@ pub enum Expr {
     },
     /// An expression in parentheses.
     Group(Box<Expr>, Span),
+}
+
+/// An operator and the operand behind it.
+#[derive(Drop)]
+#[cycle(expression)]
+pub struct Operand {
+    pub operator: Operator,
+    pub value: Expr,
+}
+
+/// What may stand behind a primary expression.
+#[derive(Drop)]
+#[cycle(expression)]
+pub enum Suffix {
+    /// `.name`
+    Field(Name, Span),
+    /// `.name(arguments)`
+    Method {
+        name: Name,
+        arguments: Args,
+        span: Span,
+    },
+    /// `[key]`
+    Index(Expr, Span),
 }
 
 /// The arguments of a call, none where nothing stands between its parentheses.

@@ -1,9 +1,9 @@
 use Rattle.std.proofs.Common.{sym, subst, ◌∙◌}
 use Rattle.std.proofs.lemmas.Bool.{true≢false}
 use Rattle.std.proofs.lemmas.Option.{none-some, same_Some}
-use Rattle.slicc_ast.specs.declared.machine.Machine.{Machine}
-use Rattle.slicc_ast.specs.Spelling.{machine_tokens}
-use Rattle.slicc_ast.specs.WellFormed.{IsWellFormed}
+use Rattle.small_machine.specs.declared.machine.Machine.{Machine}
+use Rattle.small_form.specs.Spelling.{machine_tokens}
+use Rattle.small_machine.specs.WellFormed.{IsWellFormed}
 use Rattle.small_form.proofs.read_machine.Goals as goal
 
 pub returns-in_default-clause-only : goal.returns-in_default-clause-only

@@ -1,5 +1,5 @@
 use Rattle.slicc_expr.specs.Levels.{mode_part}
-use Rattle.slicc_expr.proofs.Parts.{at_first, behind}
+use Rattle.slicc_reading.proofs.Parts.{at_first, behind}
 use Rattle.slicc_expr.proofs.cast.cast_head.Goals as goal
 
 pub returns-in-Err-optional_mode-clause-read : goal.returns-in-Err-optional_mode-clause-read

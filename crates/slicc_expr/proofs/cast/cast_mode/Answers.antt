@@ -1,5 +1,5 @@
 use Rattle.slicc_grammar.specs.Parts.{comma}
-use Rattle.slicc_expr.proofs.Parts.{at_first, behind}
+use Rattle.slicc_reading.proofs.Parts.{at_first, behind}
 use Rattle.slicc_expr.proofs.cast.cast_mode.Goals as goal
 
 pub returns-in-Err-sign : goal.returns-in-Err-sign

@@ -1,5 +1,5 @@
 use Rattle.slicc_grammar.specs.Parts.{comma}
-use Rattle.slicc_expr.proofs.Parts.{◌then◌, as_part, at_first, behind}
+use Rattle.slicc_reading.proofs.Parts.{◌then◌, as_part, at_first, behind}
 use Rattle.slicc_expr.proofs.cast.cast_target.Goals as goal
 
 pub returns-in-Err-sign-clause-read : goal.returns-in-Err-sign-clause-read

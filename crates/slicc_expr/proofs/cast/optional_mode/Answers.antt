@@ -1,7 +1,7 @@
 use Rattle.std.proofs.Common.{sym}
 use Rattle.grammar_rows.specs.Grammar.Row.{done}
 use Rattle.slicc_grammar.specs.Parts.{◌▸◌, comma, string}
-use Rattle.slicc_expr.proofs.Choices.{absent, present, fault_in_present}
+use Rattle.slicc_reading.proofs.Choices.{absent, present, fault_in_present}
 use Rattle.slicc_expr.proofs.cast.optional_mode.Goals as goal
 
 pub returns-then-not-is_string : goal.returns-then-not-is_string

@@ -1,13 +1,15 @@
-use Rattle.std.proofs.Common.{refl, sym, arith, ◌≤◌, length}
+use Rattle.std.proofs.Common.{refl, sym, arith, ◌∷◌, []}
 use Rattle.grammar_rows.specs.Grammar.Row.{done, form}
-use Rattle.slicc_ast.specs.declared.tree.token.Sign.TheVariants.{CloseParenthesis}
+use Rattle.slicc_ast.specs.declared.tree.token.Sign.TheVariants.{CloseParenthesis, Dot, OpenBracket}
+use Rattle.slicc_grammar.specs.TokenKinds.{sign_kind}
 use Rattle.slicc_grammar.specs.Form.Form.{arguments, constant, expression, name_end, opening, suffix, unary}
 use Rattle.slicc_grammar.specs.Parts.{◌▸◌, of, optional, parentheses, repeated, sign as sign_part}
-use Rattle.slicc_expr.specs.Reading.Refuses.{no_memory}
-use Rattle.slicc_expr.proofs.Parts.{◌then◌, allow, as_allowed_behind, as_node, as_node_behind, as_part, as_tree, at_first, behind, behind_read, in_alternative, match_map, of_alternative, read_behind}
-use Rattle.slicc_expr.proofs.Choices.{absent, absent_read, present, present_read, fault_in_present, fault_in_more, in_nesting, fault_in_nesting}
-use Rattle.slicc_expr.proofs.Loops.{more_items, items_begin, items_more, items_end, no_items, operands_begin, next_level, one_operand, fault_in_operand, all_operands, one_suffix, fault_in_suffix, all_suffixes}
-use Rattle.slicc_expr.proofs.Ahead.{bracket_ahead, colon_ahead, constant_ahead, invalid_ahead, le_true, level_read, fault_in_operators, fault_in_unary, neither_ahead, no_level, open_ahead, opening_ahead, unary_level}
+use Rattle.slicc_reading.specs.Reading.Refuses.{no_memory}
+use Rattle.slicc_reading.proofs.Parts.{◌then◌, allow, as_node, as_node_behind, as_part, as_tree, at_first, behind, behind_read, in_alternative, match_map, of_alternative, read_behind}
+use Rattle.slicc_reading.proofs.Choices.{absent, absent_read, present, present_read, fault_in_present, fault_in_more, in_nesting, fault_in_nesting}
+use Rattle.slicc_expr.proofs.Loops.{more_items, items_begin, items_more, items_end, no_items, operands_begin, one_level, fault_in_level, all_operands, are_some, fault_in_operand, no_operand, no_operand_yet, no_suffix, one_operand, operands_end, operands_level, operation_read, operator_ahead, postfix_read, some_begin, some_end, some_more, suffix_parts, suffixes_end}
+use Rattle.slicc_reading.proofs.Repeats.{fault_in_one}
+use Rattle.slicc_expr.proofs.Ahead.{bracket_ahead, colon_ahead, constant_ahead, invalid_ahead, level_read, fault_in_operators, fault_in_unary, neither_ahead, no_level, open_ahead, opening_ahead, unary_level}
 use Rattle.slicc_ast.specs.Expressions.{level_of}
 use Rattle.slicc_lex.specs.Syntax.{symbols}
 use Rattle.slicc_expr.proofs.expressions.+expression.Goals as goal
@@ -115,22 +117,6 @@ converted-returns-in-Err-level-clause-read t c =
 pub converted-returns-in-Err-clause-read : goal.converted-returns-in-Err-clause-read
 converted-returns-in-Err-clause-read t c =
     at_first (of expression ▸ sign_part CloseParenthesis) c.in-Err.ensures.read
-
-pub dotted-returns-in-Err-field-clause-read : goal.dotted-returns-in-Err-field-clause-read
-dotted-returns-in-Err-field-clause-read t c =
-    no_memory
-
-pub dotted-returns-in-Ok-field-clause-read : goal.dotted-returns-in-Ok-field-clause-read
-dotted-returns-in-Ok-field-clause-read t c =
-    as_tree _ c.in-Ok-field.ensures.spells (as_allowed_behind c.span.result c.span.ensures (le_true 8 (level_of c.args.value) c.requires.tight) c.requires.value (c.in-Ok.ensures.read then absent (parentheses (optional (of arguments)) done) (sym c.if-not-is_sign.ensures)))
-
-pub dotted-returns-in-Err-method-clause-read : goal.dotted-returns-in-Err-method-clause-read
-dotted-returns-in-Err-method-clause-read t c =
-    no_memory
-
-pub dotted-returns-in-Ok-method-clause-read : goal.dotted-returns-in-Ok-method-clause-read
-dotted-returns-in-Ok-method-clause-read t c =
-    as_tree _ c.in-Ok-method.ensures.spells (as_allowed_behind c.span-in-Ok-arguments.result c.span-in-Ok-arguments.ensures (le_true 8 (level_of c.args.value) c.requires.tight) c.requires.value (c.in-Ok.ensures.read then present (sym c.if-not-is_sign.ensures) c.in-Ok-arguments.ensures.read))
 
 pub dotted-returns-in-Err-arguments-clause-read : goal.dotted-returns-in-Err-arguments-clause-read
 dotted-returns-in-Err-arguments-clause-read t c =
@@ -248,61 +234,9 @@ pub opening-returns-in-Err-clause-read : goal.opening-returns-in-Err-clause-read
 opening-returns-in-Err-clause-read t c =
     in_alternative opening 2 refl (constant_ahead c.args.tokens.now c.requires (sym c.if-is_sign.ensures) (sym c.if-is_sign-2.ensures)) (at_first (repeated (of suffix)) c.in-Err.ensures.read)
 
-pub operators-levels-init : goal.operators-levels-init
-operators-levels-init t c =
-    operands_begin c.args.room c.args.height c.args.start.now c.args.tokens.now c.args.first c.requires.first c.requires.tight
-
-pub operators-levels-preserved-in-None : goal.operators-levels-preserved-in-None
-operators-levels-preserved-in-None t c =
-    next_level c.levels-test.true c.in-None.ensures.operator c.levels.invariant
-
-pub operators-levels-preserved : goal.operators-levels-preserved
-operators-levels-preserved t c =
-    one_operand c.in-Ok.operand c.in-Ok-binary.more c.in-Some.operator c.span.result c.levels-test.true c.in-Ok-binary.ensures.spells c.in-Ok-binary.ensures.level c.span.ensures c.in-Some.ensures.operator c.in-Ok.ensures.read c.in-Ok.ensures.tight c.levels.invariant
-
-pub operators-returns-in-Err-binary-clause-read : goal.operators-returns-in-Err-binary-clause-read
-operators-returns-in-Err-binary-clause-read t c =
-    no_memory
-
-pub operators-returns-in-Err-clause-read : goal.operators-returns-in-Err-clause-read
-operators-returns-in-Err-clause-read t c =
-    fault_in_operand c.levels-test.true c.in-Some.ensures.operator c.in-Err.ensures.read c.levels.invariant
-
-pub operators-returns-clause-read : goal.operators-returns-clause-read
-operators-returns-clause-read t c =
-    all_operands (omega arith) c.levels.invariant
-
 pub suffix-returns-then-is_sign-clause-read : goal.suffix-returns-then-is_sign-clause-read
 suffix-returns-then-is_sign-clause-read t c =
     match_map c.dotted.result c.dotted.ensures.read (λ read is. of_alternative suffix 0 refl (sym c.if-is_sign.ensures) is) (λ fault is. in_alternative suffix 0 refl (sym c.if-is_sign.ensures) is)
-
-pub suffix-returns-in-Err-index-clause-read : goal.suffix-returns-in-Err-index-clause-read
-suffix-returns-in-Err-index-clause-read t c =
-    no_memory
-
-pub suffix-returns-in-Ok-index-clause-read : goal.suffix-returns-in-Ok-index-clause-read
-suffix-returns-in-Ok-index-clause-read t c =
-    of_alternative suffix 1 refl (bracket_ahead c.args.tokens.now c.requires.begins (sym c.if-is_sign.ensures)) (as_tree _ c.in-Ok-index.ensures.spells (as_allowed_behind c.span.result c.span.ensures (le_true 8 (level_of c.args.value) c.requires.tight) c.requires.value c.in-Ok.ensures.read))
-
-pub suffix-returns-in-Err-clause-read : goal.suffix-returns-in-Err-clause-read
-suffix-returns-in-Err-clause-read t c =
-    in_alternative suffix 1 refl (bracket_ahead c.args.tokens.now c.requires.begins (sym c.if-is_sign.ensures)) c.in-Err.ensures.read
-
-pub suffixes-suffix-requires : goal.suffixes-suffix-requires
-suffixes-suffix-requires t c =
-    (let within : length c.more.left.now ≤ length c.args.tokens.now = c.more.invariant.leads.within in omega arith, (c.more.invariant.is_node, (c.more.invariant.tight, sym c.more-test.ensures)))
-
-pub suffixes-more-preserved : goal.suffixes-more-preserved
-suffixes-more-preserved t c =
-    one_suffix (sym c.more-test.ensures) c.in-Ok.ensures.read c.in-Ok.ensures.tight c.more.invariant
-
-pub suffixes-returns-in-Err-clause-read : goal.suffixes-returns-in-Err-clause-read
-suffixes-returns-in-Err-clause-read t c =
-    fault_in_suffix (sym c.more-test.ensures) c.in-Err.ensures.read c.more.invariant
-
-pub suffixes-returns-clause-read : goal.suffixes-returns-clause-read
-suffixes-returns-clause-read t c =
-    all_suffixes (sym c.more-test.ensures) c.more.invariant
 
 pub tested-returns-in-Ok-clause-read : goal.tested-returns-in-Ok-clause-read
 tested-returns-in-Ok-clause-read t c =
@@ -347,3 +281,111 @@ validity-returns-in-Err-is_invalid-clause-read t c =
 pub validity-returns-in-Err-tested-clause-read : goal.validity-returns-in-Err-tested-clause-read
 validity-returns-in-Err-tested-clause-read t c =
     in_alternative constant 6 refl (invalid_ahead c.args.tokens.now c.requires (sym c.if-is_word.ensures)) c.in-Err-tested.ensures.read
+
+pub dotted-returns-then-not-is_sign-clause-read : goal.dotted-returns-then-not-is_sign-clause-read
+dotted-returns-then-not-is_sign-clause-read t c =
+    as_tree _ c.field.ensures (as_node c.span.result c.span.ensures (c.in-Ok.ensures.read then absent (parentheses (optional (of arguments)) done) (sym c.if-not-is_sign.ensures)))
+
+pub dotted-returns-in-Ok-arguments-clause-read : goal.dotted-returns-in-Ok-arguments-clause-read
+dotted-returns-in-Ok-arguments-clause-read t c =
+    as_tree _ c.method.ensures (as_node c.span-in-Ok-arguments.result c.span-in-Ok-arguments.ensures (c.in-Ok.ensures.read then present (sym c.if-not-is_sign.ensures) c.in-Ok-arguments.ensures.read))
+
+pub suffix-returns-in-Ok-clause-read : goal.suffix-returns-in-Ok-clause-read
+suffix-returns-in-Ok-clause-read t c =
+    of_alternative suffix 1 refl (bracket_ahead c.args.tokens.now c.requires (sym c.if-is_sign.ensures)) (as_tree _ c.index.ensures (as_node c.span.result c.span.ensures c.in-Ok.ensures.read))
+
+pub suffix-returns-in-Err-clause-read : goal.suffix-returns-in-Err-clause-read
+suffix-returns-in-Err-clause-read t c =
+    in_alternative suffix 1 refl (bracket_ahead c.args.tokens.now c.requires (sym c.if-is_sign.ensures)) c.in-Err.ensures.read
+
+pub operands-more-init : goal.operands-more-init
+operands-more-init t c =
+    no_operand_yet c.args.room c.args.height c.args.tokens.now c.new-items.result.items c.new-items.ensures.items
+
+pub operands-more-preserved : goal.operands-more-preserved
+operands-more-preserved t c =
+    one_operand c.more.items.items _ c.push.new.self.items c.in-Ok-push.ensures.items c.requires.within c.in-Some.ensures.operator c.in-Ok.ensures.read c.in-Ok.ensures.tight c.more.invariant
+
+pub operands-returns-in-Err-push-clause-read : goal.operands-returns-in-Err-push-clause-read
+operands-returns-in-Err-push-clause-read t c =
+    no_memory
+
+pub operands-returns-in-Err-clause-read : goal.operands-returns-in-Err-clause-read
+operands-returns-in-Err-clause-read t c =
+    fault_in_operand c.in-Some.ensures.operator c.in-Err.ensures.read c.more.invariant
+
+pub operands-returns-clause-read : goal.operands-returns-clause-read
+operands-returns-clause-read t c =
+    operands_end c.more.items.items c.in_default.ensures.operator c.more.invariant
+
+pub operands-returns-clause-level : goal.operands-returns-clause-level
+operands-returns-clause-level t c =
+    operands_level c.more.items.items c.requires.begins c.in_default.ensures.operator c.more.invariant
+
+pub operation-returns-in_default-clause-read : goal.operation-returns-in_default-clause-read
+operation-returns-in_default-clause-read t c =
+    no_operand c.args.height c.args.first c.in_default.ensures.operator c.requires.first
+
+pub operation-operands-requires : goal.operation-operands-requires
+operation-operands-requires t c =
+    (omega arith, (c.requires.within, operator_ahead _ _ _ _ c.in-Some.ensures.operator))
+
+pub operation-returns-in-Ok-operation-clause-read : goal.operation-returns-in-Ok-operation-clause-read
+operation-returns-in-Ok-operation-clause-read t c =
+    as_tree _ c.in-Ok-operation.ensures.spells (operation_read c.span.result c.args.first c.in-Ok.others.items c.requires.within c.span.ensures c.requires.first c.requires.tight c.in-Ok.ensures.level c.in-Ok.ensures.read)
+
+pub operation-returns-in-Err-operation-clause-read : goal.operation-returns-in-Err-operation-clause-read
+operation-returns-in-Err-operation-clause-read t c =
+    no_memory
+
+pub operators-levels-init : goal.operators-levels-init
+operators-levels-init t c =
+    operands_begin c.args.room c.args.height c.args.start.now c.args.tokens.now c.args.first c.requires.first c.requires.tight
+
+pub operators-levels-preserved : goal.operators-levels-preserved
+operators-levels-preserved t c =
+    one_level c.in-Ok.more c.levels-test.true c.in-Ok.ensures.read c.in-Ok.ensures.tight c.levels.invariant
+
+pub operators-returns-in-Err-clause-read : goal.operators-returns-in-Err-clause-read
+operators-returns-in-Err-clause-read t c =
+    fault_in_level c.levels-test.true c.in-Err.ensures.read c.levels.invariant
+
+pub operators-returns-clause-read : goal.operators-returns-clause-read
+operators-returns-clause-read t c =
+    all_operands (omega arith) c.levels.invariant
+
+pub suffix_list-more-init : goal.suffix_list-more-init
+suffix_list-more-init t c =
+    some_begin suffix_parts c.args.room (of suffix) c.args.tokens.now c.new-items.result.items c.new-items.ensures.items
+
+pub suffix_list-more-preserved : goal.suffix_list-more-preserved
+suffix_list-more-preserved t c =
+    some_more c.more.items.items _ c.push.new.self.items c.in-Ok-push.ensures.items (sym c.more-test.ensures) (as_part c.in-Ok.ensures.read) c.more.invariant
+
+pub suffix_list-returns-in-Err-push-clause-read : goal.suffix_list-returns-in-Err-push-clause-read
+suffix_list-returns-in-Err-push-clause-read t c =
+    no_memory
+
+pub suffix_list-returns-in-Err-clause-read : goal.suffix_list-returns-in-Err-clause-read
+suffix_list-returns-in-Err-clause-read t c =
+    fault_in_one (sym c.more-test.ensures) c.in-Err.ensures.read c.more.invariant.read
+
+pub suffix_list-returns-clause-read : goal.suffix_list-returns-clause-read
+suffix_list-returns-clause-read t c =
+    suffixes_end c.more.items.items (sym c.more-test.ensures) c.more.invariant
+
+pub suffix_list-returns-clause-some : goal.suffix_list-returns-clause-some
+suffix_list-returns-clause-some t c =
+    are_some c.more.items.items (some_end (sign_kind Dot ∷ sign_kind OpenBracket ∷ []) c.more.items.items c.requires (sym c.more-test.ensures) c.more.invariant)
+
+pub suffixes-returns-then-not-begins_suffix-clause-read : goal.suffixes-returns-then-not-begins_suffix-clause-read
+suffixes-returns-then-not-begins_suffix-clause-read t c =
+    no_suffix c.args.value (sym c.if-not-begins_suffix.ensures) c.requires.value
+
+pub suffixes-returns-in-Ok-postfix-clause-read : goal.suffixes-returns-in-Ok-postfix-clause-read
+suffixes-returns-in-Ok-postfix-clause-read t c =
+    as_tree _ c.in-Ok-postfix.ensures.spells (postfix_read c.span.result c.args.value c.in-Ok.suffixes.items c.span.ensures c.requires.value c.requires.tight c.in-Ok.ensures.some c.in-Ok.ensures.read)
+
+pub suffixes-returns-in-Err-postfix-clause-read : goal.suffixes-returns-in-Err-postfix-clause-read
+suffixes-returns-in-Err-postfix-clause-read t c =
+    no_memory

@@ -1,6 +1,8 @@
 -- How deep the cycle of functions goes: each call has fewer tokens left, or comes later in this order.
 use Rattle.std.proofs.Common.{◌+◌, ◌-◌, ◌*◌, length}
-use Rattle.slicc_expr.proofs.Loops.{AreItems, IsOperand, IsPrimary}
+use Rattle.slicc_grammar.specs.Form.Form.{suffix}
+use Rattle.slicc_grammar.specs.Parts.{of}
+use Rattle.slicc_expr.proofs.Loops.{AreItems, AreOperands, AreSome, IsOperand, suffix_parts}
 use Rattle.slicc_expr.proofs.expressions.+expression.Given as goal
 
 abbrev pub decreases-after_name : goal.decreases-after_name
@@ -49,13 +51,22 @@ abbrev pub decreases-opening : goal.decreases-opening
 decreases-opening l = 16 * length l.tokens.now + 6
 
 abbrev pub decreases-operators : goal.decreases-operators
-decreases-operators l = 16 * length l.tokens.now + 1
+decreases-operators l = 16 * length l.tokens.now + 3
+
+abbrev pub decreases-operation : goal.decreases-operation
+decreases-operation l = 16 * length l.tokens.now + 2
+
+abbrev pub decreases-operands : goal.decreases-operands
+decreases-operands l = 16 * length l.tokens.now + 1
 
 abbrev pub decreases-suffix : goal.decreases-suffix
 decreases-suffix l = 16 * length l.tokens.now + 3
 
 abbrev pub decreases-suffixes : goal.decreases-suffixes
-decreases-suffixes l = 16 * length l.tokens.now + 4
+decreases-suffixes l = 16 * length l.tokens.now + 5
+
+abbrev pub decreases-suffix_list : goal.decreases-suffix_list
+decreases-suffix_list l = 16 * length l.tokens.now + 4
 
 abbrev pub decreases-tested : goal.decreases-tested
 decreases-tested l = 16 * length l.tokens.now + 2
@@ -76,10 +87,16 @@ abbrev pub invariant-operators-levels : goal.invariant-operators-levels
 invariant-operators-levels l = IsOperand l.room l.height l.start l.tokens l.at l.joined l.left
 
 abbrev pub decreases-operators-levels : goal.decreases-operators-levels
-decreases-operators-levels l = 8 * length l.left + (l.height - l.at)
+decreases-operators-levels l = l.height - l.at
 
-abbrev pub invariant-suffixes-more : goal.invariant-suffixes-more
-invariant-suffixes-more l = IsPrimary l.room l.start l.tokens l.value l.left
+abbrev pub invariant-operands-more : goal.invariant-operands-more
+invariant-operands-more l = AreOperands l.room l.height l.tokens l.items.items l.left
 
-abbrev pub decreases-suffixes-more : goal.decreases-suffixes-more
-decreases-suffixes-more l = length l.left
+abbrev pub decreases-operands-more : goal.decreases-operands-more
+decreases-operands-more l = length l.left
+
+abbrev pub invariant-suffix_list-more : goal.invariant-suffix_list-more
+invariant-suffix_list-more l = AreSome suffix_parts l.room (of suffix) l.tokens l.items.items l.left
+
+abbrev pub decreases-suffix_list-more : goal.decreases-suffix_list-more
+decreases-suffix_list-more l = length l.left

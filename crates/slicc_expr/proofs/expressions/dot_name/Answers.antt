@@ -1,5 +1,5 @@
 use Rattle.slicc_grammar.specs.Parts.{name}
-use Rattle.slicc_expr.proofs.Parts.{◌then◌, as_part, at_first, behind, match_map}
+use Rattle.slicc_reading.proofs.Parts.{◌then◌, as_part, at_first, behind, match_map}
 use Rattle.slicc_expr.proofs.expressions.dot_name.Goals as goal
 
 pub returns-in-Ok-clause-read : goal.returns-in-Ok-clause-read

@@ -1,5 +1,5 @@
 use Rattle.slicc_grammar.specs.Parts.{name}
-use Rattle.slicc_expr.proofs.Parts.{◌then◌, as_node_behind, as_part, at_first, behind}
+use Rattle.slicc_reading.proofs.Parts.{◌then◌, as_node_behind, as_part, at_first, behind}
 use Rattle.slicc_expr.proofs.expressions.member.Goals as goal
 
 pub returns-in-Ok-name-clause-read : goal.returns-in-Ok-name-clause-read

@@ -3,5 +3,5 @@ use Rattle.slicc_ast.specs.declared.tree.expression.Expr.TheViews.{the_lemmas}
 use Rattle.slicc_expr.proofs.Rows.{args_of_row}
 use Rattle.slicc_expr.proofs.nodes.method.Goals as goal
 
-pub returns-clause-spells : goal.returns-clause-spells
-returns-clause-spells c = search (rules, the_lemmas, args_of_row)
+pub returns : goal.returns
+returns c = search (rules, the_lemmas, args_of_row)

@@ -2,7 +2,7 @@ use Rattle.std.proofs.Common.{List, Some, arith, sym, ap, ◌∙◌, subst}
 use Rattle.std.specs.Option.{option_map}
 use Rattle.std.proofs.lemmas.List.Sums.{prefix_len-le-length}
 use Rattle.slicc_ast.specs.Bytes.{is_blank}
-use Rattle.slicc_ast.specs.declared.token.Token.{Token}
+use Rattle.small_form.specs.declared.token.Token.{Token}
 use Rattle.small_form.specs.Lexing.{front, with_rest}
 use Rattle.small_form.proofs.Lexed.{Lexed, ahead, split_ahead, ahead_shorter, lexed_none, lexed_more, lexed_all, lexed_only, lexed_bad, front_shorter, empty_from, not_empty_from}
 use Rattle.small_form.proofs.lexer.tokens.Goals as goal

@@ -1,5 +1,5 @@
 use Rattle.std.proofs.Common.{refl}
-use Rattle.slicc_ast.specs.Spelling.{action_tokens}
+use Rattle.small_form.specs.Spelling.{action_tokens}
 use Rattle.small_form.proofs.Patterns.{reads_pattern}
 use Rattle.small_form.proofs.Parts.{make_action, action_made}
 use Rattle.small_form.proofs.parser.action.Goals as goal

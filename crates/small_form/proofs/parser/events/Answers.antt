@@ -1,6 +1,6 @@
 use Rattle.std.proofs.Common.{refl}
-use Rattle.slicc_ast.specs.declared.machine.Events.{Events}
-use Rattle.slicc_ast.specs.Spelling.{events_tokens, event_tokens}
+use Rattle.small_machine.specs.declared.machine.Events.{Events}
+use Rattle.small_form.specs.Spelling.{events_tokens, event_tokens}
 use Rattle.small_form.proofs.Patterns.{reads_as, reads_opening, unread_opening}
 use Rattle.small_form.proofs.Parts.{make_events, events_made}
 use Rattle.small_form.proofs.parser.events.Goals as goal

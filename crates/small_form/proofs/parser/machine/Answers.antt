@@ -1,5 +1,5 @@
 use Rattle.std.proofs.Common.{[], Some, ap, sym, refl}
-use Rattle.slicc_ast.specs.declared.machine.Machine.{Machine}
+use Rattle.small_machine.specs.declared.machine.Machine.{Machine}
 use Rattle.small_form.proofs.Lexed.{empty_from, not_empty_from}
 use Rattle.small_form.proofs.Patterns.{reads_as}
 use Rattle.small_form.proofs.Machines.{to_states, states_are, events_are, port_is, action_is, from_events, from_port, from_action, from_transitions, machine_sound, machine_only}

@@ -1,5 +1,5 @@
 use Rattle.std.proofs.Common.{refl}
-use Rattle.slicc_ast.specs.Spelling.{port_tokens}
+use Rattle.small_form.specs.Spelling.{port_tokens}
 use Rattle.small_form.proofs.Patterns.{reads_pattern}
 use Rattle.small_form.proofs.Parts.{make_port, port_made}
 use Rattle.small_form.proofs.parser.port.Goals as goal

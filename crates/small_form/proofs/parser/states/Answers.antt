@@ -1,6 +1,6 @@
 use Rattle.std.proofs.Common.{refl}
-use Rattle.slicc_ast.specs.declared.machine.States.{States}
-use Rattle.slicc_ast.specs.Spelling.{states_tokens, state_tokens}
+use Rattle.small_machine.specs.declared.machine.States.{States}
+use Rattle.small_form.specs.Spelling.{states_tokens, state_tokens}
 use Rattle.small_form.proofs.Patterns.{reads_as, reads_opening, unread_opening}
 use Rattle.small_form.proofs.Parts.{make_states, states_made}
 use Rattle.small_form.proofs.parser.states.Goals as goal

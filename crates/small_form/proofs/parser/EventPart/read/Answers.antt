@@ -1,5 +1,5 @@
 use Rattle.std.proofs.Common.{refl, lit<}
-use Rattle.slicc_ast.specs.Spelling.{event_tokens}
+use Rattle.small_form.specs.Spelling.{event_tokens}
 use Rattle.small_form.proofs.Patterns.{reads_pattern, shorter_behind}
 use Rattle.small_form.proofs.Parts.{make_event, event_made}
 use Rattle.small_form.proofs.parser.EventPart.read.Goals as goal

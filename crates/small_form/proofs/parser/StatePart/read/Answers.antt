@@ -1,5 +1,5 @@
 use Rattle.std.proofs.Common.{refl, lit<}
-use Rattle.slicc_ast.specs.Spelling.{state_tokens}
+use Rattle.small_form.specs.Spelling.{state_tokens}
 use Rattle.small_form.proofs.Patterns.{reads_pattern, shorter_behind}
 use Rattle.small_form.proofs.Parts.{make_state, state_made}
 use Rattle.small_form.proofs.parser.StatePart.read.Goals as goal

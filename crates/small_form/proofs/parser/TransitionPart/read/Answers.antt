@@ -1,5 +1,5 @@
 use Rattle.std.proofs.Common.{refl, lit<}
-use Rattle.slicc_ast.specs.Spelling.{transition_tokens}
+use Rattle.small_form.specs.Spelling.{transition_tokens}
 use Rattle.small_form.proofs.Patterns.{reads_pattern, shorter_behind}
 use Rattle.small_form.proofs.Parts.{make_transition, transition_made}
 use Rattle.small_form.proofs.parser.TransitionPart.read.Goals as goal

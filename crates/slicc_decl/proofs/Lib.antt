@@ -1,0 +1,3 @@
+pub mod FirstTokens
+pub mod Lists
+pub mod NameKinds

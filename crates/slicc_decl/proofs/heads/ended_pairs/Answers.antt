@@ -1,0 +1,19 @@
+use Rattle.std.proofs.Common.{◌≤◌, ◌<◌, length, arith}
+use Rattle.slicc_grammar.specs.Parts.{sign}
+use Rattle.slicc_reading.proofs.Parts.{◌then◌, as_part, at_first, behind}
+use Rattle.slicc_decl.proofs.heads.ended_pairs.Goals as goal
+
+pub returns-in-Ok-sign-clause-read : goal.returns-in-Ok-sign-clause-read
+returns-in-Ok-sign-clause-read c = as_part c.in-Ok.ensures then c.in-Ok-sign.ensures.read
+
+pub returns-in-Ok-sign-clause-shorter : goal.returns-in-Ok-sign-clause-shorter
+returns-in-Ok-sign-clause-shorter c =
+    let some : length c.in-Ok-sign.left.now < length c.in-Ok.behind.now = c.in-Ok-sign.ensures.shorter in
+    let few : length c.in-Ok.behind.now ≤ length c.args.tokens.now = c.in-Ok.ensures.within in
+    omega arith
+
+pub returns-in-Err-sign-clause-read : goal.returns-in-Err-sign-clause-read
+returns-in-Err-sign-clause-read c = behind (as_part c.in-Ok.ensures) c.in-Err-sign.ensures.read
+
+pub returns-in-Err-clause-read : goal.returns-in-Err-clause-read
+returns-in-Err-clause-read c = at_first (sign c.args.end) c.in-Err.ensures

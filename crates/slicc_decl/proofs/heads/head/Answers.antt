@@ -1,0 +1,10 @@
+use Rattle.slicc_reading.proofs.Choices.{in_nesting, fault_in_nesting}
+use Rattle.slicc_reading.proofs.Parts.{match_map}
+use Rattle.slicc_decl.proofs.heads.head.Goals as goal
+
+pub returns-in-Ok : goal.returns-in-Ok
+returns-in-Ok c =
+    match_map c.ended_name.result c.ended_name.ensures.read (λ read is. in_nesting c.in-Ok.ensures.opened is) (λ fault is. fault_in_nesting c.in-Ok.ensures.opened is)
+
+pub returns-in-Err : goal.returns-in-Err
+returns-in-Err c = c.in-Err.ensures.refused _

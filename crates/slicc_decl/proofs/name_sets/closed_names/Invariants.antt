@@ -1,0 +1,12 @@
+use Rattle.std.proofs.Common.{length}
+use Rattle.slicc_ast.specs.Names.{name as name_of}
+use Rattle.slicc_grammar.specs.Parts.{◌▸◌, comma, name}
+use Rattle.slicc_decl.proofs.Lists.{further_name}
+use Rattle.slicc_reading.proofs.Repeats.{AreSeparated}
+use Rattle.slicc_decl.proofs.name_sets.closed_names.Given as goal
+
+abbrev pub invariant-commas : goal.invariant-commas
+invariant-commas l = AreSeparated name_of further_name l.room name (comma ▸ name) l.tokens l.items.items l.left
+
+abbrev pub decreases-commas : goal.decreases-commas
+decreases-commas l = length l.left

@@ -1,0 +1,11 @@
+use Rattle.slicc_grammar.specs.Form.Form.{formal}
+use Rattle.slicc_grammar.specs.Parts.{of}
+use Rattle.slicc_reading.proofs.Parts.{◌then◌, as_part, at_first, behind, match_map}
+use Rattle.slicc_decl.proofs.signatures.next_formal.Goals as goal
+
+pub returns-in-Ok-clause-read : goal.returns-in-Ok-clause-read
+returns-in-Ok-clause-read c =
+    match_map c.formal.result c.formal.ensures.read (λ read is. c.in-Ok.ensures.read then as_part is) (λ fault is. behind c.in-Ok.ensures.read is)
+
+pub returns-in-Err-clause-read : goal.returns-in-Err-clause-read
+returns-in-Err-clause-read c = at_first (of formal) c.in-Err.ensures.read

@@ -1,0 +1,13 @@
+use Rattle.slicc_ast.specs.declared.tree.token.Sign.TheVariants.{CloseParenthesis}
+use Rattle.slicc_grammar.specs.Parts.{sign}
+use Rattle.slicc_reading.proofs.Parts.{◌then◌, at_first, behind}
+use Rattle.slicc_decl.proofs.transitions.closed_head.Goals as goal
+
+pub returns-in-Ok-sign : goal.returns-in-Ok-sign
+returns-in-Ok-sign c = c.in-Ok.ensures then c.in-Ok-sign.ensures.read
+
+pub returns-in-Err-sign : goal.returns-in-Err-sign
+returns-in-Err-sign c = behind c.in-Ok.ensures c.in-Err-sign.ensures.read
+
+pub returns-in-Err : goal.returns-in-Err
+returns-in-Err c = at_first (sign CloseParenthesis) c.in-Err.ensures

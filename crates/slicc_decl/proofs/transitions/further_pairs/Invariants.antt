@@ -1,0 +1,12 @@
+use Rattle.std.proofs.Common.{length}
+use Rattle.slicc_grammar.specs.Form.Form.{pair}
+use Rattle.slicc_grammar.specs.Parts.{◌▸◌, comma, of}
+use Rattle.slicc_decl.specs.Members.{pair_parts}
+use Rattle.slicc_reading.proofs.Repeats.{AreRepeated}
+use Rattle.slicc_decl.proofs.transitions.further_pairs.Given as goal
+
+abbrev pub invariant-commas : goal.invariant-commas
+invariant-commas l = AreRepeated pair_parts l.room (comma ▸ of pair) l.start l.tokens l.items.items l.left
+
+abbrev pub decreases-commas : goal.decreases-commas
+decreases-commas l = length l.left

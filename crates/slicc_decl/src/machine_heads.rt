@@ -1,0 +1,181 @@
+//! The head of a machine: its name, its title, attributes and parameters.
+ghost use Rattle.std.specs.Prelude.{◌≡◌, ◌∷◌, [], codes, MatchResult};
+ghost use Rattle.std.specs.Str.{bytes_eq};
+ghost use Rattle.grammar_rows.specs.Kinds.{has, is_ahead};
+ghost use Rattle.slicc_ast.specs.Declarations.{pairs as pairs_of};
+ghost use Rattle.slicc_ast.specs.Machines.{parameter_list as parameter_parts, type_parts};
+ghost use Rattle.slicc_ast.specs.Names.{name as name_of, sign as sign_of};
+ghost use Rattle.slicc_ast.specs.Outline.{token};
+ghost use Rattle.slicc_ast.specs.declared.tree.token.Sign.TheVariants.{CloseParenthesis, Colon, Comma, OpenParenthesis};
+ghost use Rattle.slicc_ast.specs.declared.tree.token.TokenKind.TheVariants.{Quoted as QuotedKind};
+ghost use Rattle.slicc_grammar.specs.Form.Form.{machine_name as machine_name_form, parameter as parameter_form};
+ghost use Rattle.slicc_grammar.specs.Parts.{◌▸◌, colon, comma, name as name_part, of, pairs as pairs_part, parentheses, repeated, sign as sign_part, string as string_part};
+ghost use Rattle.slicc_grammar.specs.TokenKinds.{kind_of, machine_type};
+ghost use Rattle.slicc_lex.specs.Syntax.{symbols};
+ghost use Rattle.slicc_reading.specs.Reading.{AreRead, Refuses};
+
+use crate::heads::ended_pairs;
+use crate::parameters::parameter;
+use slicc_ast::Text;
+use slicc_ast::tree::{Name, Pairs, Parameter, Sign, TokenKind};
+use slicc_lex::Token;
+use slicc_reading::{Fault, is_name, is_sign, name, open, refuse, sign, split_first, string};
+use std::alloc::Global;
+
+fn is_machine_type_text(text: &[u8]) -> bool
+    ensures { result ≡ bytes_eq text.now (codes "MachineType") }
+{
+    text == "MachineType".as_bytes()
+}
+
+fn is_machine_type_kind(kind: &TokenKind) -> bool
+    ensures { result ≡ has (machine_type ∷ []) (kind_of kind.now) }
+{
+    match kind {
+        TokenKind::Name(text) => is_machine_type_text(text.as_slice()),
+        _ => false,
+    }
+}
+
+/// Whether the first token is the name `MachineType`.
+fn is_machine_type(tokens: &[Token]) -> bool
+    ensures { result ≡ is_ahead (machine_type ∷ []) (symbols tokens.now) }
+{
+    match split_first(tokens) {
+        Some((first, _)) => is_machine_type_kind(&first.kind),
+        None => false,
+    }
+}
+
+/// A colon and a name.
+fn colon_name(alloc: Global, room: u32, tokens: &[Token]) -> Result<(Name, &[Token]), Fault>
+    ensures { MatchResult result
+        (λ read. AreRead room (colon ▸ name_part) (λ others. sign_of Colon (name_of read.0 others)) tokens.now read.1.now)
+        (Refuses room (colon ▸ name_part) tokens.now) }
+{
+    match sign(room, Sign::Colon, tokens) {
+        Ok(behind) => name(alloc, room, behind),
+        Err(fault) => Err(fault),
+    }
+}
+
+/// The name of a machine, and whether `MachineType:` is before it.
+fn machine_name(alloc: Global, room: u32, tokens: &[Token]) -> Result<(bool, Name, &[Token]), Fault>
+    ensures { MatchResult result
+        (λ read. AreRead room (of machine_name_form) (λ others. type_parts read.0 (name_of read.1 others)) tokens.now read.2.now)
+        (Refuses room (of machine_name_form) tokens.now) }
+{
+    if !is_name(tokens) {
+        return Err(refuse(room, tokens));
+    }
+    match name(alloc, room, tokens) {
+        Ok((first, behind)) => {
+            if !is_machine_type(tokens) {
+                return Ok((false, first, behind));
+            }
+            if !is_sign(Sign::Colon, behind) {
+                return Ok((false, first, behind));
+            }
+            match colon_name(alloc, room, behind) {
+                Ok((called, left)) => Ok((true, called, left)),
+                Err(fault) => Err(fault),
+            }
+        }
+        Err(fault) => Err(fault),
+    }
+}
+
+/// A comma, a title, attributes and `)`.
+fn title_and_pairs(
+    alloc: Global,
+    room: u32,
+    tokens: &[Token],
+) -> Result<(Text, Pairs, &[Token]), Fault>
+    ensures { MatchResult result
+        (λ read. AreRead room (comma ▸ string_part ▸ pairs_part ▸ sign_part CloseParenthesis) (λ others. sign_of Comma (token (QuotedKind read.0) (pairs_of read.1 (sign_of CloseParenthesis others)))) tokens.now read.2.now)
+        (Refuses room (comma ▸ string_part ▸ pairs_part ▸ sign_part CloseParenthesis) tokens.now) }
+{
+    match sign(room, Sign::Comma, tokens) {
+        Ok(inside) => match string(alloc, room, inside) {
+            Ok((title, behind)) => {
+                match ended_pairs(alloc, room, Sign::CloseParenthesis, behind) {
+                    Ok((pairs, left)) => Ok((title, pairs, left)),
+                    Err(fault) => Err(fault),
+                }
+            }
+            Err(fault) => Err(fault),
+        },
+        Err(fault) => Err(fault),
+    }
+}
+
+/// What a machine has in its parentheses.
+#[derive(Drop)]
+pub struct MachineHead {
+    pub has_type: bool,
+    pub name: Name,
+    pub title: Text,
+    pub pairs: Pairs,
+}
+
+fn closed_head(alloc: Global, room: u32, tokens: &[Token]) -> Result<(MachineHead, &[Token]), Fault>
+    ensures { MatchResult result
+        (λ read. AreRead room (of machine_name_form ▸ comma ▸ string_part ▸ pairs_part ▸ sign_part CloseParenthesis) (λ others. type_parts read.0.has_type (name_of read.0.name (sign_of Comma (token (QuotedKind read.0.title) (pairs_of read.0.pairs (sign_of CloseParenthesis others)))))) tokens.now read.1.now)
+        (Refuses room (of machine_name_form ▸ comma ▸ string_part ▸ pairs_part ▸ sign_part CloseParenthesis) tokens.now) }
+{
+    match machine_name(alloc, room, tokens) {
+        Ok((has_type, name, behind)) => match title_and_pairs(alloc, room, behind) {
+            Ok((title, pairs, left)) => Ok((
+                MachineHead {
+                    has_type,
+                    name,
+                    title,
+                    pairs,
+                },
+                left,
+            )),
+            Err(fault) => Err(fault),
+        },
+        Err(fault) => Err(fault),
+    }
+}
+
+/// A machine's name, title and attributes in parentheses.
+pub fn machine_head(
+    alloc: Global,
+    room: u32,
+    tokens: &[Token],
+) -> Result<(MachineHead, &[Token]), Fault>
+    ensures { MatchResult result
+        (λ read. AreRead room (parentheses (of machine_name_form ▸ comma ▸ string_part ▸ pairs_part)) (λ others. sign_of OpenParenthesis (type_parts read.0.has_type (name_of read.0.name (sign_of Comma (token (QuotedKind read.0.title) (pairs_of read.0.pairs (sign_of CloseParenthesis others))))))) tokens.now read.1.now)
+        (Refuses room (parentheses (of machine_name_form ▸ comma ▸ string_part ▸ pairs_part)) tokens.now) }
+{
+    match open(room, Sign::OpenParenthesis, tokens) {
+        Ok(behind) => closed_head(alloc, room - 1, behind),
+        Err(fault) => Err(fault),
+    }
+}
+
+/// The parameters of a machine.
+pub fn parameter_list(
+    alloc: Global,
+    room: u32,
+    tokens: &[Token],
+) -> Result<(Vec<Parameter>, &[Token]), Fault>
+    ensures { MatchResult result
+        (λ read. AreRead room (repeated (of parameter_form)) (parameter_parts read.0.items) tokens.now read.1.now)
+        (Refuses room (repeated (of parameter_form)) tokens.now) }
+{
+    let mut items = Vec::new(alloc);
+    let mut left = tokens;
+    'members: while is_name(left) {
+        match parameter(alloc, room, left) {
+            Ok((next, after)) => match items.push(next) {
+                Ok(()) => left = after,
+                Err(_) => return Err(Fault::NoMemory),
+            },
+            Err(fault) => return Err(fault),
+        }
+    }
+    Ok((items, left))
+}

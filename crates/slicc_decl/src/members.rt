@@ -1,0 +1,188 @@
+//! Enumerations and a machine's states: declarations whose members are names with attributes.
+ghost use Rattle.std.specs.Prelude.{◌<◌, length, IfOk, MatchResult};
+ghost use Rattle.slicc_ast.specs.Declarations.{enumeration as enumeration_of, pairs as pairs_of, state_list, states as states_of, symbol_list};
+ghost use Rattle.slicc_ast.specs.Names.{name as name_of, sign as sign_of};
+ghost use Rattle.slicc_ast.specs.declared.tree.token.Sign.TheVariants.{CloseBrace, Colon, Comma, OpenBrace, Semicolon};
+ghost use Rattle.slicc_grammar.specs.Form.Form.{enumeration as enumeration_form, states as states_form};
+ghost use Rattle.slicc_grammar.specs.Parts.{◌▸◌, braces, of, repeated, sign as sign_part};
+ghost use Rattle.slicc_reading.specs.Reading.{AreRead, IsRead, Refuses};
+ghost use Rattle.slicc_decl.specs.Members.{state_parts, state_row, symbol_row};
+
+use crate::heads::{ended_by, ended_name, head};
+use slicc_ast::tree::{Enumeration, Sign, State, States, Symbol, Word};
+use slicc_lex::Token;
+use slicc_reading::{Fault, is_name, is_word, open, refuse, sign, span, word};
+use std::alloc::Global;
+
+/// Members of an enumeration and `}`.
+fn symbols(alloc: Global, room: u32, tokens: &[Token]) -> Result<(Vec<Symbol>, &[Token]), Fault>
+    ensures { MatchResult result
+        (λ read. AreRead room (repeated symbol_row ▸ sign_part CloseBrace) (λ others. symbol_list read.0.items (sign_of CloseBrace others)) tokens.now read.1.now)
+        (Refuses room (repeated symbol_row ▸ sign_part CloseBrace) tokens.now) }
+{
+    let mut items = Vec::new(alloc);
+    let mut left = tokens;
+    'members: while is_name(left) {
+        match ended_name(alloc, room, Sign::Semicolon, left) {
+            Ok((name, pairs, after)) => match items.push(Symbol { name, pairs }) {
+                Ok(()) => left = after,
+                Err(_) => return Err(Fault::NoMemory),
+            },
+            Err(fault) => return Err(fault),
+        }
+    }
+    match sign(room, Sign::CloseBrace, left) {
+        Ok(behind) => Ok((items, behind)),
+        Err(fault) => Err(fault),
+    }
+}
+
+/// Members of an enumeration in braces.
+fn symbol_block(
+    alloc: Global,
+    room: u32,
+    tokens: &[Token],
+) -> Result<(Vec<Symbol>, &[Token]), Fault>
+    ensures { MatchResult result
+        (λ read. AreRead room (braces (repeated symbol_row)) (λ others. sign_of OpenBrace (symbol_list read.0.items (sign_of CloseBrace others))) tokens.now read.1.now)
+        (Refuses room (braces (repeated symbol_row)) tokens.now) }
+{
+    match open(room, Sign::OpenBrace, tokens) {
+        Ok(behind) => symbols(alloc, room - 1, behind),
+        Err(fault) => Err(fault),
+    }
+}
+
+/// An enumeration.
+pub fn enumeration(
+    alloc: Global,
+    room: u32,
+    tokens: &[Token],
+) -> Result<(Enumeration, &[Token]), Fault>
+    ensures { MatchResult result
+        (λ read. IsRead room (of enumeration_form) (enumeration_of read.0) tokens.now tokens.now read.1.now)
+        (Refuses room (of enumeration_form) tokens.now) }
+{
+    if !is_word(Word::Enumeration, tokens) {
+        return Err(refuse(room, tokens));
+    }
+    match word(room, Word::Enumeration, tokens) {
+        Ok(inside) => match head(alloc, room, inside) {
+            Ok((name, pairs, behind)) => match symbol_block(alloc, room, behind) {
+                Ok((members, left)) => {
+                    let span = span(tokens, left);
+                    Ok((
+                        Enumeration {
+                            name,
+                            pairs,
+                            members,
+                            span,
+                        },
+                        left,
+                    ))
+                }
+                Err(fault) => Err(fault),
+            },
+            Err(fault) => Err(fault),
+        },
+        Err(fault) => Err(fault),
+    }
+}
+
+/// A state with its access permission.
+fn state(alloc: Global, room: u32, tokens: &[Token]) -> Result<(State, &[Token]), Fault>
+    ensures read { MatchResult result
+        (λ read. AreRead room state_row (state_parts read.0) tokens.now read.1.now)
+        (Refuses room state_row tokens.now) }
+    ensures shorter { IfOk result (λ read. length read.1.now < length tokens.now) }
+{
+    match ended_by(alloc, room, Sign::Comma, tokens) {
+        Ok((name, inside)) => match ended_by(alloc, room, Sign::Colon, inside) {
+            Ok((owner, behind)) => match ended_name(alloc, room, Sign::Semicolon, behind) {
+                Ok((permission, pairs, left)) => Ok((
+                    State {
+                        name,
+                        owner,
+                        permission,
+                        pairs,
+                    },
+                    left,
+                )),
+                Err(fault) => Err(fault),
+            },
+            Err(fault) => Err(fault),
+        },
+        Err(fault) => Err(fault),
+    }
+}
+
+/// States and `}`.
+fn state_members(
+    alloc: Global,
+    room: u32,
+    tokens: &[Token],
+) -> Result<(Vec<State>, &[Token]), Fault>
+    ensures { MatchResult result
+        (λ read. AreRead room (repeated state_row ▸ sign_part CloseBrace) (λ others. state_list read.0.items (sign_of CloseBrace others)) tokens.now read.1.now)
+        (Refuses room (repeated state_row ▸ sign_part CloseBrace) tokens.now) }
+{
+    let mut items = Vec::new(alloc);
+    let mut left = tokens;
+    'members: while is_name(left) {
+        match state(alloc, room, left) {
+            Ok((next, after)) => match items.push(next) {
+                Ok(()) => left = after,
+                Err(_) => return Err(Fault::NoMemory),
+            },
+            Err(fault) => return Err(fault),
+        }
+    }
+    match sign(room, Sign::CloseBrace, left) {
+        Ok(behind) => Ok((items, behind)),
+        Err(fault) => Err(fault),
+    }
+}
+
+/// States in braces.
+fn state_block(alloc: Global, room: u32, tokens: &[Token]) -> Result<(Vec<State>, &[Token]), Fault>
+    ensures { MatchResult result
+        (λ read. AreRead room (braces (repeated state_row)) (λ others. sign_of OpenBrace (state_list read.0.items (sign_of CloseBrace others))) tokens.now read.1.now)
+        (Refuses room (braces (repeated state_row)) tokens.now) }
+{
+    match open(room, Sign::OpenBrace, tokens) {
+        Ok(behind) => state_members(alloc, room - 1, behind),
+        Err(fault) => Err(fault),
+    }
+}
+
+/// The states of a machine.
+pub fn states(alloc: Global, room: u32, tokens: &[Token]) -> Result<(States, &[Token]), Fault>
+    ensures { MatchResult result
+        (λ read. IsRead room (of states_form) (states_of read.0) tokens.now tokens.now read.1.now)
+        (Refuses room (of states_form) tokens.now) }
+{
+    if !is_word(Word::StateDeclaration, tokens) {
+        return Err(refuse(room, tokens));
+    }
+    match word(room, Word::StateDeclaration, tokens) {
+        Ok(inside) => match head(alloc, room, inside) {
+            Ok((name, pairs, behind)) => match state_block(alloc, room, behind) {
+                Ok((members, left)) => {
+                    let span = span(tokens, left);
+                    Ok((
+                        States {
+                            name,
+                            pairs,
+                            members,
+                            span,
+                        },
+                        left,
+                    ))
+                }
+                Err(fault) => Err(fault),
+            },
+            Err(fault) => Err(fault),
+        },
+        Err(fault) => Err(fault),
+    }
+}

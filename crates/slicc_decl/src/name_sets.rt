@@ -1,0 +1,90 @@
+//! The names of a transition's states and events.
+ghost use Rattle.std.specs.Prelude.{◌==◌, ◌<◌, IsTrue, length, not, IfOk, MatchResult};
+ghost use Rattle.slicc_ast.specs.Machines.{name_list, names as names_of};
+ghost use Rattle.slicc_ast.specs.Names.{name as name_of, sign as sign_of};
+ghost use Rattle.slicc_ast.specs.declared.tree.token.Sign.TheVariants.{CloseBrace, Comma, OpenBrace};
+ghost use Rattle.slicc_grammar.specs.Form.Form.{names as names_form};
+ghost use Rattle.slicc_grammar.specs.Parts.{◌▸◌, braces, comma, name as name_part, of, repeated, sign as sign_part};
+ghost use Rattle.slicc_reading.specs.Reading.{AreRead, Refuses};
+
+use slicc_ast::tree::{Name, Names, Sign};
+use slicc_lex::Token;
+use slicc_reading::{Fault, is_name, is_sign, name, open, refuse, sign, span};
+use std::alloc::Global;
+
+/// A comma and a name.
+fn next_name(alloc: Global, room: u32, tokens: &[Token]) -> Result<(Name, &[Token]), Fault>
+    ensures read { MatchResult result
+        (λ read. AreRead room (comma ▸ name_part) (λ others. sign_of Comma (name_of read.0 others)) tokens.now read.1.now)
+        (Refuses room (comma ▸ name_part) tokens.now) }
+    ensures shorter { IfOk result (λ read. length read.1.now < length tokens.now) }
+{
+    match sign(room, Sign::Comma, tokens) {
+        Ok(behind) => name(alloc, room, behind),
+        Err(fault) => Err(fault),
+    }
+}
+
+/// Names, separated by commas, and `}`.
+fn closed_names(alloc: Global, room: u32, tokens: &[Token]) -> Result<(Vec<Name>, &[Token]), Fault>
+    ensures read { MatchResult result
+        (λ read. AreRead room ((name_part ▸ repeated (comma ▸ name_part)) ▸ sign_part CloseBrace) (λ others. name_list read.0.items (sign_of CloseBrace others)) tokens.now read.1.now)
+        (Refuses room ((name_part ▸ repeated (comma ▸ name_part)) ▸ sign_part CloseBrace) tokens.now) }
+    ensures some { IfOk result (λ read. IsTrue (not (length read.0.items == 0))) }
+{
+    let mut items = Vec::new(alloc);
+    let mut left = match name(alloc, room, tokens) {
+        Ok((first, behind)) => match items.push(first) {
+            Ok(()) => behind,
+            Err(_) => return Err(Fault::NoMemory),
+        },
+        Err(fault) => return Err(fault),
+    };
+    'commas: while is_sign(Sign::Comma, left) {
+        match next_name(alloc, room, left) {
+            Ok((next, after)) => match items.push(next) {
+                Ok(()) => left = after,
+                Err(_) => return Err(Fault::NoMemory),
+            },
+            Err(fault) => return Err(fault),
+        }
+    }
+    match sign(room, Sign::CloseBrace, left) {
+        Ok(behind) => Ok((items, behind)),
+        Err(fault) => Err(fault),
+    }
+}
+
+/// Names in braces.
+fn name_block(alloc: Global, room: u32, tokens: &[Token]) -> Result<(Vec<Name>, &[Token]), Fault>
+    ensures read { MatchResult result
+        (λ read. AreRead room (braces (name_part ▸ repeated (comma ▸ name_part))) (λ others. sign_of OpenBrace (name_list read.0.items (sign_of CloseBrace others))) tokens.now read.1.now)
+        (Refuses room (braces (name_part ▸ repeated (comma ▸ name_part))) tokens.now) }
+    ensures some { IfOk result (λ read. IsTrue (not (length read.0.items == 0))) }
+{
+    match open(room, Sign::OpenBrace, tokens) {
+        Ok(behind) => closed_names(alloc, room - 1, behind),
+        Err(fault) => Err(fault),
+    }
+}
+
+/// One name, or several in braces.
+pub fn names(alloc: Global, room: u32, tokens: &[Token]) -> Result<(Names, &[Token]), Fault>
+    ensures { MatchResult result
+        (λ read. AreRead room (of names_form) (names_of read.0) tokens.now read.1.now)
+        (Refuses room (of names_form) tokens.now) }
+{
+    if is_name(tokens) {
+        return match name(alloc, room, tokens) {
+            Ok((one, left)) => Ok((Names::One(one), left)),
+            Err(fault) => Err(fault),
+        };
+    }
+    if !is_sign(Sign::OpenBrace, tokens) {
+        return Err(refuse(room, tokens));
+    }
+    match name_block(alloc, room, tokens) {
+        Ok((several, left)) => Ok((Names::Several(several, span(tokens, left)), left)),
+        Err(fault) => Err(fault),
+    }
+}

@@ -1,0 +1,127 @@
+//! The parameters of a machine.
+ghost use Rattle.std.specs.Prelude.{◌<◌, length, IfOk, MatchResult};
+ghost use Rattle.slicc_ast.specs.Declarations.{pairs as pairs_of};
+ghost use Rattle.slicc_ast.specs.Machines.{literal as literal_of, literal_parts, parameter as parameter_of};
+ghost use Rattle.slicc_ast.specs.Names.{name as name_of, sign as sign_of};
+ghost use Rattle.slicc_ast.specs.Outline.{part};
+ghost use Rattle.slicc_ast.specs.declared.tree.token.Sign.TheVariants.{Assign, Semicolon};
+ghost use Rattle.slicc_grammar.specs.Form.Form.{literal as literal_form, parameter as parameter_form};
+ghost use Rattle.slicc_grammar.specs.Parts.{◌▸◌, assign, name as name_part, of, optional, pairs as pairs_part, semicolon};
+ghost use Rattle.slicc_reading.specs.Reading.{AreRead, IsRead, Refuses};
+
+use crate::heads::ended_pairs;
+use crate::literals::literal;
+use crate::signatures::starred_type;
+use slicc_ast::tree::{Literal, Name, Pairs, Parameter, Sign};
+use slicc_lex::Token;
+use slicc_reading::{Fault, is_name, is_sign, name, refuse, sign, span};
+use std::alloc::Global;
+
+/// `:=` and a literal.
+fn assigned_literal(
+    alloc: Global,
+    room: u32,
+    tokens: &[Token],
+) -> Result<(Literal, &[Token]), Fault>
+    ensures { MatchResult result
+        (λ read. AreRead room (assign ▸ of literal_form) (λ others. sign_of Assign (part (literal_of read.0) others)) tokens.now read.1.now)
+        (Refuses room (assign ▸ of literal_form) tokens.now) }
+{
+    match sign(room, Sign::Assign, tokens) {
+        Ok(behind) => literal(alloc, room, behind),
+        Err(fault) => Err(fault),
+    }
+}
+
+/// `:=` and a literal where there is one.
+fn optional_literal(
+    alloc: Global,
+    room: u32,
+    tokens: &[Token],
+) -> Result<(Option<Literal>, &[Token]), Fault>
+    ensures { MatchResult result
+        (λ read. AreRead room (optional (assign ▸ of literal_form)) (literal_parts read.0) tokens.now read.1.now)
+        (Refuses room (optional (assign ▸ of literal_form)) tokens.now) }
+{
+    if !is_sign(Sign::Assign, tokens) {
+        return Ok((None, tokens));
+    }
+    match assigned_literal(alloc, room, tokens) {
+        Ok((found, left)) => Ok((Some(found), left)),
+        Err(fault) => Err(fault),
+    }
+}
+
+/// What is behind a parameter's type.
+#[derive(Drop)]
+pub struct ParameterEnd {
+    pub name: Name,
+    pub literal: Option<Literal>,
+    pub pairs: Pairs,
+}
+
+/// A name, a literal where there is one, attributes and `;`.
+fn parameter_end(
+    alloc: Global,
+    room: u32,
+    tokens: &[Token],
+) -> Result<(ParameterEnd, &[Token]), Fault>
+    ensures { MatchResult result
+        (λ read. AreRead room (name_part ▸ optional (assign ▸ of literal_form) ▸ pairs_part ▸ semicolon) (λ others. name_of read.0.name (literal_parts read.0.literal (pairs_of read.0.pairs (sign_of Semicolon others)))) tokens.now read.1.now)
+        (Refuses room (name_part ▸ optional (assign ▸ of literal_form) ▸ pairs_part ▸ semicolon) tokens.now) }
+{
+    match name(alloc, room, tokens) {
+        Ok((name, inside)) => match optional_literal(alloc, room, inside) {
+            Ok((literal, behind)) => match ended_pairs(alloc, room, Sign::Semicolon, behind) {
+                Ok((pairs, left)) => Ok((
+                    ParameterEnd {
+                        name,
+                        literal,
+                        pairs,
+                    },
+                    left,
+                )),
+                Err(fault) => Err(fault),
+            },
+            Err(fault) => Err(fault),
+        },
+        Err(fault) => Err(fault),
+    }
+}
+
+/// A parameter of a machine.
+pub fn parameter(alloc: Global, room: u32, tokens: &[Token]) -> Result<(Parameter, &[Token]), Fault>
+    ensures read { MatchResult result
+        (λ read. IsRead room (of parameter_form) (parameter_of read.0) tokens.now tokens.now read.1.now)
+        (Refuses room (of parameter_form) tokens.now) }
+    ensures shorter { IfOk result (λ read. length read.1.now < length tokens.now) }
+{
+    if !is_name(tokens) {
+        return Err(refuse(room, tokens));
+    }
+    match starred_type(alloc, room, tokens) {
+        Ok((kind, has_star, behind)) => match parameter_end(alloc, room, behind) {
+            Ok((end, left)) => {
+                let ParameterEnd {
+                    name,
+                    literal,
+                    pairs,
+                } = end;
+                let span = span(tokens, left);
+                Ok((
+                    Parameter {
+                        kind,
+                        has_star,
+                        name,
+                        literal,
+                        pairs,
+                        span,
+                    },
+                    left,
+                ))
+            }
+            Err(fault) => Err(fault),
+        },
+        Err(fault) => Err(fault),
+    }
+}

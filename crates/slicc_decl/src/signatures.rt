@@ -1,0 +1,183 @@
+//! Formals of functions, and the types of declarations with a star where there is one.
+ghost use Rattle.std.specs.Prelude.{◌<◌, length, IfOk, MatchResult};
+ghost use Rattle.slicc_ast.specs.Declarations.{formal as formal_of, formal_list, formals as formals_of, optional_name as name_where};
+ghost use Rattle.slicc_ast.specs.Names.{sign as sign_of, star as star_where, type_name as type_of};
+ghost use Rattle.slicc_ast.specs.Outline.{node, part};
+ghost use Rattle.slicc_ast.specs.declared.tree.token.Sign.TheVariants.{CloseParenthesis, Comma};
+ghost use Rattle.slicc_grammar.specs.Form.Form.{formal as formal_form, formals as formals_form};
+ghost use Rattle.slicc_grammar.specs.Parts.{◌▸◌, comma, name as name_part, of, optional, parentheses, repeated, sign as sign_part, star, type as type_part};
+ghost use Rattle.slicc_reading.specs.Reading.{AreRead, IsRead, Refuses};
+
+use slicc_ast::tree::{Formal, Formals, Name, Sign, TypeName};
+use slicc_lex::Token;
+use slicc_reading::{Fault, is_name, is_sign, name, open, refuse, sign, span, type_name};
+use std::alloc::Global;
+
+/// Whether a star is first, and what is behind it.
+fn optional_star(room: u32, tokens: &[Token]) -> Result<(bool, &[Token]), Fault>
+    ensures { MatchResult result
+        (λ read. AreRead room (optional star) (star_where read.0) tokens.now read.1.now)
+        (Refuses room (optional star) tokens.now) }
+{
+    if !is_sign(Sign::Star, tokens) {
+        return Ok((false, tokens));
+    }
+    match sign(room, Sign::Star, tokens) {
+        Ok(left) => Ok((true, left)),
+        Err(fault) => Err(fault),
+    }
+}
+
+/// A type, and a star where there is one.
+pub fn starred_type(
+    alloc: Global,
+    room: u32,
+    tokens: &[Token],
+) -> Result<(TypeName, bool, &[Token]), Fault>
+    ensures read { MatchResult result
+        (λ read. AreRead room (type_part ▸ optional star) (λ others. type_of read.0 (star_where read.1 others)) tokens.now read.2.now)
+        (Refuses room (type_part ▸ optional star) tokens.now) }
+    ensures shorter { IfOk result (λ read. length read.2.now < length tokens.now) }
+{
+    match type_name(alloc, room, tokens) {
+        Ok((kind, behind)) => match optional_star(room, behind) {
+            Ok((has_star, left)) => Ok((kind, has_star, left)),
+            Err(fault) => Err(fault),
+        },
+        Err(fault) => Err(fault),
+    }
+}
+
+/// A name where there is one.
+fn optional_name(
+    alloc: Global,
+    room: u32,
+    tokens: &[Token],
+) -> Result<(Option<Name>, &[Token]), Fault>
+    ensures { MatchResult result
+        (λ read. AreRead room (optional name_part) (name_where read.0) tokens.now read.1.now)
+        (Refuses room (optional name_part) tokens.now) }
+{
+    if !is_name(tokens) {
+        return Ok((None, tokens));
+    }
+    match name(alloc, room, tokens) {
+        Ok((found, left)) => Ok((Some(found), left)),
+        Err(fault) => Err(fault),
+    }
+}
+
+/// A formal: a type, and a star and a name where there are.
+fn formal(alloc: Global, room: u32, tokens: &[Token]) -> Result<(Formal, &[Token]), Fault>
+    ensures read { MatchResult result
+        (λ read. IsRead room (of formal_form) (formal_of read.0) tokens.now tokens.now read.1.now)
+        (Refuses room (of formal_form) tokens.now) }
+    ensures shorter { IfOk result (λ read. length read.1.now < length tokens.now) }
+{
+    if !is_name(tokens) {
+        return Err(refuse(room, tokens));
+    }
+    match starred_type(alloc, room, tokens) {
+        Ok((kind, has_star, behind)) => match optional_name(alloc, room, behind) {
+            Ok((name, left)) => {
+                let span = span(tokens, left);
+                Ok((
+                    Formal {
+                        kind,
+                        has_star,
+                        name,
+                        span,
+                    },
+                    left,
+                ))
+            }
+            Err(fault) => Err(fault),
+        },
+        Err(fault) => Err(fault),
+    }
+}
+
+/// A comma and a formal.
+fn next_formal(alloc: Global, room: u32, tokens: &[Token]) -> Result<(Formal, &[Token]), Fault>
+    ensures read { MatchResult result
+        (λ read. AreRead room (comma ▸ of formal_form) (λ others. sign_of Comma (part (formal_of read.0) others)) tokens.now read.1.now)
+        (Refuses room (comma ▸ of formal_form) tokens.now) }
+    ensures shorter { IfOk result (λ read. length read.1.now < length tokens.now) }
+{
+    match sign(room, Sign::Comma, tokens) {
+        Ok(behind) => formal(alloc, room, behind),
+        Err(fault) => Err(fault),
+    }
+}
+
+/// Formals, separated by commas.
+fn several_formals(alloc: Global, room: u32, tokens: &[Token]) -> Result<(Formals, &[Token]), Fault>
+    ensures { MatchResult result
+        (λ read. IsRead room (of formal_form ▸ repeated (comma ▸ of formal_form)) (node read.0.span (formal_list read.0.items.items)) tokens.now tokens.now read.1.now)
+        (Refuses room (of formal_form ▸ repeated (comma ▸ of formal_form)) tokens.now) }
+{
+    let mut items = Vec::new(alloc);
+    let mut left = match formal(alloc, room, tokens) {
+        Ok((first, behind)) => match items.push(first) {
+            Ok(()) => behind,
+            Err(_) => return Err(Fault::NoMemory),
+        },
+        Err(fault) => return Err(fault),
+    };
+    'commas: while is_sign(Sign::Comma, left) {
+        match next_formal(alloc, room, left) {
+            Ok((next, after)) => match items.push(next) {
+                Ok(()) => left = after,
+                Err(_) => return Err(Fault::NoMemory),
+            },
+            Err(fault) => return Err(fault),
+        }
+    }
+    let span = span(tokens, left);
+    Ok((Formals { items, span }, left))
+}
+
+/// Formals where there are some.
+fn optional_formals(
+    alloc: Global,
+    room: u32,
+    tokens: &[Token],
+) -> Result<(Formals, &[Token]), Fault>
+    ensures { MatchResult result
+        (λ read. IsRead room (optional (of formals_form)) (node read.0.span (formal_list read.0.items.items)) tokens.now tokens.now read.1.now)
+        (Refuses room (optional (of formals_form)) tokens.now) }
+{
+    if is_name(tokens) {
+        return several_formals(alloc, room, tokens);
+    }
+    let items = Vec::new(alloc);
+    let span = span(tokens, tokens);
+    Ok((Formals { items, span }, tokens))
+}
+
+/// Formals where there are some, and `)`.
+fn closed_formals(alloc: Global, room: u32, tokens: &[Token]) -> Result<(Formals, &[Token]), Fault>
+    ensures { MatchResult result
+        (λ read. AreRead room (optional (of formals_form) ▸ sign_part CloseParenthesis) (λ others. part (node read.0.span (formal_list read.0.items.items)) (sign_of CloseParenthesis others)) tokens.now read.1.now)
+        (Refuses room (optional (of formals_form) ▸ sign_part CloseParenthesis) tokens.now) }
+{
+    match optional_formals(alloc, room, tokens) {
+        Ok((formals, behind)) => match sign(room, Sign::CloseParenthesis, behind) {
+            Ok(left) => Ok((formals, left)),
+            Err(fault) => Err(fault),
+        },
+        Err(fault) => Err(fault),
+    }
+}
+
+/// The formals of a function in parentheses.
+pub fn formals(alloc: Global, room: u32, tokens: &[Token]) -> Result<(Formals, &[Token]), Fault>
+    ensures { MatchResult result
+        (λ read. AreRead room (parentheses (optional (of formals_form))) (formals_of read.0) tokens.now read.1.now)
+        (Refuses room (parentheses (optional (of formals_form))) tokens.now) }
+{
+    match open(room, Sign::OpenParenthesis, tokens) {
+        Ok(behind) => closed_formals(alloc, room - 1, behind),
+        Err(fault) => Err(fault),
+    }
+}

@@ -1,0 +1,331 @@
+//! Transitions. Behind the events a name is the next state where no `=` is behind it, and the key of an attribute else, so
+//! what is behind that comma is read before it is known whose comma it was.
+ghost use Rattle.std.specs.Prelude.{◌≡◌, ◌∷◌, ◌<◌, [], true, length, IfOk, MatchResult};
+ghost use Rattle.grammar_rows.specs.Kinds.{is_ahead};
+ghost use Rattle.slicc_ast.specs.Declarations.{pair as pair_of, pair_list, pairs as pairs_of};
+ghost use Rattle.slicc_ast.specs.Machines.{action_list, names as names_of, next_parts, transition as transition_of};
+ghost use Rattle.slicc_ast.specs.Names.{sign as sign_of};
+ghost use Rattle.slicc_ast.specs.Outline.{node, none, token};
+ghost use Rattle.slicc_ast.specs.declared.tree.token.TokenKind.TheVariants.{Name as Named};
+ghost use Rattle.slicc_ast.specs.declared.tree.token.Sign.TheVariants.{CloseBrace, CloseParenthesis, Comma, Equals, OpenBrace, OpenParenthesis};
+ghost use Rattle.slicc_grammar.specs.Form.Form.{names as names_form, transition as transition_form, transition_end as transition_end_form};
+ghost use Rattle.slicc_grammar.specs.Parts.{◌▸◌, braces, comma, name as name_part, of, optional, pairs as pairs_part, parentheses, repeated, sign as sign_part, string as string_part, value as value_part};
+ghost use Rattle.slicc_grammar.specs.TokenKinds.{sign_kind};
+ghost use Rattle.slicc_lex.specs.Syntax.{symbols};
+ghost use Rattle.slicc_reading.specs.Reading.{AreRead, IsRead, IsSpelledBefore, Refuses};
+ghost use Rattle.slicc_decl.specs.Members.{action_row, pair_parts, transition_inside as inside_part};
+
+use crate::heads::ended_by;
+use crate::name_sets::names;
+use slicc_ast::tree::{Name, Names, Pair, Pairs, Sign, Transition, Word};
+use slicc_lex::Token;
+use slicc_reading::{
+    Fault, assigned, is_name, is_sign, is_string, is_word, name, next_pair, open, pairs, refuse,
+    sign, span, string, word,
+};
+use std::alloc::Global;
+
+/// Attributes of which the first one is read, with the comma at `start`.
+fn further_pairs<'t>(
+    alloc: Global,
+    room: u32,
+    first: Pair,
+    start: &[Token],
+    tokens: &'t [Token],
+) -> Result<(Pairs, &'t [Token]), Fault>
+    requires { IsSpelledBefore (pair_parts first) start.now tokens.now }
+    ensures { MatchResult result
+        (λ read. IsRead room pairs_part (node read.0.span (pair_list read.0.items.items)) start.now tokens.now read.1.now)
+        (Refuses room pairs_part tokens.now) }
+{
+    let mut items = Vec::new(alloc);
+    let Ok(()) = items.push(first) else {
+        return Err(Fault::NoMemory);
+    };
+    let mut left = tokens;
+    'commas: while is_sign(Sign::Comma, left) {
+        match next_pair(alloc, room, left) {
+            Ok((next, after)) => match items.push(next) {
+                Ok(()) => left = after,
+                Err(_) => return Err(Fault::NoMemory),
+            },
+            Err(fault) => return Err(fault),
+        }
+    }
+    let span = span(start, left);
+    Ok((Pairs { items, span }, left))
+}
+
+/// Attributes of which the first one is a string, with the comma at `start`.
+fn bare_end<'t>(
+    alloc: Global,
+    room: u32,
+    start: &[Token],
+    tokens: &'t [Token],
+) -> Result<(Pairs, &'t [Token]), Fault>
+    requires { AreRead room comma (sign_of Comma) start.now tokens.now }
+    ensures { MatchResult result
+        (λ read. IsRead room (string_part ▸ pairs_part) (node read.0.span (pair_list read.0.items.items)) start.now tokens.now read.1.now)
+        (Refuses room (string_part ▸ pairs_part) tokens.now) }
+{
+    match string(alloc, room, tokens) {
+        Ok((text, behind)) => {
+            let first = Pair::Bare(text, span(tokens, behind));
+            further_pairs(alloc, room, first, start, behind)
+        }
+        Err(fault) => Err(fault),
+    }
+}
+
+/// `=`, a value and attributes behind the name of the first attribute, with the comma at `start` and the name at `tokens`.
+fn valued_end<'t>(
+    alloc: Global,
+    room: u32,
+    start: &[Token],
+    tokens: &[Token],
+    name: Name,
+    behind: &'t [Token],
+) -> Result<(Pairs, &'t [Token]), Fault>
+    requires comma { AreRead room comma (sign_of Comma) start.now tokens.now }
+    requires name { IsRead room name_part (node name.span (token (Named name.text) none)) tokens.now tokens.now behind.now }
+    requires ahead { is_ahead (sign_kind Equals ∷ []) (symbols behind.now) ≡ true }
+    ensures { MatchResult result
+        (λ read. IsRead room (optional (sign_part Equals ▸ value_part) ▸ pairs_part) (node read.0.span (pair_list read.0.items.items)) start.now behind.now read.1.now)
+        (Refuses room (optional (sign_part Equals ▸ value_part) ▸ pairs_part) behind.now) }
+{
+    match assigned(alloc, room, behind) {
+        Ok((value, after)) => {
+            let span = span(tokens, after);
+            let first = Pair::Named { name, value, span };
+            further_pairs(alloc, room, first, start, after)
+        }
+        Err(fault) => Err(fault),
+    }
+}
+
+/// The next state and attributes, or attributes alone, behind the comma at `start`.
+fn transition_end<'t>(
+    alloc: Global,
+    room: u32,
+    start: &[Token],
+    tokens: &'t [Token],
+) -> Result<(Option<Name>, Pairs, &'t [Token]), Fault>
+    requires { AreRead room comma (sign_of Comma) start.now tokens.now }
+    ensures { MatchResult result
+        (λ read. AreRead room (comma ▸ of transition_end_form) (λ others. next_parts read.0 (pairs_of read.1 others)) start.now read.2.now)
+        (Refuses room (comma ▸ of transition_end_form) start.now) }
+{
+    if is_string(tokens) {
+        return match bare_end(alloc, room, start, tokens) {
+            Ok((pairs, left)) => Ok((None, pairs, left)),
+            Err(fault) => Err(fault),
+        };
+    }
+    if !is_name(tokens) {
+        return Err(refuse(room, tokens));
+    }
+    match name(alloc, room, tokens) {
+        Ok((called, behind)) => {
+            if is_sign(Sign::Equals, behind) {
+                return match valued_end(alloc, room, start, tokens, called, behind) {
+                    Ok((pairs, left)) => Ok((None, pairs, left)),
+                    Err(fault) => Err(fault),
+                };
+            }
+            match pairs(alloc, room, behind) {
+                Ok((pairs, left)) => Ok((Some(called), pairs, left)),
+                Err(fault) => Err(fault),
+            }
+        }
+        Err(fault) => Err(fault),
+    }
+}
+
+/// The next state where there is one, and attributes.
+fn optional_end(
+    alloc: Global,
+    room: u32,
+    tokens: &[Token],
+) -> Result<(Option<Name>, Pairs, &[Token]), Fault>
+    ensures { MatchResult result
+        (λ read. AreRead room (optional (comma ▸ of transition_end_form)) (λ others. next_parts read.0 (pairs_of read.1 others)) tokens.now read.2.now)
+        (Refuses room (optional (comma ▸ of transition_end_form)) tokens.now) }
+{
+    if !is_sign(Sign::Comma, tokens) {
+        let items = Vec::new(alloc);
+        let span = span(tokens, tokens);
+        return Ok((None, Pairs { items, span }, tokens));
+    }
+    match sign(room, Sign::Comma, tokens) {
+        Ok(behind) => transition_end(alloc, room, tokens, behind),
+        Err(fault) => Err(fault),
+    }
+}
+
+/// The states of a transition and a comma.
+fn states_and_comma(alloc: Global, room: u32, tokens: &[Token]) -> Result<(Names, &[Token]), Fault>
+    ensures { MatchResult result
+        (λ read. AreRead room (of names_form ▸ comma) (λ others. names_of read.0 (sign_of Comma others)) tokens.now read.1.now)
+        (Refuses room (of names_form ▸ comma) tokens.now) }
+{
+    match names(alloc, room, tokens) {
+        Ok((states, behind)) => match sign(room, Sign::Comma, behind) {
+            Ok(left) => Ok((states, left)),
+            Err(fault) => Err(fault),
+        },
+        Err(fault) => Err(fault),
+    }
+}
+
+/// What a transition has in its parentheses.
+#[derive(Drop)]
+pub struct TransitionHead {
+    pub states: Names,
+    pub events: Names,
+    pub next: Option<Name>,
+    pub pairs: Pairs,
+}
+
+/// States, events, the next state where there is one, and attributes.
+fn transition_inside(
+    alloc: Global,
+    room: u32,
+    tokens: &[Token],
+) -> Result<(TransitionHead, &[Token]), Fault>
+    ensures { MatchResult result
+        (λ read. AreRead room inside_part (λ others. names_of read.0.states (sign_of Comma (names_of read.0.events (next_parts read.0.next (pairs_of read.0.pairs others))))) tokens.now read.1.now)
+        (Refuses room inside_part tokens.now) }
+{
+    match states_and_comma(alloc, room, tokens) {
+        Ok((states, inside)) => match names(alloc, room, inside) {
+            Ok((events, behind)) => match optional_end(alloc, room, behind) {
+                Ok((next, pairs, left)) => Ok((
+                    TransitionHead {
+                        states,
+                        events,
+                        next,
+                        pairs,
+                    },
+                    left,
+                )),
+                Err(fault) => Err(fault),
+            },
+            Err(fault) => Err(fault),
+        },
+        Err(fault) => Err(fault),
+    }
+}
+
+/// The same and `)`.
+fn closed_head(
+    alloc: Global,
+    room: u32,
+    tokens: &[Token],
+) -> Result<(TransitionHead, &[Token]), Fault>
+    ensures { MatchResult result
+        (λ read. AreRead room (inside_part ▸ sign_part CloseParenthesis) (λ others. names_of read.0.states (sign_of Comma (names_of read.0.events (next_parts read.0.next (pairs_of read.0.pairs (sign_of CloseParenthesis others)))))) tokens.now read.1.now)
+        (Refuses room (inside_part ▸ sign_part CloseParenthesis) tokens.now) }
+{
+    match transition_inside(alloc, room, tokens) {
+        Ok((head, behind)) => match sign(room, Sign::CloseParenthesis, behind) {
+            Ok(left) => Ok((head, left)),
+            Err(fault) => Err(fault),
+        },
+        Err(fault) => Err(fault),
+    }
+}
+
+/// The same in parentheses.
+fn transition_head(
+    alloc: Global,
+    room: u32,
+    tokens: &[Token],
+) -> Result<(TransitionHead, &[Token]), Fault>
+    ensures { MatchResult result
+        (λ read. AreRead room (parentheses inside_part) (λ others. sign_of OpenParenthesis (names_of read.0.states (sign_of Comma (names_of read.0.events (next_parts read.0.next (pairs_of read.0.pairs (sign_of CloseParenthesis others))))))) tokens.now read.1.now)
+        (Refuses room (parentheses inside_part) tokens.now) }
+{
+    match open(room, Sign::OpenParenthesis, tokens) {
+        Ok(behind) => closed_head(alloc, room - 1, behind),
+        Err(fault) => Err(fault),
+    }
+}
+
+/// Actions and `}`.
+fn actions(alloc: Global, room: u32, tokens: &[Token]) -> Result<(Vec<Name>, &[Token]), Fault>
+    ensures { MatchResult result
+        (λ read. AreRead room (repeated action_row ▸ sign_part CloseBrace) (λ others. action_list read.0.items (sign_of CloseBrace others)) tokens.now read.1.now)
+        (Refuses room (repeated action_row ▸ sign_part CloseBrace) tokens.now) }
+{
+    let mut items = Vec::new(alloc);
+    let mut left = tokens;
+    'members: while is_name(left) {
+        match ended_by(alloc, room, Sign::Semicolon, left) {
+            Ok((next, after)) => match items.push(next) {
+                Ok(()) => left = after,
+                Err(_) => return Err(Fault::NoMemory),
+            },
+            Err(fault) => return Err(fault),
+        }
+    }
+    match sign(room, Sign::CloseBrace, left) {
+        Ok(behind) => Ok((items, behind)),
+        Err(fault) => Err(fault),
+    }
+}
+
+/// Actions in braces.
+fn action_block(alloc: Global, room: u32, tokens: &[Token]) -> Result<(Vec<Name>, &[Token]), Fault>
+    ensures { MatchResult result
+        (λ read. AreRead room (braces (repeated action_row)) (λ others. sign_of OpenBrace (action_list read.0.items (sign_of CloseBrace others))) tokens.now read.1.now)
+        (Refuses room (braces (repeated action_row)) tokens.now) }
+{
+    match open(room, Sign::OpenBrace, tokens) {
+        Ok(behind) => actions(alloc, room - 1, behind),
+        Err(fault) => Err(fault),
+    }
+}
+
+/// A transition.
+pub fn transition(
+    alloc: Global,
+    room: u32,
+    tokens: &[Token],
+) -> Result<(Transition, &[Token]), Fault>
+    ensures { MatchResult result
+        (λ read. IsRead room (of transition_form) (transition_of read.0) tokens.now tokens.now read.1.now)
+        (Refuses room (of transition_form) tokens.now) }
+{
+    if !is_word(Word::Transition, tokens) {
+        return Err(refuse(room, tokens));
+    }
+    match word(room, Word::Transition, tokens) {
+        Ok(inside) => match transition_head(alloc, room, inside) {
+            Ok((head, behind)) => match action_block(alloc, room, behind) {
+                Ok((actions, left)) => {
+                    let TransitionHead {
+                        states,
+                        events,
+                        next,
+                        pairs,
+                    } = head;
+                    let span = span(tokens, left);
+                    Ok((
+                        Transition {
+                            states,
+                            events,
+                            next,
+                            pairs,
+                            actions,
+                            span,
+                        },
+                        left,
+                    ))
+                }
+                Err(fault) => Err(fault),
+            },
+            Err(fault) => Err(fault),
+        },
+        Err(fault) => Err(fault),
+    }
+}

@@ -1,5 +1,0 @@
-pub mod FirstTokens
-pub mod Repeats
-pub mod Lists
-pub mod Behind
-pub mod NameKinds

@@ -1,0 +1,19 @@
+-- What a first token is where it is one of some kinds or of others, and not of the former.
+use Rattle.std.proofs.Common.{◌≡◌, ℕ, ◌||◌, ◌==◌, true, false, Bool, List, [], ◌∷◌, ◌++◌, sym}
+use Rattle.std.proofs.lemmas.Bool.{false≢true}
+use Rattle.grammar_rows.specs.Kinds.{has, is_ahead}
+
+or_later : (a b c : Bool) → (a || b) ≡ true → (a || c) ≡ false → (b ≡ true) × (c ≡ false)
+or_later true b c some absent_there = absurd (false≢true (sym absent_there))
+or_later false b c some absent_there = (some, absent_there)
+
+later_has : (kinds others : List ℕ) (kind : ℕ) → has (kinds ++ others) kind ≡ true → has kinds kind ≡ false → has others kind ≡ true
+later_has [] others kind some absent_there = some
+later_has (k ∷ kinds) others kind some absent_there =
+    let parts = or_later (k == kind) (has (kinds ++ others) kind) (has kinds kind) some absent_there in
+    later_has kinds others kind parts.0 parts.1
+
+-- it is one of the others
+pub later_kind : (kinds others : List ℕ) (tokens : List ℕ) → is_ahead (kinds ++ others) tokens ≡ true → is_ahead kinds tokens ≡ false → is_ahead others tokens ≡ true
+later_kind kinds others [] some absent_there = absurd (false≢true some)
+later_kind kinds others (kind ∷ tokens) some absent_there = later_has kinds others kind some absent_there

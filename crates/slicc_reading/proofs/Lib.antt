@@ -1,0 +1,12 @@
+pub mod Refusals
+pub mod Spans
+pub mod Parts
+pub mod Choices
+pub mod PairLists
+pub mod Repeats
+pub mod Behind
+pub mod Spelled
+pub mod Endless
+pub mod Border
+pub mod FirstTokens
+pub mod BalancedParts
