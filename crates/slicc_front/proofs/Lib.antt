@@ -4,6 +4,8 @@ mod WantedItems
 mod TreeTexts
 mod Stepping
 mod SameWants
-mod OneText
-mod OneGathering
-mod OneNameEach
+pub mod OneText
+pub mod OneGathering
+pub mod OneNameEach
+pub mod Told
+pub mod Ways

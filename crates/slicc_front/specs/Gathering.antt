@@ -3,11 +3,13 @@
 -- counts as no name. The order of reading is that of the trees. The first that is absent, too long or refused, or the include
 -- line of one name too many, is the answer in place of the trees. A lack of memory may come at any time. The limit of names
 -- and how an included file is named are this project's own.
-use Rattle.std.specs.Prelude.{◌≡◌, ◌<◌, ◌≤◌, ◌++◌, ℕ, Bool, true, false, None, Some, Ok, Err, List, [], ◌∷◌, length, codes, if◌then◌else◌}
+use Rattle.std.specs.Prelude.{◌≡◌, ◌<◌, ◌≤◌, ◌++◌, ℕ, All, Bool, true, false, IsTrue, None, Some, Ok, Err, List, [], ◌∷◌, length, codes, if◌then◌else◌}
 use Rattle.std.specs.List.{flat_map, list_any, slice_get}
 use Rattle.std.specs.Str.{bytes_eq}
 use Rattle.ruby_outside.specs.declared.library.Got.{Got}
 use Rattle.ruby_outside.specs.declared.library.Got.TheVariants as got
+use Rattle.slicc_ast.specs.Outline.{is_allowed}
+use Rattle.slicc_ast.specs.Trees.{tree}
 use Rattle.slicc_ast.specs.declared.tree.item.Item.{Item}
 use Rattle.slicc_ast.specs.declared.tree.item.Item.TheVariants.{Include, Enumeration, Structure, Machine}
 use Rattle.slicc_ast.specs.declared.tree.item.Tree.{Tree}
@@ -106,3 +108,11 @@ IsGatheredFrom name reads g = IsGathered (folder_of name) [] [] (protocol_file n
 -- reads of a library were made that lead to the answer, and no others
 abbrev pub IsGatheredBy : {L : Type 0} (reads : L → List ℕ → ℕ → Got → L → Type 0) → List ℕ → L → L → Gathered → Type 0
 IsGatheredBy reads name before after g = (made : List Read) × AreMade reads before made after × IsGatheredFrom name made g
+
+-- the tree keeps the conditions of the grammar, as each does that tokens spell
+abbrev pub IsAllowed : Tree → Type 0
+IsAllowed t = IsTrue (is_allowed (tree t))
+
+abbrev pub AreAllowed : Gathered → Type 0
+AreAllowed (Files seen trees) = All IsAllowed trees
+AreAllowed other = Unit {0}

@@ -1,7 +1,7 @@
 //! Gathering a protocol's files, one after the other.
 ghost use Rattle.std.specs.Prelude.{◌≡◌, ◌<◌, ◌≤◌, ◌∷◌, length, All, IfNone, IfOk, IsSomeAnd, IsUtf8, MatchOption, codes};
 ghost use Rattle.std.specs.List.{slice_get};
-ghost use Rattle.slicc_front.specs.Gathering.{IsGatheredBy, IsNext};
+ghost use Rattle.slicc_front.specs.Gathering.{AreAllowed, IsGatheredBy, IsNext};
 ghost use Rattle.slicc_front.specs.Names.{folder_of};
 ghost use Rattle.slicc_front.specs.Steps.{AreSound, EndsBy, GoesOnBy, IsBegun, IsRefusalOf, IsRefusedFor, IsShort, IsSound, IsTakenIn, in_order, steps_left};
 
@@ -150,7 +150,8 @@ fn begun(alloc: Global, name: &[u8]) -> Result<State, NoMemory>
 /// At any time memory may run out.
 pub fn gather<L: Library>(alloc: Global, library: &mut L, name: &Text) -> Gathered
     requires { IsUtf8 name.now }
-    ensures { IsGatheredBy L.reads name.now library.old library.new result }
+    ensures reads { IsGatheredBy L.reads name.now library.old library.new result }
+    ensures allowed { AreAllowed result }
 {
     match begun(alloc, name.as_slice()) {
         Ok(state) => follow(alloc, library, folder(name.as_slice()), state),

@@ -1,10 +1,10 @@
 //! One file's bytes as its tree.
 ghost use Rattle.std.specs.Prelude.{◌≡◌, ◌<◌, ◌≤◌, Ok, Some, length, IsSomeAnd, MatchResult};
 ghost use Rattle.std.specs.List.{slice_get};
-ghost use Rattle.slicc_lex.specs.Syntax.{AreEnded};
+ghost use Rattle.slicc_parse.specs.Parsed.{AreEndedOnce};
 ghost use Rattle.slicc_front.specs.Texts.{IsReadText, IsReadTokens, IsTextFault, IsTokensFault, broken_at, broken_by, code_of, fault_of};
 
-use parse_stub::{SyntaxFault, parse};
+use slicc_parse::{SyntaxFault, parse};
 use ruby_base::Seq;
 use slicc_ast::tree::Tree;
 use slicc_lex::{LexFault, Token, lex};
@@ -85,7 +85,7 @@ fn broken_by_token(rule: TextRule, tokens: &Seq<Token>, place: u32) -> TextFault
 // The tree that the tokens of a file spell.
 fn read_tokens(alloc: Global, tokens: &Seq<Token>) -> Result<Tree, TextFault>
     requires size { length tokens.now ≤ 1048577 }
-    requires ended { AreEnded tokens.now }
+    requires ended { AreEndedOnce tokens.now }
     ensures { MatchResult result (λ t. IsReadTokens tokens.now (Ok t)) (IsTokensFault tokens.now) }
 {
     match parse(alloc, tokens) {

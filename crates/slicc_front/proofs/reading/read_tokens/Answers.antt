@@ -5,7 +5,7 @@ use Rattle.slicc_front.proofs.ReadTexts.{bad_fault, deep_fault}
 use Rattle.slicc_front.proofs.reading.read_tokens.Goals as goal
 
 pub returns-in-Ok : goal.returns-in-Ok
-returns-in-Ok c = spells_a_tree c.in-Ok.ensures.0 c.in-Ok.ensures.1
+returns-in-Ok c = spells_a_tree c.in-Ok.ensures.spells c.in-Ok.ensures.passed
 
 pub returns-in-Err-Syntax : goal.returns-in-Err-Syntax
 returns-in-Err-Syntax c =
