@@ -1,9 +1,9 @@
+pub mod Calls
 pub mod Checked
-pub mod Front
-pub mod Lexed
-pub mod Listed
+pub mod Declared
+pub mod Finding
 pub mod Machines
+pub mod Mapped
 pub mod Parts
-pub mod Patterns
-pub mod Trees
-pub mod Written
+pub mod Rows
+pub mod Bodies

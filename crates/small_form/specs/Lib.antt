@@ -1,5 +1,5 @@
-pub mod Tokens
 pub mod Spelling
 pub mod SmallForm
-pub mod Lexing
-pub mod Parsing
+pub mod Shapes
+pub mod Found
+pub mod Outlines

@@ -1,11 +1,13 @@
--- The bytes are a protocol of the small form, and this is its tree: the bytes' tokens are those of the tree, and the
--- tree is well formed. Bytes that are so of no tree are of another form.
-use Rattle.std.specs.Prelude.{ℕ, List}
+-- The tree is a protocol of the small form, and this is its machine: the tree's tokens are those of the machine, and the
+-- machine is well formed. A tree that is so of no machine is of another form.
+use Rattle.std.specs.Prelude.{◌≡◌}
+use Rattle.slicc_ast.specs.declared.tree.item.Tree.{Tree}
+use Rattle.slicc_ast.specs.Outline.{kinds_of}
+use Rattle.slicc_ast.specs.Trees.{tree}
 use Rattle.small_machine.specs.declared.machine.Machine.{Machine}
-use Rattle.small_form.specs.Tokens.{AreTokensOf}
-use Rattle.small_form.specs.Spelling.{machine_tokens}
 use Rattle.small_machine.specs.WellFormed.{IsWellFormed}
+use Rattle.small_form.specs.Spelling.{machine_kinds}
 
-pub record IsSmallForm (bytes : List ℕ) (m : Machine) : Type 0 where
-  pub tokens : AreTokensOf bytes (machine_tokens m)
+pub record IsSmallForm (t : Tree) (m : Machine) : Type 0 where
+  pub tokens : kinds_of (tree t) ≡ machine_kinds m
   pub well_formed : IsWellFormed m
