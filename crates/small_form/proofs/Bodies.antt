@@ -1,6 +1,6 @@
 -- Statements and blocks as the small form has them.
-use Rattle.std.proofs.Common.{◌≡◌, ◌≢◌, ℕ, Bool, true, false, not, IsTrue, List, [], ◌∷◌, map, Option, Some, None, codes, refl, sym, ap, ◌∙◌}
-use Rattle.std.specs.Option.{option_map, is_some}
+use Rattle.std.proofs.Common.{◌≡◌, ℕ, Bool, true, false, not, List, [], ◌∷◌, map, Option, Some, None, codes, refl, sym, ap, ◌∙◌}
+use Rattle.std.specs.Option.{is_some}
 use Rattle.slicc_ast.specs.declared.tree.expression.Expr.{Expr}
 use Rattle.slicc_ast.specs.declared.tree.span.Span.{Span}
 use Rattle.slicc_ast.specs.declared.tree.statement.Stmt.{Stmt, Evaluate, If as IfStmt, Peek as PeekStmt, Peek'}
@@ -12,7 +12,7 @@ use Rattle.slicc_ast.specs.declared.tree.statement.If.{If, If', out-If}
 use Rattle.slicc_ast.specs.declared.tree.statement.ElseIf.{ElseIf}
 use Rattle.slicc_ast.specs.declared.tree.statement.Block.{Block}
 use Rattle.slicc_ast.specs.declared.tree.token.Word.TheVariants.{If as IfWord, Peek as PeekWord}
-use Rattle.slicc_ast.specs.declared.tree.token.Sign.TheVariants.{OpenBrace, CloseBrace, OpenParenthesis, CloseParenthesis, Comma}
+use Rattle.slicc_ast.specs.declared.tree.token.Sign.TheVariants.{OpenBrace, OpenParenthesis, CloseParenthesis, Comma}
 use Rattle.slicc_ast.specs.Expressions.{args_list, expr}
 use Rattle.slicc_ast.specs.Names.{word, sign}
 use Rattle.slicc_ast.specs.Outline.{Outline, node, Parts, none, part, no_span, shape_in, shape_of}
@@ -85,10 +85,10 @@ same_pairs [] (q ∷ qs) same = absurd (cc)
 same_pairs (p ∷ ps) [] same = absurd (cc)
 same_pairs (p ∷ ps) (q ∷ qs) same = let rest : ps ≡ qs = same_pairs ps qs (cc) in cc
 
-same_peek : (p q : Peek) → p.port ≡ q.port → p.then.event ≡ q.then.event → p ≡ q
+pub same_peek : (p q : Peek) → p.port ≡ q.port → p.then.event ≡ q.then.event → p ≡ q
 same_peek p q port event = λ i. record { port = port i; then = record { event = event i } }
 
-same_if : (i j : SmallIf) → i.port ≡ j.port → i.then ≡ j.then → i ≡ j
+pub same_if : (i j : SmallIf) → i.port ≡ j.port → i.then ≡ j.then → i ≡ j
 same_if i j port then = λ k. record { port = port k; then = then k }
 
 -- peeks

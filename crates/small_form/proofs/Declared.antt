@@ -21,7 +21,6 @@ use Rattle.slicc_ast.specs.Machines.{decl, decl_list, parameter, parameter_list,
 use Rattle.slicc_ast.specs.Names.{word, sign, star, name, type_name}
 use Rattle.slicc_ast.specs.Outline.{Outline, node, Parts, none, part, no_span, shape_in, shape_of}
 use Rattle.slicc_ast.specs.Statements.{block_outline}
-use Rattle.small_machine.specs.declared.body.If.{If}
 use Rattle.small_machine.specs.declared.machine.States.{States}
 use Rattle.small_machine.specs.declared.machine.State.{State}
 use Rattle.small_machine.specs.declared.machine.Events.{Events}
@@ -143,7 +142,7 @@ parts_of_states whole called attributes members s is same =
 pub no_states : (whole : Outline) (called : List ℕ) (attributes : List Outline) (members : Parts) → whole ≡ states_view called attributes members → ((s : States) → IsStates called attributes members s → ⊥) → IsFound whole states None
 no_states whole called attributes members is other = unfound whole states (λ s same. other s (parts_of_states whole called attributes members s is same))
 
-same_states : (s t : States) → s.description ≡ t.description → s.default ≡ t.default → s.members ≡ t.members → s ≡ t
+pub same_states : (s t : States) → s.description ≡ t.description → s.default ≡ t.default → s.members ≡ t.members → s ≡ t
 same_states s t text default members = λ i. record { description = text i; default = default i; members = members i }
 
 pub the_states : (whole : Outline) (called text default : List ℕ) (attributes : List Outline) (members : Parts) (s : States) → whole ≡ states_view called attributes members → called ≡ codes "State" → attributes ≡ described_with text default → IsFound members state_list (Some s.members) → s.description ≡ text → s.default ≡ default → IsFound whole states (Some s)
@@ -179,7 +178,7 @@ parts_of_events whole called attributes members e is same =
 pub no_events : (whole : Outline) (called : List ℕ) (attributes : List Outline) (members : Parts) → whole ≡ events_view called attributes members → ((e : Events) → AreEvents called attributes members e → ⊥) → IsFound whole events None
 no_events whole called attributes members is other = unfound whole events (λ e same. other e (parts_of_events whole called attributes members e is same))
 
-same_events : (e f : Events) → e.description ≡ f.description → e.members ≡ f.members → e ≡ f
+pub same_events : (e f : Events) → e.description ≡ f.description → e.members ≡ f.members → e ≡ f
 same_events e f text members = λ i. record { description = text i; members = members i }
 
 pub the_events : (whole : Outline) (called text : List ℕ) (attributes : List Outline) (members : Parts) (e : Events) → whole ≡ events_view called attributes members → called ≡ codes "Event" → IsFound attributes described (Some text) → IsFound members event_list (Some e.members) → e.description ≡ text → IsFound whole events (Some e)
@@ -223,7 +222,7 @@ parts_of_action whole called attributes body a is same =
 pub no_action : (whole : Outline) (called : List ℕ) (attributes : List Outline) (body : Outline) → whole ≡ action_view called attributes body → ((a : Action) → IsAction called attributes body a → ⊥) → IsFound whole action None
 no_action whole called attributes body is other = unfound whole action (λ a same. other a (parts_of_action whole called attributes body a is same))
 
-same_action : (a b : Action) → a.name ≡ b.name → a.short ≡ b.short → a.description ≡ b.description → a.body.port ≡ b.body.port → a ≡ b
+pub same_action : (a b : Action) → a.name ≡ b.name → a.short ≡ b.short → a.description ≡ b.description → a.body.port ≡ b.body.port → a ≡ b
 same_action a b called short text port = λ i. record { name = called i; short = short i; description = text i; body = record { port = port i } }
 
 pub an_action : (whole : Outline) (called short text port : List ℕ) (attributes : List Outline) (body : Outline) (a : Action) → whole ≡ action_view called attributes body → attributes ≡ described_behind short text → IsFound body (λ p. block (dequeued p)) (Some port) → a.name ≡ called → a.short ≡ short → a.description ≡ text → a.body.port ≡ port → IsFound whole action (Some a)

@@ -1,9 +1,13 @@
+pub mod Bodies
 pub mod Calls
 pub mod Checked
 pub mod Declared
 pub mod Finding
+pub mod Formed
+pub mod FormedMachines
 pub mod Machines
 pub mod Mapped
+pub mod OneMachine
 pub mod Parts
 pub mod Rows
-pub mod Bodies
+pub mod Spelled

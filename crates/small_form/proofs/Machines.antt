@@ -1,6 +1,5 @@
 -- Machines and files as the small form has them.
-use Rattle.std.proofs.Common.{◌≡◌, ◌≢◌, ◌∙◌, ℕ, Bool, true, false, List, [], ◌∷◌, map, Option, Some, None, codes, refl, sym, ap, subst}
-use Rattle.std.specs.Option.{is_some}
+use Rattle.std.proofs.Common.{◌≡◌, ◌≢◌, ◌∙◌, ℕ, Bool, true, false, List, [], ◌∷◌, Option, Some, None, refl, sym, ap, subst}
 use Rattle.slicc_ast.specs.declared.tree.token.TokenKind.TheVariants.{Quoted}
 use Rattle.slicc_ast.specs.declared.tree.token.Word.TheVariants.{Machine as MachineWord}
 use Rattle.slicc_ast.specs.declared.tree.token.Sign.TheVariants.{OpenBrace, CloseBrace, OpenParenthesis, CloseParenthesis, Colon, Comma}
@@ -15,13 +14,8 @@ use Rattle.slicc_ast.specs.Declarations.{pair_list as pair_parts}
 use Rattle.slicc_ast.specs.Machines.{decl, decl_list, parameter, parameter_list, type_parts, machine as machine_tree}
 use Rattle.slicc_ast.specs.Names.{word, sign, name}
 use Rattle.slicc_ast.specs.Outline.{Outline, node, Parts, none, token, part, no_span, shape_in, shape_of}
-use Rattle.slicc_ast.specs.Trees.{item, item_list, protocol_parts}
+use Rattle.slicc_ast.specs.Trees.{item_list, protocol_parts}
 use Rattle.small_machine.specs.declared.machine.Machine.{Machine}
-use Rattle.small_machine.specs.declared.machine.States.{States}
-use Rattle.small_machine.specs.declared.machine.Events.{Events}
-use Rattle.small_machine.specs.declared.machine.InPort.{InPort}
-use Rattle.small_machine.specs.declared.machine.Action.{Action}
-use Rattle.small_machine.specs.declared.machine.Transition.{Transition}
 use Rattle.small_form.specs.declared.machine.Content.{Content}
 use Rattle.small_form.specs.Found.{IsFound}
 use Rattle.small_form.specs.Outlines.{content_shape}
@@ -118,7 +112,7 @@ machine_of_parts true called title inner [] (p ∷ []) ds outer m is =
     let e : shape_in (parameter_list (p ∷ []) none) ≡ part queue none = is.parameters_are in
     let f : shape_in (decl_list ds closed) ≡ declarations m.states m.events m.port m.action m.transitions = is.content_is in cc
 
-same_machine : (m n : Machine) → m.name ≡ n.name → m.title ≡ n.title → m.states ≡ n.states → m.events ≡ n.events → m.port ≡ n.port → m.action ≡ n.action → m.transitions ≡ n.transitions → m ≡ n
+pub same_machine : (m n : Machine) → m.name ≡ n.name → m.title ≡ n.title → m.states ≡ n.states → m.events ≡ n.events → m.port ≡ n.port → m.action ≡ n.action → m.transitions ≡ n.transitions → m ≡ n
 same_machine m n called title s e p a t =
     λ i. record { name = called i; title = title i; states = s i; events = e i; port = p i; action = a i; transitions = t i }
 
@@ -127,7 +121,11 @@ a_machine t c m typed bare parameters called title s e p a ts found =
     is_found _ machine m
     (machine_of_parts t.has_type t.name t.title t.pairs.span t.pairs.items.items t.parameters.items t.declarations.items t.span m
     (record {
-      typed_is = typed; called_is = sym called; title_is = sym title; no_attributes = bare; parameters_are = parameters;
+      typed_is = typed;
+      called_is = sym called;
+      title_is = sym title;
+      no_attributes = bare;
+      parameters_are = parameters;
       content_is = let f : shape_in (decl_list t.declarations.items closed) ≡ content_shape c = found.sound in cc;
     }))
     (λ n same.

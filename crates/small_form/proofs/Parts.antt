@@ -1,5 +1,5 @@
 -- The members of a machine's lists as the small form has them.
-use Rattle.std.proofs.Common.{◌≡◌, ◌∙◌, ℕ, List, [], ◌∷◌, map, Option, Some, None, codes, refl, sym, ap}
+use Rattle.std.proofs.Common.{◌≡◌, ◌∙◌, ℕ, List, [], ◌∷◌, Option, Some, None, codes, refl}
 use Rattle.slicc_ast.specs.declared.tree.token.Word.TheVariants.{Transition as TransitionWord}
 use Rattle.slicc_ast.specs.declared.tree.token.Sign.TheVariants.{OpenBrace, CloseBrace, OpenParenthesis, CloseParenthesis, Semicolon, Colon, Comma}
 use Rattle.slicc_ast.specs.declared.tree.span.Span.{Span}
@@ -7,10 +7,10 @@ use Rattle.slicc_ast.specs.declared.tree.name.Name.{Name}
 use Rattle.slicc_ast.specs.declared.tree.declaration.Pair.{Pair}
 use Rattle.slicc_ast.specs.declared.tree.machine.Names.{Names}
 use Rattle.slicc_ast.specs.declared.tree.machine.Names.TheVariants.{One, Several}
-use Rattle.slicc_ast.specs.Declarations.{pair, pair_list as pair_parts}
+use Rattle.slicc_ast.specs.Declarations.{pair_list as pair_parts}
 use Rattle.slicc_ast.specs.Machines.{names as names_parts, next_parts, action_list}
 use Rattle.slicc_ast.specs.Names.{word, sign}
-use Rattle.slicc_ast.specs.Outline.{Outline, node, Parts, none, part, no_span, shape_in, shape_of}
+use Rattle.slicc_ast.specs.Outline.{Outline, node, Parts, none, part, shape_of}
 use Rattle.small_machine.specs.declared.machine.Event.{Event}
 use Rattle.small_machine.specs.declared.machine.State.{State}
 use Rattle.small_machine.specs.declared.machine.Transition.{Transition}
@@ -30,7 +30,7 @@ pub no_event : (whole : Parts) (called : List ℕ) (attributes : List Outline) �
 no_event whole called attributes is gone = unfound whole (λ e. event e none) (λ e same.
     missing attributes described None gone refl e.description (event_parts whole called attributes e is same).1)
 
-same_event : (e f : Event) → e.name ≡ f.name → e.description ≡ f.description → e ≡ f
+pub same_event : (e f : Event) → e.name ≡ f.name → e.description ≡ f.description → e ≡ f
 same_event e f called text = λ i. record { name = called i; description = text i }
 
 pub an_event : (whole : Parts) (called text : List ℕ) (attributes : List Outline) (e : Event) → whole ≡ event_view called attributes → IsFound attributes described (Some text) → e.name ≡ called → e.description ≡ text → IsFound whole (λ e. event e none) (Some e)
@@ -53,7 +53,7 @@ pub no_state : (whole : Parts) (called owner permission : List ℕ) (attributes 
 no_state whole called owner permission attributes is gone = unfound whole (λ s. state s none) (λ s same.
     missing attributes described None gone refl s.description (state_parts whole called owner permission attributes s is same).2)
 
-same_state : (s t : State) → s.name ≡ t.name → s.permission ≡ t.permission → s.description ≡ t.description → s ≡ t
+pub same_state : (s t : State) → s.name ≡ t.name → s.permission ≡ t.permission → s.description ≡ t.description → s ≡ t
 same_state s t called allowed text = λ i. record { name = called i; permission = allowed i; description = text i }
 
 pub a_state : (whole : Parts) (called owner permission text : List ℕ) (attributes : List Outline) (s : State) → whole ≡ state_view called owner permission attributes → owner ≡ codes "AccessPermission" → IsFound attributes described (Some text) → s.name ≡ called → s.permission ≡ permission → s.description ≡ text → IsFound whole (λ s. state s none) (Some s)
@@ -65,7 +65,7 @@ a_state whole called owner permission text attributes s is owned found a b d =
     same_state s t (a ∙ there.0) (b ∙ there.1) (d ∙ (cc)))
 
 -- transitions
-pub transition_parts : (states events : Names) (next : Option Name) (inner outer : Span) (ps : List Pair) (actions : List Name) (t : Transition) → shape_of (node outer (word TransitionWord (sign OpenParenthesis (names_parts states (sign Comma (names_parts events (next_parts next (part (node inner (pair_parts ps)) (sign CloseParenthesis (sign OpenBrace (action_list actions (sign CloseBrace none))))))))))))  ≡ transition t → (ps ≡ []) × (a : Name) × (actions ≡ a ∷ [])
+pub transition_parts : (states events : Names) (next : Option Name) (inner outer : Span) (ps : List Pair) (actions : List Name) (t : Transition) → shape_of (node outer (word TransitionWord (sign OpenParenthesis (names_parts states (sign Comma (names_parts events (next_parts next (part (node inner (pair_parts ps)) (sign CloseParenthesis (sign OpenBrace (action_list actions (sign CloseBrace none)))))))))))) ≡ transition t → (ps ≡ []) × (a : Name) × (actions ≡ a ∷ [])
 transition_parts (One s) (One e) (Some n) inner outer [] (a ∷ []) t same = (refl, a, refl)
 transition_parts (One s) (One e) (Some n) inner outer [] [] t same = absurd (cc)
 transition_parts (One s) (One e) (Some n) inner outer [] (a ∷ b ∷ others) t same = absurd (cc)

@@ -1,5 +1,5 @@
 -- The outlines of lists that a tree holds in itself are those of the lists.
-use Rattle.std.proofs.Common.{rules, ◌≡◌, List, [], ◌∷◌, refl, ap}
+use Rattle.std.proofs.Common.{rules, ◌≡◌, refl, ap}
 use Rattle.slicc_ast.specs.declared.tree.expression.Expr.{Row_of-Expr, end_of-Expr, more_of-Expr, items-the_row-Expr}
 use Rattle.slicc_ast.specs.declared.tree.statement.Stmt.{Row_of-Stmt, end_of-Stmt, more_of-Stmt, items-the_row-Stmt}
 use Rattle.slicc_ast.specs.declared.tree.statement.Stmt.TheViews.{the_lemmas}

@@ -26,7 +26,9 @@ fn is_clock_edge(e: &Expr) -> bool
 {
     match e {
         Expr::Call {
-            name, arguments, ..
+            name,
+            arguments,
+            ..
         } => is_word(&name.text, "clockEdge") && are_none(arguments.items.as_slice()),
         _ => false,
     }
@@ -111,7 +113,9 @@ pub fn triggered(e: &Expr) -> Option<&Text>
     ensures { IsFound (shape_of (expr e.now)) (λ event. call (codes "trigger") (event_arguments event)) (option_copied result) }
 {
     let Expr::Call {
-        name, arguments, ..
+        name,
+        arguments,
+        ..
     } = e
     else {
         return None;

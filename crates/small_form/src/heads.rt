@@ -17,7 +17,8 @@ fn is_queue(parameter: &Parameter) -> bool
     if !are_none(parameter.pairs.items.as_slice()) {
         return false;
     }
-    is_word(&parameter.kind.text, "MessageBuffer") && is_word(&parameter.name.text, "mandatoryQueue")
+    is_word(&parameter.kind.text, "MessageBuffer")
+        && is_word(&parameter.name.text, "mandatoryQueue")
 }
 
 /// Whether the processor's requests are the machine's one parameter.

@@ -1,4 +1,4 @@
-use Rattle.std.proofs.Common.{◌≡◌, refl}
+use Rattle.std.proofs.Common.{refl}
 use Rattle.small_form.specs.Shapes.{block, dequeued}
 use Rattle.small_form.proofs.Declared.{action_is, no_action, an_action}
 use Rattle.small_form.proofs.Finding.{missing}

@@ -1,4 +1,4 @@
-use Rattle.std.proofs.Common.{◌≡◌, refl}
+use Rattle.std.proofs.Common.{refl}
 use Rattle.small_form.specs.Shapes.{described, event_list}
 use Rattle.small_form.proofs.Declared.{events_is, no_events, the_events, event_list_found}
 use Rattle.small_form.proofs.Finding.{missing, present}

@@ -1,4 +1,4 @@
-use Rattle.std.proofs.Common.{◌≡◌, ◌∙◌}
+use Rattle.std.proofs.Common.{◌∙◌}
 use Rattle.std.proofs.lemmas.Bool.{false≢true}
 use Rattle.small_form.specs.Shapes.{block, conditional, in_port}
 use Rattle.small_form.proofs.Declared.{port_attributes}

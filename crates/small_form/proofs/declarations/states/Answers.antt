@@ -1,4 +1,4 @@
-use Rattle.std.proofs.Common.{◌≡◌, refl}
+use Rattle.std.proofs.Common.{refl}
 use Rattle.small_form.specs.Shapes.{state_list}
 use Rattle.small_form.proofs.Declared.{states_is, no_states, the_states, state_list_found}
 use Rattle.small_form.proofs.Finding.{missing, present}

@@ -1,4 +1,4 @@
-use Rattle.std.proofs.Common.{rules, ◌≡◌, refl, sym, subst, false}
+use Rattle.std.proofs.Common.{rules, ◌≡◌, refl, subst}
 use Rattle.std.proofs.lemmas.Bool.{false≢true}
 use Rattle.std.specs.Option.{option_copied}
 use Rattle.slicc_ast.specs.declared.tree.expression.Expr.TheViews.{the_lemmas}

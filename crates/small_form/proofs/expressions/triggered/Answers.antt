@@ -1,4 +1,4 @@
-use Rattle.std.proofs.Common.{rules, ◌≡◌, codes, refl, sym, subst}
+use Rattle.std.proofs.Common.{rules, ◌≡◌, codes, refl, subst}
 use Rattle.std.specs.Option.{option_copied}
 use Rattle.slicc_ast.specs.declared.tree.expression.Expr.TheViews.{the_lemmas}
 use Rattle.slicc_ast.specs.Expressions.{args_list, expr}

@@ -1,4 +1,4 @@
-use Rattle.std.proofs.Common.{◌≡◌, ◌+◌, sym, subst}
+use Rattle.std.proofs.Common.{◌+◌, sym, subst}
 use Rattle.small_form.specs.Found.{IsFound}
 use Rattle.small_form.proofs.Finding.{present}
 use Rattle.small_form.proofs.Mapped.{AreRead, next_item, item_taken, one_more_read, unread, all_read}

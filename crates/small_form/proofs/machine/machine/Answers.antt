@@ -1,4 +1,4 @@
-use Rattle.std.proofs.Common.{◌≡◌, ◌∙◌, refl, sym, ap}
+use Rattle.std.proofs.Common.{◌∙◌, refl, sym, ap}
 use Rattle.slicc_ast.specs.Machines.{parameter_list}
 use Rattle.slicc_ast.specs.Outline.{none, shape_in}
 use Rattle.std.proofs.lemmas.Bool.{false≢true}

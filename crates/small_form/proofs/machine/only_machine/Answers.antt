@@ -1,4 +1,4 @@
-use Rattle.std.proofs.Common.{◌≡◌, ◌∙◌}
+use Rattle.std.proofs.Common.{◌∙◌}
 use Rattle.std.proofs.lemmas.Option.{none-some}
 use Rattle.small_form.proofs.Machines.{one_item_of_file}
 use Rattle.small_form.proofs.machine.only_machine.Goals as goal

@@ -1,4 +1,4 @@
-use Rattle.std.proofs.Common.{◌≡◌, codes, refl, sym, subst, Some}
+use Rattle.std.proofs.Common.{codes, refl, sym, subst, Some}
 use Rattle.slicc_ast.specs.declared.tree.statement.If.{out-If}
 use Rattle.slicc_ast.specs.Expressions.{expr}
 use Rattle.slicc_ast.specs.Outline.{shape_of}

@@ -1,4 +1,4 @@
-use Rattle.std.proofs.Common.{◌≡◌, ap}
+use Rattle.std.proofs.Common.{ap}
 use Rattle.slicc_ast.specs.Outline.{shape_of}
 use Rattle.slicc_ast.specs.Statements.{stmt}
 use Rattle.small_form.specs.Shapes.{triggered}
