@@ -3,7 +3,7 @@ mod ReadTexts
 mod WantedItems
 mod TreeTexts
 mod Stepping
-mod SameWants
+pub mod SameWants
 pub mod OneText
 pub mod OneGathering
 pub mod OneNameEach

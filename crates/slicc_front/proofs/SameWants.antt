@@ -24,7 +24,7 @@ mutual
   shape_in-kinds (part o parts) = ap (λ ks. ks ++ kinds_in (shape_in parts)) (shape-kinds o) ∙ ap (λ ks. kinds_of o ++ ks) (shape_in-kinds parts)
   shape_in-kinds (provided condition parts) = shape_in-kinds parts
 
-same_kinds : (o p : Outline) → shape_of o ≡ shape_of p → kinds_of o ≡ kinds_of p
+pub same_kinds : (o p : Outline) → shape_of o ≡ shape_of p → kinds_of o ≡ kinds_of p
 same_kinds o p same = sym (shape-kinds o) ∙ ap kinds_of same ∙ shape-kinds p
 
 -- an outline is placed at as many tokens as it has

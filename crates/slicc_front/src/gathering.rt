@@ -34,7 +34,8 @@ fn refusal(alloc: Global, source: &Source, offset: u32, code: &str) -> Gathered
 fn one_too_many(alloc: Global, sources: &[Source], next: &Wanted) -> Gathered
     requires named { next.now.file < length sources.now }
     requires sizes { All IsShort sources.now }
-    ensures { IsSomeAnd (slice_get sources.now next.now.file) (λ s. IsRefusalOf s next.now.offset (codes "R3") result) }
+    ensures { IsSomeAnd (slice_get sources.now next.now.file)
+        (λ s. IsRefusalOf s next.now.offset (codes "R3") result) }
 {
     refusal(alloc, &sources[next.file as usize], next.offset, "R3")
 }
@@ -43,7 +44,9 @@ fn one_too_many(alloc: Global, sources: &[Source], next: &Wanted) -> Gathered
 fn take_in(alloc: Global, folder: &[u8], state: &mut State, source: Source) -> Option<Gathered>
     requires room { length state.old.sources < 64 }
     requires size { IsShort source }
-    ensures { MatchOption result (IsTakenIn folder.now state.old source state.new) (IsRefusedFor (length state.old.sources) source) }
+    ensures { MatchOption result
+        (IsTakenIn folder.now state.old source state.new)
+        (IsRefusedFor (length state.old.sources) source) }
 {
     let file = state.sources.len() as u16;
     match read_text(alloc, file, source.bytes.as_slice()) {
@@ -71,7 +74,8 @@ fn read_next<L: Library>(
     requires is_next { IsNext state.old.sources next }
     requires next { IsSound (length state.old.sources) next }
     requires sound { AreSound state.old }
-    ensures reads { GoesOnBy L.reads folder.now state.old (next ∷ in_order state.old) state.new library.old library.new result }
+    ensures reads { GoesOnBy L.reads folder.now state.old (next ∷ in_order state.old) state.new
+        library.old library.new result }
     ensures sound { IfNone result (AreSound state.new) }
     ensures fewer { IfNone result (steps_left state.new ≤ steps_left state.old) }
 {
@@ -100,7 +104,8 @@ fn enter<L: Library>(
     requires folder { IsUtf8 folder.now }
     requires next { IsSound (length state.old.sources) next }
     requires sound { AreSound state.old }
-    ensures reads { GoesOnBy L.reads folder.now state.old (next ∷ in_order state.old) state.new library.old library.new result }
+    ensures reads { GoesOnBy L.reads folder.now state.old (next ∷ in_order state.old) state.new
+        library.old library.new result }
     ensures sound { IfNone result (AreSound state.new) }
     ensures fewer { IfNone result (steps_left state.new ≤ steps_left state.old) }
 {
@@ -145,9 +150,9 @@ fn begun(alloc: Global, name: &[u8]) -> Result<State, NoMemory>
     })
 }
 
-/// Reads the files that the protocol of a name is made of, each once, depth first in the order of the include lines. An included
-/// file is named by the folder of the protocol's file and the text of its line; gem5's file of interfaces isn't read.
-/// At any time memory may run out.
+/// Reads the files that the protocol of a name is made of, each once, depth first in the order of the include lines. An
+/// included file is named by the folder of the protocol's file and the text of its line; gem5's file of interfaces isn't
+/// read. At any time memory may run out.
 pub fn gather<L: Library>(alloc: Global, library: &mut L, name: &Text) -> Gathered
     requires { IsUtf8 name.now }
     ensures reads { IsGatheredBy L.reads name.now library.old library.new result }

@@ -1,5 +1,5 @@
-//! The files that a protocol is made of: they are read by name from a library, from the protocol's own on, as include lines
-//! want them, and each is read as a tree. Or there is the first of them that can't be.
+//! The files that a protocol is made of: they are read by name from a library, from the protocol's own on, as include
+//! lines want them, and each is read as a tree. Or there is the first of them that can't be.
 #![tactic(auto)]
 
 mod gathered;

@@ -4,10 +4,10 @@ ghost use Rattle.std.specs.List.{slice_get};
 ghost use Rattle.slicc_parse.specs.Parsed.{AreEndedOnce};
 ghost use Rattle.slicc_front.specs.Texts.{IsReadText, IsReadTokens, IsTextFault, IsTokensFault, broken_at, broken_by, code_of, fault_of};
 
-use slicc_parse::{SyntaxFault, parse};
 use ruby_base::Seq;
 use slicc_ast::tree::Tree;
 use slicc_lex::{LexFault, Token, lex};
+use slicc_parse::{SyntaxFault, parse};
 use std::alloc::Global;
 
 /// The rules of a text that is read: those of its tokens, and those of the grammar.
@@ -76,7 +76,8 @@ fn lexical(fault: LexFault) -> TextFault
 // A rule that the token at a place breaks.
 fn broken_by_token(rule: TextRule, tokens: &Seq<Token>, place: u32) -> TextFault
     requires { place < length tokens.now }
-    ensures { IsSomeAnd (slice_get tokens.now place) (λ token. result ≡ fault_of (Some (broken_at rule token.span.start))) }
+    ensures { IsSomeAnd (slice_get tokens.now place)
+        (λ token. result ≡ fault_of (Some (broken_at rule token.span.start))) }
 {
     let offset = tokens[place as usize].span.start;
     TextFault::Broken(Broken { rule, offset })
@@ -103,7 +104,9 @@ fn read_tokens(alloc: Global, tokens: &Seq<Token>) -> Result<Tree, TextFault>
 /// The tree of a file's bytes, or the first place where they break the language.
 pub fn read_text(alloc: Global, file: u16, bytes: &[u8]) -> Result<Tree, TextFault>
     requires { length bytes.now ≤ 1048576 }
-    ensures { MatchResult result (λ t. IsReadText file bytes.now (Ok t)) (IsTextFault file bytes.now) }
+    ensures { MatchResult result
+        (λ t. IsReadText file bytes.now (Ok t))
+        (IsTextFault file bytes.now) }
 {
     match lex(alloc, file, bytes) {
         Ok(tokens) => read_tokens(alloc, &tokens),

@@ -12,8 +12,8 @@ use std::alloc::Global;
 // gem5's file of interfaces, which is never read.
 const INTERFACES: &str = "RubySlicc_interfaces.slicc";
 
-/// A file that is wanted, and where its include line is: the number of the file that has it, in the order of reading, and the
-/// offset of the word `include` in it. Those of the protocol's own file are 0.
+/// A file that is wanted, and where its include line is: the number of the file that has it, in the order of reading, and
+/// the offset of the word `include` in it. Those of the protocol's own file are 0.
 #[derive(Drop)]
 pub struct Wanted {
     pub name: Text,
@@ -69,7 +69,8 @@ fn add_items(
     items: &[Item],
     left: &mut Vec<Wanted>,
 ) -> Result<(), NoMemory>
-    ensures { OnOk result (left.new.items ≡ left.old.items ++ reverse (flat_map (wanted_by folder.now file) items.now)) }
+    ensures { OnOk result (left.new.items
+        ≡ left.old.items ++ reverse (flat_map (wanted_by folder.now file) items.now)) }
 {
     let mut count = items.len();
     while 0 < count {
@@ -91,7 +92,8 @@ impl State {
         requires { length self.old.sources < 64 }
         ensures sources { OnOk result (self.new.sources ≡ self.old.sources ++ source ∷ []) }
         ensures trees { OnOk result (self.new.trees ≡ self.old.trees ++ tree ∷ []) }
-        ensures left { OnOk result (self.new.left.items ≡ self.old.left.items ++ reverse (wanted_of folder.now (length self.old.sources) tree)) }
+        ensures left { OnOk result (self.new.left.items
+            ≡ self.old.left.items ++ reverse (wanted_of folder.now (length self.old.sources) tree)) }
     {
         let file = self.sources.len() as u16;
         add_items(alloc, folder, file, tree.items.as_slice(), &mut self.left)?;
