@@ -1,11 +1,20 @@
 -- The theorem about a call of the program, from what the call does.
-use Rattle.std.proofs.Common.{◌≡◌, ◌≢◌, ◌<◌, ◌⊎◌, inl, inr, ℕ, Bool, true, false, Option, None, Some, List, [], ◌∷◌, ◌++◌, if◌then◌else◌, refl, sym, ◌∙◌, ap, subst, arith, IfSome, IsSome}
+use Rattle.std.proofs.Common.{◌≡◌, ◌≢◌, ◌<◌, ◌⊎◌, inl, inr, ℕ, Bool, true, false, Option, None, Some, List, [], ◌∷◌, ◌++◌, if◌then◌else◌, refl, sym, ap, subst, arith, IfSome, IsSome}
 use Rattle.ruby_outside.specs.Faults.{Rose}
 use Rattle.ruby_outside.specs.Files.{Files, IsLawfulRead}
 use Rattle.ruby_outside.specs.Sink.{IsLawfulWrite, IsWritten}
 use Rattle.ruby_outside.specs.declared.library.Got.{Got}
-use Rattle.ruby_outside.specs.declared.library.Got.TheVariants as got
 use Rattle.ruby_outside.specs.declared.sink.Wrote.{Wrote}
+use Rattle.slicc_ast.specs.declared.tree.item.Tree.{Tree}
+use Rattle.slicc_front.specs.Gathering.{IsGatheredFrom}
+use Rattle.slicc_front.specs.Reads.{Read, MayBeGiven}
+use Rattle.slicc_front.specs.Same.{AreAlike, IsAlike, IsGatheredOver}
+use Rattle.slicc_front.specs.declared.gathered.Gathered.{Gathered}
+use Rattle.slicc_front.specs.declared.gathered.Gathered.TheVariants as gathered
+use Rattle.slicc_front.specs.declared.gathered.Source.{Source}
+use Rattle.slicc_front.proofs.OneGathering.{one_over_files}
+use Rattle.slicc_front.proofs.Told.{HasFailed, all_read, failed_rose}
+use Rattle.slicc_front.proofs.Ways.{fault_failed, given_or_failed}
 use Rattle.run_journal.specs.declared.verdict.Verdict.{Verdict}
 use Rattle.run_journal.specs.declared.verdict.Verdict.TheVariants.{Passed, Quiet}
 use Rattle.run_text.proofs.PiecesLeft.{pieces_written}
@@ -20,12 +29,11 @@ use Rattle.ruby_cli.specs.declared.done.Done.{Done}
 use Rattle.ruby_cli.specs.declared.options.Options.{Options}
 use Rattle.ruby_cli.specs.Answer.{text_of, status_of, kept_of, done_of, out_of_memory, verdict_status}
 use Rattle.ruby_cli.specs.Asked.{setting_of}
-use Rattle.ruby_cli.specs.Call.{AreMade, IsAnswered}
+use Rattle.ruby_cli.specs.Call.{IsAnswered}
 use Rattle.ruby_cli.specs.Headline.{IsWokenOnce, IsMessageAccount, IsInvalidExactly, IsTallied, IsAsAsked, IsOneOf, IsVerdictStatus, statuses_of, IsCaused, IsComplete, IsTheorem}
-use Rattle.ruby_cli.specs.Right.{Read, IsToRun, IsRightFor, IsRightTo, IsRight, IsAnswer, IsRunOver, IsSame, MayBeGiven, given}
-use Rattle.ruby_cli.proofs.OneAnswer.{same_read, same_answer, whole_right}
+use Rattle.ruby_cli.specs.Right.{IsToRun, IsRightFor, IsRightTo, IsRight, IsAnswer, IsRunOver, IsSame}
+use Rattle.ruby_cli.proofs.OneAnswer.{other_like, same_answer, was_memory, whole_right}
 use Rattle.ruby_cli.proofs.Runs.{for_kept, invalid_whole, woken_whole, tallied_whole, accounted_whole, plain_seats}
-use Rattle.ruby_cli.proofs.Told.{all_read, first_failed, given_right}
 
 -- a read failed
 abbrev IsFault : Answer → Type 0
@@ -126,120 +134,115 @@ verdict_of (Absent name) whole = apart 6 whole (omega arith)
 verdict_of (TooLarge name) whole = apart 9 whole (omega arith)
 verdict_of (ReadFault name) whole = apart 5 whole (omega arith)
 
--- a right run is of a protocol that was asked for and read
+-- a right run is of a protocol that was asked for, and whose files were read
 record IsRunAsked (asked : Option Options) (made : List Read) (r : RunRecord) : Type 0 where
   options : Options
-  bytes : List ℕ
+  sources : List Source
+  trees : List Tree
   asked_is : asked ≡ Some options
-  made_is : made ≡ record { name = options.protocol; got = got.Bytes bytes } ∷ []
-  to_run : IsToRun bytes options r.setting
+  by_reads : IsGatheredFrom options.protocol made (gathered.Files sources trees)
+  to_run : IsToRun trees options r.setting
 
-asked_by : (o : Options) (g : Got) (r : RunRecord) → IsRightTo o g (Ran r) → (bytes : List ℕ) × (g ≡ got.Bytes bytes) × IsToRun bytes o r.setting
-asked_by o (got.Bytes bytes) r is = (bytes, refl, is.1)
-asked_by o got.Absent r is = absurd (cc is)
-asked_by o got.TooLarge r is = absurd (cc is)
-asked_by o got.Failed r is = absurd (cc is)
-asked_by o got.NoMemory r is = absurd is
+asked_by : (o : Options) (made : List Read) (g : Gathered) (r : RunRecord) → IsGatheredFrom o.protocol made g → IsRightTo o g (Ran r) → IsRunAsked (Some o) made r
+asked_by o made (gathered.Files sources trees) r by is = record { options = o; sources = sources; trees = trees; asked_is = refl; by_reads = by; to_run = is.1 }
+asked_by o made (gathered.Refused refusal) r by is = absurd (cc is)
+asked_by o made (gathered.Absent name) r by is = absurd (cc is)
+asked_by o made (gathered.TooLarge name) r by is = absurd (cc is)
+asked_by o made (gathered.ReadFault name) r by is = absurd (cc is)
+asked_by o made gathered.NoMemory r by is = absurd is
 
 run_asked : (asked : Option Options) (made : List Read) (r : RunRecord) → IsRight asked made (Ran r) → IsRunAsked asked made r
 run_asked None [] r is = absurd (cc is)
 run_asked None (x ∷ xs) r is = absurd is
-run_asked (Some o) [] r is = absurd is
-run_asked (Some o) (x ∷ []) r is =
-    let by = asked_by o x.got r is.1 in
-    record { options = o; bytes = by.0; asked_is = refl; made_is = ap (λ (y : Read). y ∷ []) (same_read x (record { name = o.protocol; got = got.Bytes by.0 }) is.0 by.1); to_run = by.2 }
-run_asked (Some o) (x ∷ y ∷ xs) r is = absurd is
+run_asked (Some o) made r is = asked_by o made is.files r is.by_reads is.right
 
 -- the usage line is right where nothing was asked for, and nothing else is
-usage_by : (o : Options) (g : Got) → IsRightTo o g Usage → ⊥
-usage_by o (got.Bytes bytes) is = is
-usage_by o got.Absent is = absurd (cc is)
-usage_by o got.TooLarge is = absurd (cc is)
-usage_by o got.Failed is = absurd (cc is)
-usage_by o got.NoMemory is = is
+usage_by : (o : Options) (g : Gathered) → IsRightTo o g Usage → ⊥
+usage_by o (gathered.Files sources trees) is = is
+usage_by o (gathered.Refused refusal) is = absurd (cc is)
+usage_by o (gathered.Absent name) is = absurd (cc is)
+usage_by o (gathered.TooLarge name) is = absurd (cc is)
+usage_by o (gathered.ReadFault name) is = absurd (cc is)
+usage_by o gathered.NoMemory is = is
 
 usage_asked : (asked : Option Options) (made : List Read) → IsRight asked made Usage → asked ≡ None
 usage_asked None made is = refl
-usage_asked (Some o) [] is = absurd is
-usage_asked (Some o) (x ∷ []) is = absurd (usage_by o x.got is.1)
-usage_asked (Some o) (x ∷ y ∷ xs) is = absurd is
+usage_asked (Some o) made is = absurd (usage_by o is.files is.right)
 
 none_usage : (made : List Read) (a : Answer) → IsRight None made a → a ≡ Usage
 none_usage [] a is = is
 none_usage (x ∷ xs) a is = absurd is
 
--- a right fault is that of the first read
-fault_by : (o : Options) (g : Got) (name : List ℕ) → IsRightTo o g (ReadFault name) → g ≡ got.Failed
-fault_by o (got.Bytes bytes) name is = absurd is
-fault_by o got.Absent name is = absurd (cc is)
-fault_by o got.TooLarge name is = absurd (cc is)
-fault_by o got.Failed name is = refl
-fault_by o got.NoMemory name is = absurd is
+-- a right fault is that of a read
+fault_by : (o : Options) (g : Gathered) (name : List ℕ) → IsRightTo o g (ReadFault name) → (n : List ℕ) × (g ≡ gathered.ReadFault n)
+fault_by o (gathered.Files sources trees) name is = absurd is
+fault_by o (gathered.Refused refusal) name is = absurd (cc is)
+fault_by o (gathered.Absent n) name is = absurd (cc is)
+fault_by o (gathered.TooLarge n) name is = absurd (cc is)
+fault_by o (gathered.ReadFault n) name is = (n, refl)
+fault_by o gathered.NoMemory name is = absurd is
 
-fault_first : (asked : Option Options) (made : List Read) (name : List ℕ) → IsRight asked made (ReadFault name) → (r : Read) × (rs : List Read) × (made ≡ r ∷ rs) × (r.got ≡ got.Failed)
-fault_first None [] name is = absurd (cc is)
-fault_first None (x ∷ xs) name is = absurd is
-fault_first (Some o) [] name is = absurd is
-fault_first (Some o) (x ∷ []) name is = (x, [], refl, fault_by o x.got name is.1)
-fault_first (Some o) (x ∷ y ∷ xs) name is = absurd is
+fault_read : (asked : Option Options) (made : List Read) (name : List ℕ) → IsRight asked made (ReadFault name) → HasFailed made
+fault_read None [] name is = absurd (cc is)
+fault_read None (x ∷ xs) name is = absurd is
+fault_read (Some o) made name is =
+    let fault = fault_by o is.files name is.right in
+    fault_failed fault.0 is.by_reads fault.1
 
--- another right answer is right over the files
-sound_by : (o : Options) (g : Got) (a : Answer) → IsRightTo o g a → (IsFault a → ⊥) → (g ≢ got.Failed) × (g ≢ got.NoMemory)
-sound_by o (got.Bytes bytes) a is sound = (λ e. cc e, λ e. cc e)
-sound_by o got.Absent a is sound = (λ e. cc e, λ e. cc e)
-sound_by o got.TooLarge a is sound = (λ e. cc e, λ e. cc e)
-sound_by o got.Failed a is sound = absurd (sound (o.protocol, is))
-sound_by o got.NoMemory a is sound = absurd is
-
-over_files : (told : Files) (asked : Option Options) (made : List Read) (a : Answer) → MayBeGiven told made → IsRight asked made a → (IsFault a → ⊥) → IsAnswer told asked a
-over_files told None [] a allow is sound = ([], tt, is)
-over_files told None (x ∷ xs) a allow is sound = absurd is
-over_files told (Some o) [] a allow is sound = absurd is
-over_files told (Some o) (x ∷ []) a allow is sound =
-    let well = sound_by o x.got a is.1 sound in
-    (x ∷ [], (given_right told x.name x.got allow.0 well.0 well.1, tt), is)
-over_files told (Some o) (x ∷ y ∷ xs) a allow is sound = absurd is
+-- a fault has status 5
+fault_status : (o : Options) (g : Gathered) (name : List ℕ) (a : Answer) → g ≡ gathered.ReadFault name → IsRightTo o g a → status_of a ≡ 5
+fault_status o g name a same is = ap status_of (subst (λ (x : Gathered). IsRightTo o x a) same is)
 
 -- a fault or an answer over the files
 only_of : (told : Files) (asked : Option Options) (made : List Read) (a : Answer) → MayBeGiven told made → IsRight asked made a → (status_of a ≡ 5) ⊎ IsAnswer told asked a
-only_of told asked made (ReadFault name) allow is = inl refl
-only_of told asked made (Ran r) allow is = inr (over_files told asked made (Ran r) allow is (λ (n, e). absurd (cc e)))
-only_of told asked made Usage allow is = inr (over_files told asked made Usage allow is (λ (n, e). absurd (cc e)))
-only_of told asked made (Refused refusal) allow is = inr (over_files told asked made (Refused refusal) allow is (λ (n, e). absurd (cc e)))
-only_of told asked made (Absent name) allow is = inr (over_files told asked made (Absent name) allow is (λ (n, e). absurd (cc e)))
-only_of told asked made (TooLarge name) allow is = inr (over_files told asked made (TooLarge name) allow is (λ (n, e). absurd (cc e)))
+only_of told None [] a allow is = inr ([], tt, is)
+only_of told None (x ∷ xs) a allow is = absurd is
+only_of told (Some o) made a allow is =
+    elim (given_or_failed told is.by_reads (was_memory o is.files a is.right) allow) [
+      | inl last ↦ inl (fault_status o is.files last.name a last.answer is.right)
+      | inr are ↦ inr (made, are, is)
+    ]
 
 -- where a run is to be made and no read failed, a run is right
-ran_for : (o : Options) (bytes : List ℕ) (setting : Setting) (a : Answer) → IsToRun bytes o setting → IsRightFor bytes o a → (r : RunRecord) × (a ≡ Ran r)
-ran_for o bytes setting (Ran r) to is = (r, refl)
-ran_for o bytes setting (Refused refusal) to is = absurd (is.1 to.tree to.form)
-ran_for o bytes setting Usage to is = absurd is
-ran_for o bytes setting (Absent name) to is = absurd is
-ran_for o bytes setting (TooLarge name) to is = absurd is
-ran_for o bytes setting (ReadFault name) to is = absurd is
+ran_for : (o : Options) (ts us : List Tree) (setting : Setting) (a : Answer) → AreAlike ts us → IsToRun ts o setting → IsRightFor us o a → (r : RunRecord) × (a ≡ Ran r)
+ran_for o ts us setting (Ran r) alike to is = (r, refl)
+ran_for o ts us setting (Refused refusal) alike to is = absurd (other_like ts us alike is.1 o setting to)
+ran_for o ts us setting Usage alike to is = absurd is
+ran_for o ts us setting (Absent name) alike to is = absurd is
+ran_for o ts us setting (TooLarge name) alike to is = absurd is
+ran_for o ts us setting (ReadFault name) alike to is = absurd is
 
-ran_by : (o : Options) (bytes : List ℕ) (setting : Setting) (g : Got) (a : Answer) → g ≡ got.Bytes bytes → IsToRun bytes o setting → IsRightTo o g a → (r : RunRecord) × (a ≡ Ran r)
-ran_by o bytes setting g a same to is =
-    ran_for o bytes setting a to (subst (λ (x : Got). IsRightTo o x a) same is)
+ran_by : (o : Options) (sources : List Source) (ts : List Tree) (setting : Setting) (g : Gathered) (a : Answer) → IsAlike (gathered.Files sources ts) g → IsToRun ts o setting → IsRightTo o g a → (r : RunRecord) × (a ≡ Ran r)
+ran_by o sources ts setting (gathered.Files others us) a alike to is = ran_for o ts us setting a alike.1 to is
+ran_by o sources ts setting (gathered.Refused refusal) a alike to is = absurd (cc alike)
+ran_by o sources ts setting (gathered.Absent name) a alike to is = absurd (cc alike)
+ran_by o sources ts setting (gathered.TooLarge name) a alike to is = absurd (cc alike)
+ran_by o sources ts setting (gathered.ReadFault name) a alike to is = absurd (cc alike)
+ran_by o sources ts setting gathered.NoMemory a alike to is = absurd is
 
-no_memory_by : (o : Options) (a : Answer) → IsRightTo o got.NoMemory a → ⊥
-no_memory_by o a is = is
-
-ran_over : (told : Files) (o : Options) (bytes : List ℕ) (setting : Setting) (made : List Read) (a : Answer)
-    → given told o.protocol ≡ got.Bytes bytes → IsToRun bytes o setting → MayBeGiven told made
-    → ((r : Read) (rs : List Read) → made ≡ r ∷ rs → r.got ≡ got.Failed → ⊥) → IsRight (Some o) made a → (r : RunRecord) × (a ≡ Ran r)
-ran_over told o bytes setting [] a file to allow still is = absurd is
-ran_over told o bytes setting (x ∷ []) a file to allow still is =
-    let room : x.got ≢ got.NoMemory = λ e. no_memory_by o a (subst (λ (g : Got). IsRightTo o g a) e is.1) in
-    let gave = given_right told x.name x.got allow.0 (still x [] refl) room in
-    ran_by o bytes setting x.got a (gave ∙ ap (given told) is.0 ∙ file) to is.1
-ran_over told o bytes setting (x ∷ y ∷ xs) a file to allow still is = absurd is
+ran_over : (told : Files) (o : Options) (sources : List Source) (trees : List Tree) (setting : Setting) (made : List Read) (a : Answer)
+    → IsGatheredOver told o.protocol (gathered.Files sources trees) → IsToRun trees o setting → MayBeGiven told made
+    → (HasFailed made → ⊥) → IsRight (Some o) made a → (r : RunRecord) × (a ≡ Ran r)
+ran_over told o sources trees setting made a over to allow still is =
+    let room = was_memory o is.files a is.right in
+    elim (given_or_failed told is.by_reads room allow) [
+      | inl last ↦ absurd (still last.read_failed)
+      | inr are ↦ ran_by o sources trees setting is.files a
+          (one_over_files told o.protocol (gathered.Files sources trees) is.files over (made, are, is.by_reads) (λ e. cc e) room) to is.right
+    ]
 
 ran : (told : Files) (asked : Option Options) (setting : Setting) (made : List Read) (a : Answer)
-    → IsRunOver told asked setting → MayBeGiven told made
-    → ((r : Read) (rs : List Read) → made ≡ r ∷ rs → r.got ≡ got.Failed → ⊥) → IsRight asked made a → (r : RunRecord) × (a ≡ Ran r)
+    → IsRunOver told asked setting → MayBeGiven told made → (HasFailed made → ⊥) → IsRight asked made a → (r : RunRecord) × (a ≡ Ran r)
 ran told asked setting made a over allow still is =
-    ran_over told over.options over.bytes setting made a over.file over.to_run allow still (subst (λ (x : Option Options). IsRight x made a) over.asked_is is)
+    ran_over told over.options over.sources over.trees setting made a over.over_files over.to_run allow still (subst (λ (x : Option Options). IsRight x made a) over.asked_is is)
+
+-- the files were read as they are, where a run is right
+run_given : (told : Files) (asked : Option Options) (made : List Read) (r : RunRecord) → MayBeGiven told made → IsRunAsked asked made r → IsRunOver told asked r.setting
+run_given told asked made r allow of =
+    elim (given_or_failed told of.by_reads (λ e. cc e) allow) [
+      | inl last ↦ absurd (cc last.answer)
+      | inr are ↦ record { options = of.options; sources = of.sources; trees = of.trees; asked_is = of.asked_is; over_files = (made, are, of.by_reads); to_run = of.to_run }
+    ]
 
 -- the clauses of the call that ended without memory
 module _ (files : Option Files) (asked : Option Options) (read_rose write_rose : Type 0) (before after : Option (List ℕ)) where
@@ -272,7 +275,7 @@ module _ (files : Option Files) (asked : Option Options) (read_rose write_rose :
 -- the clauses of a call that has answered
 module _ (files : Option Files) (asked : Option Options) (read_rose write_rose : Type 0) (before after : Option (List ℕ)) (write_faults write_faults' : ℕ) (made : List Read) (a : Answer) (right : IsRight asked made a)
     (allow : (told : Files) → files ≡ Some told → MayBeGiven told made)
-    (failed : (r : Read) (rs : List Read) → made ≡ r ∷ rs → r.got ≡ got.Failed → read_rose) where
+    (failed : HasFailed made → read_rose) where
   is_run : (r : RunRecord) → a ≡ Ran r → IsRight asked made (Ran r)
   is_run r same = subst (λ (x : Answer). IsRight asked made x) same right
 
@@ -287,27 +290,17 @@ module _ (files : Option Files) (asked : Option Options) (read_rose write_rose :
         options = of.options;
         asked_is = of.asked_is;
         setting = subst P (sym of.to_run.setting_is) refl;
-        of_files = λ told tells.
-            let one = subst (λ (reads : List Read). MayBeGiven told reads) of.made_is (allow told tells) in
-            record {
-              options = of.options;
-              bytes = of.bytes;
-              asked_is = of.asked_is;
-              file = sym (given_right told of.options.protocol (got.Bytes of.bytes) one.0 (λ e. cc e) (λ e. cc e));
-              to_run = of.to_run;
-            };
+        of_files = λ told tells. run_given told asked made r (allow told tells) of;
       }
 
   run_accounted : (r : RunRecord) → a ≡ Ran r → IsMessageAccount r
   run_accounted r same =
       let of = run_asked asked made r (is_run r same) in
       let placed = ap (λ (s : Setting). s.topology) of.to_run.setting_is in
-      accounted_whole r (subst HasSeats (sym placed) (plain_seats (plan_of of.to_run.tree))) (whole_right asked made a right r same)
+      accounted_whole r (subst HasSeats (sym placed) (plain_seats (plan_of of.to_run.machine))) (whole_right asked made a right r same)
 
   run_faulted : (name : List ℕ) → a ≡ ReadFault name → read_rose
-  run_faulted name is =
-      let first = fault_first asked made name (subst (λ (x : Answer). IsRight asked made x) is right) in
-      failed first.0 first.1 first.2 first.3
+  run_faulted name is = failed (fault_read asked made name (subst (λ (x : Answer). IsRight asked made x) is right))
 
   status_five : status_of a ≡ 5 → read_rose
   status_five is =
@@ -354,7 +347,7 @@ module _ (files : Option Files) (asked : Option Options) (read_rose write_rose :
 
   kept_run : (told : Files) → files ≡ Some told → (setting : Setting) → IsRunOver told asked setting → (read_rose → ⊥) → (r : RunRecord) × (a ≡ Ran r)
   kept_run told tells setting over still =
-      ran told asked setting made a over (allow told tells) (λ r rs is fault. still (failed r rs is fault)) right
+      ran told asked setting made a over (allow told tells) (λ fault. still (failed fault)) right
 
   kept_some : (told : Files) → files ≡ Some told → (setting : Setting) → IsRunOver told asked setting → (read_rose → ⊥) → IsSome (kept_of a)
   kept_some told tells setting over still =
@@ -395,10 +388,6 @@ module _ (files : Option Files) (asked : Option Options) (read_rose write_rose :
 -- over a library and a sink whose reads and writes are lawful
 module _ {L S : Type 0} (files : L → Option Files) (faults : L → ℕ) (reads : L → List ℕ → ℕ → Got → L → Type 0) (lawful : (before : L) (name : List ℕ) (limit : ℕ) (g : Got) (after : L) → reads before name limit g after → IsLawfulRead (files before) (faults before) name limit g (files after) (faults after))
     (written : S → Option (List ℕ)) (write_faults : S → ℕ) (writes : S → List ℕ → Wrote → S → Type 0) (writes_lawfully : (before : S) (piece : List ℕ) (wrote : Wrote) (after : S) → writes before piece wrote after → IsLawfulWrite (written before) (write_faults before) piece wrote (written after) (write_faults after)) where
-  first_rose : (made : List Read) (library library' : L) → AreMade reads library made library' → (r : Read) (rs : List Read) → made ≡ r ∷ rs → r.got ≡ got.Failed → Rose (faults library) (faults library')
-  first_rose made library library' are r rs is fault =
-      first_failed files faults reads lawful r rs library library' (subst (λ (reads_made : List Read). AreMade reads library reads_made library') is are) fault
-
   pub theorem_holds : (asked : Option Options) (library library' : L) (sink sink' : S) (done : Done) → IsAnswered reads writes asked library library' sink sink' done
       → IsTheorem (files library) asked (Rose (faults library) (faults library')) (Rose (write_faults sink) (write_faults sink')) (written sink) (written sink') done
   theorem_holds asked library library' sink sink' done answered =
@@ -408,6 +397,6 @@ module _ {L S : Type 0} (files : L → Option Files) (faults : L → ℕ) (reads
         | inr told ↦ subst P (sym told.done_is)
             (told_theorem (files library) asked (Rose (faults library) (faults library')) (Rose (write_faults sink) (write_faults sink')) (written sink) (written sink') (write_faults sink) (write_faults sink') answered.made told.answer told.right
             (λ files_told tells. all_read files faults reads lawful files_told answered.made library library' answered.are_made tells)
-            (first_rose answered.made library library' answered.are_made)
+            (failed_rose files faults reads lawful answered.made library library' answered.are_made)
             told.whole (pieces_written written write_faults writes writes_lawfully sink (text_of told.answer) told.whole sink' told.text) (λ rose. rose))
       ]

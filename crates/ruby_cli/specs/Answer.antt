@@ -4,11 +4,11 @@ use Rattle.std.specs.Prelude.{ℕ, Bool, Option, None, Some, List, [], ◌∷◌
 use Rattle.std.specs.Fmt.{decimal}
 use Rattle.run_journal.specs.declared.verdict.Verdict.{Verdict}
 use Rattle.run_journal.specs.declared.verdict.Verdict.TheVariants.{Passed, Quiet}
+use Rattle.slicc_front.specs.declared.gathered.Refused.{Refused as Refusal}
 use Rattle.slicc_meaning.specs.declared.record.RunRecord.{RunRecord}
 use Rattle.run_text.specs.Text.{line, text}
 use Rattle.ruby_cli.specs.declared.answer.Answer.{Answer}
 use Rattle.ruby_cli.specs.declared.answer.Answer.TheVariants.{Ran, Usage, Refused, Absent, TooLarge, ReadFault}
-use Rattle.ruby_cli.specs.declared.answer.Refused.{Refused as Refusal}
 use Rattle.ruby_cli.specs.declared.done.Done.{Done}
 
 -- a place in a file: its name, its line and its column, each counted from 1

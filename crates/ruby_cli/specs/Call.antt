@@ -5,24 +5,21 @@
 use Rattle.std.specs.Prelude.{◌≡◌, ◌⊎◌, ℕ, Bool, Option, None, Some, List, [], ◌∷◌}
 use Rattle.ruby_outside.specs.declared.library.Got.{Got}
 use Rattle.ruby_outside.specs.declared.sink.Wrote.{Wrote}
+use Rattle.slicc_front.specs.Gathering.{IsGatheredFrom}
+use Rattle.slicc_front.specs.Reads.{Read, AreMade}
+use Rattle.slicc_front.specs.declared.gathered.Gathered.TheVariants.{NoMemory}
 use Rattle.run_text.specs.Pieces.{IsPutInPieces}
 use Rattle.ruby_cli.specs.declared.answer.Answer.{Answer}
 use Rattle.ruby_cli.specs.declared.done.Done.{Done}
 use Rattle.ruby_cli.specs.declared.options.Options.{Options}
 use Rattle.ruby_cli.specs.Answer.{text_of, done_of, out_of_memory}
-use Rattle.ruby_cli.specs.Right.{Read, IsRight, file_limit}
+use Rattle.ruby_cli.specs.Right.{IsRight}
 
--- these reads were made, one after the other, and lead from one library to the other
-abbrev pub AreMade : {L : Type 0} (reads : L → List ℕ → ℕ → Got → L → Type 0) → L → List Read → L → Type 0
-AreMade reads before [] after = after ≡ before
-AreMade {L} reads before (r ∷ rs) after = (middle : L) × reads before r.name file_limit r.got middle × AreMade reads middle rs after
-
--- what may have been read when memory runs out: nothing yet, or the protocol's file
+-- what may have been read when memory runs out: nothing yet, or a beginning of the protocol's files
 abbrev pub IsBeginning : Option Options → List Read → Type 0
 IsBeginning asked [] = Unit {0}
 IsBeginning None (r ∷ rs) = ⊥
-IsBeginning (Some o) (r ∷ []) = r.name ≡ o.protocol
-IsBeginning (Some o) (r ∷ s ∷ rs) = ⊥
+IsBeginning (Some o) (r ∷ rs) = IsGatheredFrom o.protocol (r ∷ rs) NoMemory
 
 -- memory ran out: nothing was written, and of what was to be read a beginning may have been
 pub record IsOutOfMemory {S : Type 0} (asked : Option Options) (made : List Read) (before after : S) (done : Done) : Type 0 where

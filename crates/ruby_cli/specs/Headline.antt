@@ -1,12 +1,14 @@
 -- The theorem about a call of the program. Each definition is one clause of the top calls, beside that a record is of a whole
--- run (`IsWholeRun`). All but the last follow from what the call does (`IsAnswered`). `asked` is what was asked for, if anything; `files` are those of the library, where it tells them; a call
--- ends with `done`, its status and the record that it kept. That a library's or a sink's count of faults rose in the call is
--- `read_rose` and `write_rose`; `before` and `after` are what the sink tells as the call begins and ends.
+-- run (`IsWholeRun`). All but the last follow from what the call does (`IsAnswered`). `asked` is what was asked for, if
+-- anything; `files` are those of the library, where it tells them; a call ends with `done`, its status and the record that it
+-- kept. That a library's or a sink's count of faults rose in the call is `read_rose` and `write_rose`; `before` and `after`
+-- are what the sink tells as the call begins and ends.
 use Rattle.std.specs.Prelude.{◌≡◌, ◌+◌, ◌≢◌, ◌⊎◌, ℕ, Bool, Option, None, Some, List, [], ◌∷◌, ◌++◌, IfSome, IsSome}
 use Rattle.std.specs.Bool.{OnTrue, OnFalse}
 use Rattle.std.specs.Option.{ForSome}
 use Rattle.ruby_outside.specs.Files.{Files}
 use Rattle.ruby_outside.specs.Sink.{grown, IsCutOff}
+use Rattle.slicc_front.specs.Reads.{Read, MayBeGiven}
 use Rattle.run_journal.specs.Tally.{tally}
 use Rattle.ruby_runs.specs.Account.{IsAccounted}
 use Rattle.ruby_runs.specs.Alone.{IsAlone}
@@ -25,7 +27,7 @@ use Rattle.ruby_cli.specs.declared.done.Done.{Done}
 use Rattle.ruby_cli.specs.declared.options.Options.{Options}
 use Rattle.ruby_cli.specs.Answer.{text_of, status_of, done_of, out_of_memory, verdict_status}
 use Rattle.ruby_cli.specs.Asked.{setting_of}
-use Rattle.ruby_cli.specs.Right.{Read, IsRight, IsAnswer, MayBeGiven, IsRunOver}
+use Rattle.ruby_cli.specs.Right.{IsRight, IsAnswer, IsRunOver}
 
 -- each controller that must wake at a cycle of the record's run wakes in it once, and no other does
 abbrev pub IsWokenOnce : RunRecord → Type 0

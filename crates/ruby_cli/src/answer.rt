@@ -5,23 +5,9 @@ ghost use Rattle.ruby_cli.specs.Answer.{place, refused_line as refused_line_of, 
 use ruby_base::{NoMemory, Text};
 use run_journal::Verdict;
 use run_text::line_of;
+use slicc_front::Refused;
 use slicc_meaning::RunRecord;
 use std::alloc::Global;
-
-/// Where a protocol is refused: the first place at which it breaks the language, and how.
-#[derive(Drop)]
-pub struct Refused {
-    /// The name of the file.
-    pub file: Text,
-    /// The line in it, counted from 1.
-    pub line: u32,
-    /// The column in that line, in bytes, counted from 1.
-    pub column: u32,
-    /// The code of the rule that is broken, as in docs/LANGUAGE.md.
-    pub code: Text,
-    /// The second place that the rule speaks of, where it speaks of two: file, line and column.
-    pub other: Option<(Text, u32, u32)>,
-}
 
 /// What a call of the program answers. Each answer has one text and one status; the statuses are this project's own.
 #[derive(Drop)]

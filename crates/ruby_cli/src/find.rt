@@ -1,25 +1,25 @@
 // The answer to options, found before anything is written.
-ghost use Rattle.std.specs.Prelude.{◌≡◌, ◌<◌, ◌^◌, IfOk, IsUtf8};
+ghost use Rattle.std.specs.Prelude.{◌≡◌, ◌<◌, ◌^◌, All, IfOk, IsUtf8};
+ghost use Rattle.slicc_front.specs.Gathering.{IsAllowed};
 ghost use Rattle.small_machine.specs.WellFormed.{IsWellFormed};
 ghost use Rattle.slicc_meaning.specs.Plan.{plan_of as plan_of_tree};
 ghost use Rattle.slicc_meaning.specs.Record.{IsWholeRun};
 ghost use Rattle.slicc_meaning.specs.Topology.{plain_of as plain_of_plan};
 ghost use Rattle.ruby_cli.specs.Asked.{setting_of as setting_of_plan};
-ghost use Rattle.ruby_cli.specs.Find.{IsReadOnce, IsAloneAnswer};
+ghost use Rattle.ruby_cli.specs.Find.{IsReadFor, IsSmallMachine, IsAloneAnswer};
 ghost use Rattle.ruby_cli.specs.Headline.{IsByOneWorker};
 ghost use Rattle.ruby_cli.specs.Right.{IsRightFor, IsRightTo, other_form as other_form_of};
 
 use crate::{Answer, Options, Refused};
 use plain_run::run_plain;
 use ruby_base::{NoMemory, Text};
-use ruby_outside::{Got, Library};
+use ruby_outside::Library;
+use slicc_ast::tree::Tree;
+use slicc_front::{Gathered, gather};
 use slicc_meaning::{PlainDriver, Plan, RunRecord, Setting, plain_of, plan_of};
-use small_form::read_machine;
+use small_form::machine_of;
 use small_machine::Machine;
 use std::alloc::Global;
-
-// The most bytes of a file.
-const FILE_LIMIT: u64 = 1_048_576;
 
 // What the run begins with: the plan over its plain topology, as the options ask.
 fn setting_of(alloc: Global, plan: Plan, options: &Options) -> Result<Setting, NoMemory>
@@ -51,7 +51,7 @@ fn run_of(alloc: Global, m: &Machine, options: &Options) -> Result<RunRecord, No
     run_plain(alloc, setting)
 }
 
-// The refusal of a file of another form, whose place is its first byte.
+// The refusal of a protocol of another form, whose place is the first byte of its file.
 fn other_form(alloc: Global, name: &[u8]) -> Result<Answer, NoMemory>
     ensures { IfOk result (λ a. a ≡ Answer.Refused (other_form_of name.now)) }
 {
@@ -66,14 +66,26 @@ fn other_form(alloc: Global, name: &[u8]) -> Result<Answer, NoMemory>
     }))
 }
 
-// The answer to the bytes of the protocol.
-fn answer_to(alloc: Global, options: &Options, bytes: &[u8]) -> Result<Answer, NoMemory>
+// The machine of the protocol, where it is of the small form.
+fn small_machine(alloc: Global, trees: &[Tree]) -> Result<Option<Machine>, NoMemory>
+    requires { All IsAllowed trees.now }
+    ensures { IfOk result (IsSmallMachine trees.now) }
+{
+    match trees {
+        [tree] => machine_of(alloc, tree),
+        _ => Ok(None),
+    }
+}
+
+// The answer to the trees of the protocol.
+fn answer_to(alloc: Global, options: &Options, trees: &[Tree]) -> Result<Answer, NoMemory>
+    requires allowed { All IsAllowed trees.now }
     requires cycles { options.now.cycles < 2 ^ 63 }
     requires limit { options.now.limit < 2 ^ 63 }
-    ensures right { IfOk result (IsRightFor bytes.now options.now) }
+    ensures right { IfOk result (IsRightFor trees.now options.now) }
     ensures alone { IfOk result IsAloneAnswer }
 {
-    let Some(m) = read_machine(alloc, bytes)? else {
+    let Some(m) = small_machine(alloc, trees)? else {
         return other_form(alloc, options.protocol.as_slice());
     };
     let record = run_of(alloc, &m, options);
@@ -81,7 +93,7 @@ fn answer_to(alloc: Global, options: &Options, bytes: &[u8]) -> Result<Answer, N
     Ok(Answer::Ran(record?))
 }
 
-/// The answer to options over a library, from which the protocol's file is read once.
+/// The answer to options over a library, from which the protocol's files are read.
 pub fn find_answer<L: Library>(
     alloc: Global,
     options: &Options,
@@ -90,15 +102,18 @@ pub fn find_answer<L: Library>(
     requires name { IsUtf8 options.now.protocol }
     requires cycles { options.now.cycles < 2 ^ 63 }
     requires limit { options.now.limit < 2 ^ 63 }
-    ensures found { IsReadOnce L.reads options.now library.old library.new (λ got. IfOk result (IsRightTo options.now got)) }
+    ensures found { IsReadFor L.reads options.now library.old library.new (λ g. IfOk result (IsRightTo options.now g)) }
     ensures alone { IfOk result IsAloneAnswer }
 {
-    let name = str::from_utf8(options.protocol.as_slice()).unwrap();
-    match library.read(name, FILE_LIMIT) {
-        Got::Bytes(bytes) => answer_to(alloc, options, bytes.as_slice()),
-        Got::Absent => Ok(Answer::Absent(Text::copied(alloc, name.as_bytes())?)),
-        Got::TooLarge => Ok(Answer::TooLarge(Text::copied(alloc, name.as_bytes())?)),
-        Got::Failed => Ok(Answer::ReadFault(Text::copied(alloc, name.as_bytes())?)),
-        Got::NoMemory => Err(NoMemory),
+    match gather(alloc, library, &options.protocol) {
+        Gathered::Files(sources, trees) => {
+            drop(sources);
+            answer_to(alloc, options, trees.as_slice())
+        }
+        Gathered::Refused(refused) => Ok(Answer::Refused(refused)),
+        Gathered::Absent(name) => Ok(Answer::Absent(name)),
+        Gathered::TooLarge(name) => Ok(Answer::TooLarge(name)),
+        Gathered::ReadFault(name) => Ok(Answer::ReadFault(name)),
+        Gathered::NoMemory => Err(NoMemory),
     }
 }

@@ -8,7 +8,8 @@ ghost use Rattle.ruby_cli.specs.declared.options.Options.{Options as OptionsReco
 ghost use Rattle.ruby_cli.specs.Call.{IsAnswered};
 ghost use Rattle.ruby_cli.specs.Find.{IsAloneAnswer};
 ghost use Rattle.ruby_cli.specs.Headline.{IsTheorem};
-ghost use Rattle.ruby_cli.specs.Right.{Read, IsRight, IsAnswer, IsSame};
+ghost use Rattle.ruby_cli.specs.Right.{IsRight, IsAnswer, IsSame};
+ghost use Rattle.slicc_front.specs.Reads.{Read};
 
 use ruby_outside::{Library, Sink};
 

@@ -1,5 +1,5 @@
-//! The program's work as a library: what its words ask for, and the calls that answer them. A call reads the protocol,
-//! makes the run and its text, and then writes them.
+//! The program's work as a library: what its words ask for, and the calls that answer them. A call reads the protocol's
+//! files, makes the run and its text, and then writes them.
 #![tactic(auto)]
 
 mod answer;
@@ -11,9 +11,10 @@ mod program;
 mod top;
 mod words;
 
-pub use answer::{Answer, Refused};
+pub use answer::Answer;
 pub use done::{Done, exit_code};
 pub use laws::{answers_are_one, clauses_follow};
 pub use options::{Command, Options};
 pub use program::ruby;
+pub use slicc_front::Refused;
 pub use top::ruby_alone;

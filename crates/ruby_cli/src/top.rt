@@ -4,7 +4,7 @@ ghost use Rattle.ruby_outside.specs.Faults.{Rose};
 ghost use Rattle.slicc_meaning.specs.Record.{IsWholeRun};
 ghost use Rattle.ruby_cli.specs.Answer.{text_of};
 ghost use Rattle.ruby_cli.specs.Call.{IsAnswered};
-ghost use Rattle.ruby_cli.specs.Find.{IsReadOnce, IsAloneAnswer};
+ghost use Rattle.ruby_cli.specs.Find.{IsReadFor, IsReadOnce, IsAloneAnswer};
 ghost use Rattle.ruby_cli.specs.Headline.{IsWokenOnce, IsMessageAccount, IsInvalidExactly, IsTallied, IsAsAsked, IsAsWritten, IsCaused, IsComplete, IsByOneWorker};
 ghost use Rattle.ruby_cli.specs.Right.{IsRightTo};
 
@@ -24,7 +24,7 @@ fn prepare<L: Library>(
     requires name { IsUtf8 options.now.protocol }
     requires cycles { options.now.cycles < 2 ^ 63 }
     requires limit { options.now.limit < 2 ^ 63 }
-    ensures found { IsReadOnce L.reads options.now library.old library.new (λ got. IfOk result (λ r. IsRightTo options.now got r.0)) }
+    ensures found { IsReadFor L.reads options.now library.old library.new (λ g. IfOk result (λ r. IsRightTo options.now g r.0)) }
     ensures alone { IfOk result (λ r. IsAloneAnswer r.0) }
     ensures text { IfOk result (λ r. r.1 ≡ text_of r.0) }
 {
@@ -44,7 +44,7 @@ fn answer_options<L: Library, S: Sink>(
     requires cycles { options.now.cycles < 2 ^ 63 }
     requires limit { options.now.limit < 2 ^ 63 }
     ensures answered { IsAnswered L.reads S.writes (Some options.now) library.old library.new sink.old sink.new result }
-    ensures reads_once { IsReadOnce L.reads options.now library.old library.new (λ _. Unit {0}) }
+    ensures reads_once { IsReadOnce L.reads library.old library.new }
     ensures by_one_worker { IfSome result.kept IsByOneWorker }
 {
     match prepare(alloc, options, library) {
@@ -71,9 +71,10 @@ pub fn ruby_alone<L: Library, S: Sink>(
     requires cycles { (1 ≤ options.cycles) × (options.cycles ≤ 10 ^ 12) }
     requires limit { (1 ≤ options.limit) × (options.limit ≤ 1000) }
 
-    // All that the call does: it reads the protocol's file once, and writes the text of the right answer, up to a fault.
+    // All that the call does: it reads the protocol's files, each once, and writes the text of the right answer, up to a
+    // fault.
     ensures answered { IsAnswered L.reads S.writes (Some options) library.old library.new sink.old sink.new result }
-    ensures reads_once { IsReadOnce L.reads options library.old library.new (λ _. Unit {0}) }
+    ensures reads_once { IsReadOnce L.reads library.old library.new }
 
     // What follows of the record that is kept, of what is written, and of the status.
     ensures record_is_a_run { IfSome result.kept IsWholeRun }

@@ -58,6 +58,12 @@ const ABSENT: &str = "absent gone.sm\n";
 
 const REFUSED: &str = "refused tick.sm:1:1 U1\n";
 
+const ENDED: &str = "refused tick.sm:1:13 P1\n";
+
+const EMPTY: &str = "refused tick.sm:1:1 P1\n";
+
+const OPEN: &str = "refused tick.sm:1:1 L3\n";
+
 const TOO_LARGE: &str = "too large tick.sm\n";
 
 const FAULT: &str = "library fault tick.sm\n";
@@ -81,8 +87,12 @@ enum File {
     MostStates,
     /// One state more.
     TooManyStates,
-    /// A text of another form.
+    /// A comment alone.
     Comment,
+    /// Nothing.
+    Empty,
+    /// A comment that isn't closed.
+    Open,
 }
 
 /// The ticker with `more` states beyond its two, and with this as its last transition.
@@ -116,6 +126,8 @@ fn bytes_of(alloc: Global, file: File) -> Result<Text, NoMemory> {
         File::MostStates => ticker(alloc, 254, BACK),
         File::TooManyStates => ticker(alloc, 255, BACK),
         File::Comment => Text::copied(alloc, b"// a comment"),
+        File::Empty => Ok(Text::new(alloc)),
+        File::Open => Text::copied(alloc, b"/* x"),
     }
 }
 
@@ -176,7 +188,9 @@ const ROWS: &[Row] = &[
     ("walk tick.sm 3", File::Ticker, 2, false, USAGE),
     ("run tick.sm 3a", File::Ticker, 2, false, USAGE),
     ("run tick.sm 3 4", File::Ticker, 2, false, USAGE),
-    ("run tick.sm 2", File::Comment, 3, false, REFUSED),
+    ("run tick.sm 2", File::Comment, 3, false, ENDED),
+    ("run tick.sm 2", File::Empty, 3, false, EMPTY),
+    ("run tick.sm 2", File::Open, 3, false, OPEN),
     ("run tick.sm 3", File::Longest, 0, true, THREE),
     ("run tick.sm 3", File::TooLong, 9, false, TOO_LARGE),
     ("run tick.sm 3", File::MostStates, 0, true, THREE),
@@ -299,7 +313,7 @@ const FAULTS: &[Fault] = &[
     (File::Ticker, 9999, 0, 9, 7, true, THREE, 0),
     (File::Ticker, 9999, 4096, 1, 5, false, FAULT, 1),
     (File::Ticker, 1, 4096, 1, 7, false, FAULT, 0),
-    (File::Comment, 1, 4096, 9, 7, false, REFUSED, 0),
+    (File::Comment, 1, 4096, 9, 7, false, ENDED, 0),
 ];
 
 /// The status, whether a record is kept, and whether these lines are written.

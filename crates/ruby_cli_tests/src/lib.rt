@@ -5,4 +5,6 @@
 #[cfg(test)]
 mod calls;
 #[cfg(test)]
+mod included;
+#[cfg(test)]
 mod lines;

@@ -1,13 +1,12 @@
 -- What a library that tells its files has given, read by read, and whether a read failed.
-use Rattle.std.proofs.Common.{◌≡◌, ◌≢◌, ◌≤◌, ℕ, if◌then◌else◌, Bool, Option, Some, List, [], ◌∷◌, length, refl, sym, ◌∙◌, ap, subst, arith}
+use Rattle.std.proofs.Common.{◌≡◌, ◌≢◌, ◌≤◌, ◌⊎◌, inl, inr, ℕ, if◌then◌else◌, Bool, Option, Some, Result, Ok, Err, List, [], ◌∷◌, length, refl, sym, ◌∙◌, ap, subst, arith}
 use Rattle.std.proofs.lemmas.Bool.{le-ltb, lt-ltb}
 use Rattle.ruby_outside.specs.Faults.{Rose}
 use Rattle.ruby_outside.specs.Files.{Files, Reads, IsLawfulRead}
 use Rattle.ruby_outside.specs.declared.library.Got.{Got}
 use Rattle.ruby_outside.specs.declared.library.Got.TheVariants as got
 use Rattle.ruby_outside.proofs.Counts.{rose_before}
-use Rattle.ruby_cli.specs.Call.{AreMade}
-use Rattle.ruby_cli.specs.Right.{Read, MayBeGiven, file_limit, given, given_for}
+use Rattle.slicc_front.specs.Reads.{Read, AreMade, MayBeGiven, file_limit, given, given_for}
 
 -- a read that neither failed nor wanted memory gave what the files give
 pub given_right : (files : Files) (name : List ℕ) (g : Got) → Reads files name file_limit g → g ≢ got.Failed → g ≢ got.NoMemory → g ≡ given files name
@@ -22,6 +21,11 @@ given_right files name got.TooLarge (bytes, there, long) well room =
     over ∙ ap given_for (sym there)
 given_right files name got.Failed is well room = absurd (well refl)
 given_right files name got.NoMemory is well room = absurd (room refl)
+
+-- one of the reads failed
+abbrev pub HasFailed : List Read → Type 0
+HasFailed [] = ⊥
+HasFailed (r ∷ rs) = (r.got ≡ got.Failed) ⊎ HasFailed rs
 
 module _ {L : Type 0} (files : L → Option Files) (faults : L → ℕ) (reads : L → List ℕ → ℕ → Got → L → Type 0) (lawful : (before : L) (name : List ℕ) (limit : ℕ) (g : Got) (after : L) → reads before name limit g after → IsLawfulRead (files before) (faults before) name limit g (files after) (faults after)) where
   -- each read answered as the files allow
@@ -38,8 +42,16 @@ module _ {L : Type 0} (files : L → Option Files) (faults : L → ℕ) (reads :
       let is = lawful before r.name file_limit r.got middle read in
       omega (arith, is.counts, never_fell rs middle after rest)
 
-  -- and rose where the first read failed
-  pub first_failed : (r : Read) (rs : List Read) (before after : L) → AreMade reads before (r ∷ rs) after → r.got ≡ got.Failed → Rose (faults before) (faults after)
-  first_failed r rs before after (middle, read, rest) failed =
+  rose_later : (before middle after : ℕ) → before ≤ middle → Rose middle after → Rose before after
+  rose_later before middle after le (inl more) = inl (omega (arith, le, more))
+  rose_later before middle after le (inr last) = inr last
+
+  -- and rose where a read failed
+  pub failed_rose : (made : List Read) (before after : L) → AreMade reads before made after → HasFailed made → Rose (faults before) (faults after)
+  failed_rose [] before after are failed = absurd failed
+  failed_rose (r ∷ rs) before after (middle, read, rest) (inl failed) =
       let is = lawful before r.name file_limit r.got middle read in
       rose_before (faults before) (faults middle) (faults after) (is.failed failed) (never_fell rs middle after rest) is.counts
+  failed_rose (r ∷ rs) before after (middle, read, rest) (inr later) =
+      let is = lawful before r.name file_limit r.got middle read in
+      rose_later (faults before) (faults middle) (faults after) is.counts (failed_rose rs middle after rest later)

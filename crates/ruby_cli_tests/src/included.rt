@@ -1,0 +1,125 @@
+// Calls over protocols of several files.
+use ruby_base::{NoMemory, Seq, Text};
+use ruby_cli::ruby;
+use ruby_outside::{MemLibrary, MemSink, OpenGate};
+use std::alloc::Global;
+use std::sync::Wait;
+use std::test::Fail;
+use std::thread::Threads;
+
+/// Files by their names.
+type Files<'a> = &'a [(&'a str, &'a str)];
+
+const GONE: Files = &[("m.sm", "include \"gone.sm\";")];
+
+const ITSELF: Files = &[("m.sm", "include \"m.sm\"; enumeration(E) { x; }")];
+
+const INTERFACES: Files = &[(
+    "m.sm",
+    "include \"RubySlicc_interfaces.slicc\"; enumeration(E) { x; }",
+)];
+
+const IN_FOLDERS: Files = &[
+    ("c/d/m.sm", "include \"a\";"),
+    ("c/d/a", "include \"e/b\";"),
+    ("c/d/e/b", "include \"gone.sm\";"),
+];
+
+const SEVERAL: Files = &[
+    ("m.sm", "include \"a\"; include \"b\"; include \"c\";"),
+    ("a", "include \"c\"; include \"m.sm\";"),
+    ("b", "enumeration(B) { x; }"),
+    ("c", "enumeration(C) { x; }"),
+];
+
+const BAD_BYTE: Files = &[
+    ("m.sm", "include \"a\"; ?"),
+    ("a", "enumeration(E) {\n  ? }"),
+];
+
+const BAD_BYTE_LATER: Files = &[("m.sm", "include \"a\";"), ("a", "enumeration(E) {\n  ? }")];
+
+const BAD_TOKEN: Files = &[("m.sm", "include \"a\";"), ("a", "\nenumeration(E) { x, }")];
+
+/// The files, the failing read, the protocol, the status, and what is written.
+type Row<'a> = (Files<'a>, u64, &'a str, u8, &'a str);
+
+const ROWS: &[Row] = &[
+    (GONE, 99, "m.sm", 6, "absent gone.sm\n"),
+    (GONE, 2, "m.sm", 5, "library fault gone.sm\n"),
+    (GONE, 1, "m.sm", 5, "library fault m.sm\n"),
+    (ITSELF, 2, "m.sm", 3, "refused m.sm:1:1 U1\n"),
+    (INTERFACES, 2, "m.sm", 3, "refused m.sm:1:1 U1\n"),
+    (IN_FOLDERS, 99, "c/d/m.sm", 6, "absent c/d/gone.sm\n"),
+    (SEVERAL, 2, "m.sm", 5, "library fault a\n"),
+    (SEVERAL, 3, "m.sm", 5, "library fault c\n"),
+    (SEVERAL, 4, "m.sm", 5, "library fault b\n"),
+    (SEVERAL, 5, "m.sm", 3, "refused m.sm:1:1 U1\n"),
+    (BAD_BYTE, 99, "m.sm", 3, "refused m.sm:1:14 L1\n"),
+    (BAD_BYTE_LATER, 99, "m.sm", 3, "refused a:2:3 L1\n"),
+    (BAD_TOKEN, 99, "m.sm", 3, "refused a:2:21 P1\n"),
+];
+
+fn library(alloc: Global, files: Files, fails: u64) -> Result<MemLibrary, NoMemory> {
+    let mut all = Seq::new(alloc);
+    for file in files {
+        let name = Text::copied(alloc, file.0.as_bytes())?;
+        let bytes = Text::copied(alloc, file.1.as_bytes())?;
+        all.push((name, bytes))?;
+    }
+    let mut calls = Seq::new(alloc);
+    calls.push(fails)?;
+    Ok(MemLibrary::new(alloc, all, calls))
+}
+
+/// The status of a run of this protocol, and whether this text is written.
+fn answered<R: Threads + Wait + Sync>(
+    rt: &R,
+    alloc: Global,
+    library: &mut MemLibrary,
+    protocol: &str,
+    text: &str,
+) -> Result<(u8, bool), NoMemory> {
+    let mut words = Vec::new(alloc);
+    words.push(String::from_str(alloc, "run")?)?;
+    words.push(String::from_str(alloc, protocol)?)?;
+    words.push(String::from_str(alloc, "3")?)?;
+    let mut sink = MemSink::new(alloc, Seq::new(alloc), 4096, 4096)?;
+    let done = ruby(rt, alloc, words.as_slice(), library, &mut sink, &OpenGate);
+    Ok((done.status, sink.bytes() == text.as_bytes()))
+}
+
+#[test]
+fn reads_each_file_once_and_depth_first(rt: HostRuntime) -> Result<(), Fail> {
+    for row in ROWS {
+        let mut library = library(rt.alloc(), row.0, row.1)?;
+        let answer = answered(&rt, rt.alloc(), &mut library, row.2, row.4)?;
+        assert_eq!(rt; answer, (row.3, true), "{}", row.4);
+    }
+    Ok(())
+}
+
+/// So many files, each of which includes the next one.
+fn chain(alloc: Global, count: u64) -> Result<MemLibrary, NoMemory> {
+    let mut all = Seq::new(alloc);
+    for i in 0..count {
+        let name = format!(in alloc; "f{i}")?;
+        let next = if i < count - 1 { i + 1 } else { 0 };
+        let line = format!(in alloc; "\n include \"f{next}\";")?;
+        let name = Text::copied(alloc, name.as_bytes())?;
+        let bytes = Text::copied(alloc, line.as_bytes())?;
+        all.push((name, bytes))?;
+    }
+    Ok(MemLibrary::new(alloc, all, Seq::new(alloc)))
+}
+
+#[test]
+fn takes_64_files_and_not_one_more(rt: HostRuntime) -> Result<(), Fail> {
+    let mut library = chain(rt.alloc(), 64)?;
+    let answer = answered(&rt, rt.alloc(), &mut library, "f0", "refused f0:1:1 U1\n")?;
+    assert_eq!(rt; answer, (3, true));
+    let mut library = chain(rt.alloc(), 65)?;
+    let answer = answered(&rt, rt.alloc(), &mut library, "f0", "refused f63:2:2 R3\n")?;
+    assert_eq!(rt; answer, (3, true));
+    Ok(())
+}

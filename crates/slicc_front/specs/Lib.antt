@@ -1,0 +1,6 @@
+pub mod Gathering
+pub mod Names
+pub mod Reads
+pub mod Same
+pub mod Steps
+pub mod Texts
