@@ -1,5 +1,5 @@
 -- The kinds of bytes that SLICC's tokens are made of, in this project's profile, which is ASCII.
-use Rattle.std.specs.Prelude.{ℕ, Bool, ◌==◌, ◌&&◌, ◌||◌, not, nat_le}
+use Rattle.std.specs.Prelude.{ℕ, Bool, ◌==◌, ◌&&◌, ◌||◌, nat_le}
 
 abbrev pub is_between : ℕ → ℕ → ℕ → Bool
 is_between low high c = nat_le low c && nat_le c high
@@ -19,7 +19,3 @@ is_word_byte c = is_letter c || is_between 48 57 c
 -- what may stand in a string, its own quote aside
 abbrev pub is_printable : ℕ → Bool
 is_printable c = is_between 32 126 c
-
--- what may stand in a string between these quotes
-abbrev pub is_text_byte : ℕ → ℕ → Bool
-is_text_byte quote c = is_printable c && not (c == quote)
