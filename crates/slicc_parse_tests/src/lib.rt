@@ -1,4 +1,4 @@
-//! Texts and their trees or faults.
+//! Texts, with where the nodes of their trees are, or with the token at which they are refused.
 #![tactic(auto)]
 
 #[cfg(test)]

@@ -1,205 +1,1165 @@
-ghost use Rattle.std.specs.Prelude.{◌≤◌, length};
-
-use slicc_ast::tree::{Decl, Function, Item, Machine, Tree};
+use slicc_ast::spans;
+use slicc_ast::tree::Span;
 use slicc_lex::lex;
 use slicc_parse::SyntaxFault::{Deep, Syntax};
 use slicc_parse::{SyntaxFault, parse};
-use std::alloc::Global;
+use std::alloc::{AllocError, Global};
 use std::test::Fail;
 
-/// A whole protocol of one machine, whose states take turns.
-const TICK: &[u8] = b"machine(MachineType:Node, \"ticker\")
-  : MessageBuffer * mandatoryQueue;
-{
-  state_declaration(State, desc=\"states\", default=\"Node_State_A\") {
-    A, AccessPermission:Invalid, desc=\"a\";
-    B, AccessPermission:Read_Write, desc=\"b\";
-  }
-  enumeration(Event, desc=\"events\") { Go, desc=\"go\"; }
-  in_port(mandatory_in, RubyRequest, mandatoryQueue) {
-    if (mandatory_in.isReady(clockEdge())) {
-      peek(mandatory_in, RubyRequest) {
-        trigger(Event:Go, in_msg.LineAddress);
-      }
-    }
-  }
-  action(p_pop, \"p\", desc=\"pop\") { mandatory_in.dequeue(clockEdge()); }
-  transition(A, Go, B) { p_pop; }
-  transition(B, Go, A) { p_pop; }
-}
-";
-
-/// Texts, a letter for each item, how many parameters a machine has, a letter for each of its declarations, and where the
-/// file ends.
-const READ: &[(&[u8], &[u8], usize, &[u8], u32)] = &[
-    (TICK, b"m", 1, b"seiatt", 637),
+/// Texts with where each node of their trees starts and ends, in the order of the text. A node without a token goes from 0
+/// to 0.
+const READ: &[(&[u8], &[(u32, u32)])] = &[
+    // files and their parts
+    (b"protocol \"P\"; include \"a.sm\";", &[(0, 29), (14, 29)]),
     (
-        b"protocol \"MI\"; include \"a.sm\"; enumeration(E) { A; } structure(S) { A a; }",
-        b"ies",
-        0,
-        b"",
-        74,
+        b"enumeration(E, desc=\"e\") { A, \"a\"; B, n=7; }",
+        &[
+            (0, 44),
+            (0, 44),
+            (12, 13),
+            (13, 23),
+            (15, 23),
+            (15, 19),
+            (27, 28),
+            (28, 33),
+            (30, 33),
+            (35, 36),
+            (36, 41),
+            (38, 41),
+            (38, 39),
+        ],
     ),
-    (b"machine(L1, \"l\") : { }", b"m", 0, b"", 22),
     (
-        b"machine(L1, \"l\", desc=\"d\") : A a := 2; B * b; { } include \"a.sm\";",
-        b"mi",
-        2,
-        b"",
-        65,
+        b"structure(S, external=\"yes\") { int b; bool c, default=a; }",
+        &[
+            (0, 58),
+            (0, 58),
+            (10, 11),
+            (11, 27),
+            (13, 27),
+            (13, 21),
+            (31, 37),
+            (31, 34),
+            (35, 36),
+            (0, 0),
+            (38, 56),
+            (38, 42),
+            (43, 44),
+            (44, 55),
+            (46, 55),
+            (46, 53),
+            (54, 55),
+        ],
     ),
-    // what begins with a type
     (
-        b"machine(L, \"l\") : { A a; A * b, desc=\"b\"; out_port(o, M, b); structure(S) { } void f(A a, B) { return; } int g(); }",
-        b"m",
-        0,
-        b"oopufF",
-        115,
+        b"structure(S) { void f(Addr a, T *, int * n); bool g(); }",
+        &[
+            (0, 56),
+            (0, 56),
+            (10, 11),
+            (0, 0),
+            (15, 44),
+            (15, 19),
+            (20, 21),
+            (22, 42),
+            (22, 28),
+            (22, 26),
+            (27, 28),
+            (30, 33),
+            (30, 31),
+            (35, 42),
+            (35, 38),
+            (41, 42),
+            (0, 0),
+            (45, 54),
+            (45, 49),
+            (50, 51),
+            (0, 0),
+            (0, 0),
+        ],
     ),
-    // functions that are skipped, and other things of their names
+    // a field may be named so, and a function named so is skipped
     (
-        b"machine(L, \"l\") : { A functionalRead(B b) { x [ ( ) ] } A functionalWrite, desc=\"d\"; A * functionalRead; }",
-        b"m",
-        0,
-        b"Soo",
-        106,
+        b"structure(S) { int functionalRead; void functionalRead(P *p) { if (x) { y[1]; } } }",
+        &[
+            (0, 83),
+            (0, 83),
+            (10, 11),
+            (0, 0),
+            (15, 34),
+            (15, 18),
+            (19, 33),
+            (0, 0),
+            (35, 81),
+            (35, 39),
+            (40, 54),
+            (55, 59),
+            (0, 0),
+            (63, 79),
+            (67, 68),
+            (72, 77),
+            (74, 75),
+        ],
     ),
-    // the machine's brace and 63 parentheses in it
     (
-        b"machine(L, \"l\") : { A functionalRead((((((((((((((((((((((((((((((((((((((((((((((((((((((((((((((())))))))))))))))))))))))))))))))))))))))))))))))))))))))))))))) { } }",
-        b"m",
-        0,
-        b"S",
-        168,
+        b"machine(MachineType:M, \"m\", desc=\"d\") : int a := 1; int b := -2; bool c := true; bool d := false; A * e := \"x\"; B * f, network=\"To\"; { }",
+        &[
+            (0, 136),
+            (0, 136),
+            (20, 21),
+            (26, 36),
+            (28, 36),
+            (28, 32),
+            (40, 51),
+            (40, 43),
+            (44, 45),
+            (49, 50),
+            (0, 0),
+            (52, 64),
+            (52, 55),
+            (56, 57),
+            (61, 63),
+            (0, 0),
+            (65, 80),
+            (65, 69),
+            (70, 71),
+            (75, 79),
+            (0, 0),
+            (81, 97),
+            (81, 85),
+            (86, 87),
+            (91, 96),
+            (0, 0),
+            (98, 111),
+            (98, 99),
+            (102, 103),
+            (107, 110),
+            (0, 0),
+            (112, 132),
+            (112, 113),
+            (116, 117),
+            (117, 131),
+            (119, 131),
+            (119, 126),
+        ],
     ),
-];
-
-/// Texts, and the fault of each.
-const REFUSED: &[(&[u8], SyntaxFault)] = &[
-    // an empty file, and one with a protocol's name alone
-    (b"", Syntax(0)),
-    (b"// nothing", Syntax(0)),
-    (b"protocol \"MI\";", Syntax(3)),
-    // what isn't an item
-    (b"action(a) { }", Syntax(0)),
-    (b"include \"a.sm\"; protocol \"MI\";", Syntax(3)),
-    (b"enumeration(E) { A; } }", Syntax(8)),
-    (b"include \"a.sm\"", Syntax(2)),
-    // heads of machines
-    (b"machine(Type:L1, \"l\") : { }", Syntax(3)),
-    (b"machine(L1, \"l\") { }", Syntax(6)),
-    (b"machine(L1, \"l\") : { ", Syntax(8)),
-    (b"machine(L1, \"l\") : A a { }", Syntax(9)),
     // declarations
-    (b"machine(L1, \"l\") : { A a }", Syntax(10)),
-    (b"machine(L1, \"l\") : { A f() }", Syntax(12)),
-    (b"machine(L1, \"l\") : { A * f() { } }", Syntax(11)),
-    (b"machine(L1, \"l\") : { A functionalRead(); }", Syntax(12)),
-    (b"machine(L1, \"l\") : { in_port(p, M, b); }", Syntax(16)),
-    (b"machine(L1, \"l\") : { action(a) }", Syntax(12)),
-    (b"machine(L1, \"l\") : { include \"a.sm\"; }", Syntax(8)),
-    // the machine's brace and 64 parentheses in it
     (
-        b"machine(L, \"l\") : { A functionalRead(((((((((((((((((((((((((((((((((((((((((((((((((((((((((((((((()))))))))))))))))))))))))))))))))))))))))))))))))))))))))))))))) { } }",
-        Deep(73),
+        b"machine(M, \"m\") : { state_declaration(State, default=\"M_State_I\") { I, AccessPermission:Invalid, \"i\"; } }",
+        &[
+            (0, 105),
+            (0, 105),
+            (8, 9),
+            (0, 0),
+            (20, 103),
+            (38, 43),
+            (43, 64),
+            (45, 64),
+            (45, 52),
+            (68, 69),
+            (71, 87),
+            (88, 95),
+            (95, 100),
+            (97, 100),
+        ],
     ),
+    (
+        b"machine(M, \"m\") : { enumeration(E) { L; } structure(S) { int b; } }",
+        &[
+            (0, 67),
+            (0, 67),
+            (8, 9),
+            (0, 0),
+            (20, 41),
+            (32, 33),
+            (0, 0),
+            (37, 38),
+            (0, 0),
+            (42, 65),
+            (52, 53),
+            (0, 0),
+            (57, 63),
+            (57, 60),
+            (61, 62),
+            (0, 0),
+        ],
+    ),
+    (
+        b"machine(M, \"m\") : { out_port(o, T, b, desc=\"d\"); }",
+        &[
+            (0, 50),
+            (0, 50),
+            (8, 9),
+            (0, 0),
+            (20, 48),
+            (29, 30),
+            (32, 33),
+            (35, 36),
+            (36, 46),
+            (38, 46),
+            (38, 42),
+        ],
+    ),
+    (
+        b"machine(M, \"m\") : { in_port(i, T, b, rank=0) { f(); } }",
+        &[
+            (0, 55),
+            (0, 55),
+            (8, 9),
+            (0, 0),
+            (20, 53),
+            (28, 29),
+            (31, 32),
+            (34, 35),
+            (35, 43),
+            (37, 43),
+            (37, 41),
+            (45, 53),
+            (47, 51),
+            (47, 50),
+            (47, 48),
+            (0, 0),
+        ],
+    ),
+    (
+        b"machine(M, \"m\") : { action(a, \"x\") { } }",
+        &[
+            (0, 40),
+            (0, 40),
+            (8, 9),
+            (0, 0),
+            (20, 38),
+            (27, 28),
+            (28, 33),
+            (30, 33),
+            (35, 38),
+        ],
+    ),
+    (
+        b"machine(M, \"m\") : { transition(I, L) { } }",
+        &[
+            (0, 42),
+            (0, 42),
+            (8, 9),
+            (0, 0),
+            (20, 40),
+            (31, 32),
+            (34, 35),
+            (0, 0),
+        ],
+    ),
+    (
+        b"machine(M, \"m\") : { transition({I, S}, {L}, T, desc=\"d\") { a; b; } }",
+        &[
+            (0, 68),
+            (0, 68),
+            (8, 9),
+            (0, 0),
+            (20, 66),
+            (31, 37),
+            (32, 33),
+            (35, 36),
+            (39, 42),
+            (40, 41),
+            (44, 45),
+            (45, 55),
+            (47, 55),
+            (47, 51),
+            (59, 60),
+            (62, 63),
+        ],
+    ),
+    (
+        b"machine(M, \"m\") : { transition(I, L, n=1) { } }",
+        &[
+            (0, 47),
+            (0, 47),
+            (8, 9),
+            (0, 0),
+            (20, 45),
+            (31, 32),
+            (34, 35),
+            (35, 40),
+            (37, 40),
+            (37, 38),
+        ],
+    ),
+    (
+        b"machine(M, \"m\") : { void f(Addr); int g(int a, T * b), \"p\" { return a; } }",
+        &[
+            (0, 74),
+            (0, 74),
+            (8, 9),
+            (0, 0),
+            (20, 33),
+            (20, 24),
+            (25, 26),
+            (27, 31),
+            (27, 31),
+            (27, 31),
+            (0, 0),
+            (34, 72),
+            (34, 37),
+            (38, 39),
+            (40, 52),
+            (40, 45),
+            (40, 43),
+            (44, 45),
+            (47, 52),
+            (47, 48),
+            (51, 52),
+            (53, 58),
+            (55, 58),
+            (59, 72),
+            (61, 70),
+            (68, 69),
+        ],
+    ),
+    (
+        b"machine(M, \"m\") : { void functionalWrite(A a, P * p), w=1 { { ( ) } [ ; ] } }",
+        &[
+            (0, 77),
+            (0, 77),
+            (8, 9),
+            (0, 0),
+            (20, 75),
+            (20, 24),
+            (25, 40),
+            (41, 51),
+            (52, 57),
+            (54, 57),
+            (54, 55),
+            (60, 73),
+            (62, 65),
+            (0, 0),
+            (70, 71),
+        ],
+    ),
+    (
+        b"machine(M, \"m\") : { T t, entries=\"4\"; Sequencer * seq; bool functionalRead; }",
+        &[
+            (0, 77),
+            (0, 77),
+            (8, 9),
+            (0, 0),
+            (20, 37),
+            (20, 21),
+            (22, 23),
+            (23, 36),
+            (25, 36),
+            (25, 32),
+            (38, 54),
+            (38, 47),
+            (50, 53),
+            (0, 0),
+            (55, 75),
+            (55, 59),
+            (60, 74),
+            (0, 0),
+        ],
+    ),
+    // statements
+    (
+        b"machine(M, \"m\") : { action(a) { int x := 1; } }",
+        &[
+            (0, 47),
+            (0, 47),
+            (8, 9),
+            (0, 0),
+            (20, 45),
+            (27, 28),
+            (0, 0),
+            (30, 45),
+            (32, 43),
+            (32, 35),
+            (36, 37),
+            (41, 42),
+        ],
+    ),
+    (
+        b"machine(M, \"m\") : { action(a) { a.b := c; } }",
+        &[
+            (0, 45),
+            (0, 45),
+            (8, 9),
+            (0, 0),
+            (20, 43),
+            (27, 28),
+            (0, 0),
+            (30, 43),
+            (32, 41),
+            (32, 35),
+            (32, 33),
+            (33, 35),
+            (34, 35),
+            (39, 40),
+        ],
+    ),
+    (
+        b"machine(M, \"m\") : { action(a) { f(); a; 1; } }",
+        &[
+            (0, 46),
+            (0, 46),
+            (8, 9),
+            (0, 0),
+            (20, 44),
+            (27, 28),
+            (0, 0),
+            (30, 44),
+            (32, 36),
+            (32, 35),
+            (32, 33),
+            (0, 0),
+            (37, 39),
+            (37, 38),
+            (40, 42),
+            (40, 41),
+        ],
+    ),
+    (
+        b"machine(M, \"m\") : { action(a) { return; return x; } }",
+        &[
+            (0, 53),
+            (0, 53),
+            (8, 9),
+            (0, 0),
+            (20, 51),
+            (27, 28),
+            (0, 0),
+            (30, 51),
+            (32, 39),
+            (40, 49),
+            (47, 48),
+        ],
+    ),
+    (
+        b"machine(M, \"m\") : { action(a) { if (a) { b(); } else if (c) { } else if (d) { } else { e(); } } }",
+        &[
+            (0, 97),
+            (0, 97),
+            (8, 9),
+            (0, 0),
+            (20, 95),
+            (27, 28),
+            (0, 0),
+            (30, 95),
+            (32, 93),
+            (36, 37),
+            (39, 47),
+            (41, 45),
+            (41, 44),
+            (41, 42),
+            (0, 0),
+            (57, 58),
+            (60, 63),
+            (73, 74),
+            (76, 79),
+            (85, 93),
+            (87, 91),
+            (87, 90),
+            (87, 88),
+            (0, 0),
+        ],
+    ),
+    (
+        b"machine(M, \"m\") : { action(a) { if (a) { } else { if (b) { } } } }",
+        &[
+            (0, 66),
+            (0, 66),
+            (8, 9),
+            (0, 0),
+            (20, 64),
+            (27, 28),
+            (0, 0),
+            (30, 64),
+            (32, 62),
+            (36, 37),
+            (39, 42),
+            (48, 62),
+            (50, 60),
+            (54, 55),
+            (57, 60),
+        ],
+    ),
+    (
+        b"machine(M, \"m\") : { action(a) { peek(p, T, \"x\") { f(); } } }",
+        &[
+            (0, 60),
+            (0, 60),
+            (8, 9),
+            (0, 0),
+            (20, 58),
+            (27, 28),
+            (0, 0),
+            (30, 58),
+            (32, 56),
+            (37, 38),
+            (40, 41),
+            (41, 46),
+            (43, 46),
+            (48, 56),
+            (50, 54),
+            (50, 53),
+            (50, 51),
+            (0, 0),
+        ],
+    ),
+    (
+        b"machine(M, \"m\") : { action(a) { enqueue(p, T) { } enqueue(p, T, l) { o := 1; } } }",
+        &[
+            (0, 82),
+            (0, 82),
+            (8, 9),
+            (0, 0),
+            (20, 80),
+            (27, 28),
+            (0, 0),
+            (30, 80),
+            (32, 49),
+            (40, 41),
+            (43, 44),
+            (46, 49),
+            (50, 78),
+            (58, 59),
+            (61, 62),
+            (64, 65),
+            (67, 78),
+            (69, 76),
+            (69, 70),
+            (74, 75),
+        ],
+    ),
+    (
+        b"machine(M, \"m\") : { action(a) { stall_and_wait(p, a); check_allocate(t); } }",
+        &[
+            (0, 76),
+            (0, 76),
+            (8, 9),
+            (0, 0),
+            (20, 74),
+            (27, 28),
+            (0, 0),
+            (30, 74),
+            (32, 53),
+            (47, 48),
+            (50, 51),
+            (54, 72),
+            (69, 70),
+        ],
+    ),
+    (
+        b"machine(M, \"m\") : { action(a) { error(\"e\"); assert(a); } }",
+        &[
+            (0, 58),
+            (0, 58),
+            (8, 9),
+            (0, 0),
+            (20, 56),
+            (27, 28),
+            (0, 0),
+            (30, 56),
+            (32, 43),
+            (44, 54),
+            (51, 52),
+        ],
+    ),
+    (
+        b"machine(M, \"m\") : { action(a) { DPRINTF(X, \"%x\", f(a[1])); APPEND_TRANSITION_COMMENT(a); } }",
+        &[
+            (0, 92),
+            (0, 92),
+            (8, 9),
+            (0, 0),
+            (20, 90),
+            (27, 28),
+            (0, 0),
+            (30, 90),
+            (32, 58),
+            (40, 56),
+            (51, 55),
+            (53, 54),
+            (59, 88),
+            (85, 86),
+        ],
+    ),
+    // expressions
+    (
+        b"machine(M, \"m\") : { action(a) { a || b && c == d < e + f * !g; } }",
+        &[
+            (0, 66),
+            (0, 66),
+            (8, 9),
+            (0, 0),
+            (20, 64),
+            (27, 28),
+            (0, 0),
+            (30, 64),
+            (32, 62),
+            (32, 61),
+            (32, 33),
+            (37, 61),
+            (37, 38),
+            (42, 61),
+            (42, 43),
+            (47, 61),
+            (47, 48),
+            (51, 61),
+            (51, 52),
+            (55, 61),
+            (55, 56),
+            (59, 61),
+            (60, 61),
+        ],
+    ),
+    (
+        b"machine(M, \"m\") : { action(a) { a - b - c + d; } }",
+        &[
+            (0, 50),
+            (0, 50),
+            (8, 9),
+            (0, 0),
+            (20, 48),
+            (27, 28),
+            (0, 0),
+            (30, 48),
+            (32, 46),
+            (32, 45),
+            (32, 33),
+            (36, 37),
+            (40, 41),
+            (44, 45),
+        ],
+    ),
+    (
+        b"machine(M, \"m\") : { action(a) { a * b + c < d == e && f || g; } }",
+        &[
+            (0, 65),
+            (0, 65),
+            (8, 9),
+            (0, 0),
+            (20, 63),
+            (27, 28),
+            (0, 0),
+            (30, 63),
+            (32, 61),
+            (32, 60),
+            (32, 55),
+            (32, 50),
+            (32, 45),
+            (32, 41),
+            (32, 37),
+            (32, 33),
+            (36, 37),
+            (40, 41),
+            (44, 45),
+            (49, 50),
+            (54, 55),
+            (59, 60),
+        ],
+    ),
+    (
+        b"machine(M, \"m\") : { action(a) { f(a, b).c[d].e(); } }",
+        &[
+            (0, 53),
+            (0, 53),
+            (8, 9),
+            (0, 0),
+            (20, 51),
+            (27, 28),
+            (0, 0),
+            (30, 51),
+            (32, 49),
+            (32, 48),
+            (32, 39),
+            (32, 33),
+            (34, 38),
+            (34, 35),
+            (37, 38),
+            (39, 41),
+            (40, 41),
+            (41, 44),
+            (42, 43),
+            (44, 48),
+            (45, 46),
+            (0, 0),
+        ],
+    ),
+    (
+        b"machine(M, \"m\") : { action(a) { E:m; new T; OOD; true; false; (a); } }",
+        &[
+            (0, 70),
+            (0, 70),
+            (8, 9),
+            (0, 0),
+            (20, 68),
+            (27, 28),
+            (0, 0),
+            (30, 68),
+            (32, 36),
+            (32, 35),
+            (32, 33),
+            (34, 35),
+            (37, 43),
+            (37, 42),
+            (41, 42),
+            (44, 48),
+            (44, 47),
+            (49, 54),
+            (49, 53),
+            (55, 61),
+            (55, 60),
+            (62, 66),
+            (62, 65),
+            (63, 64),
+        ],
+    ),
+    (
+        b"machine(M, \"m\") : { action(a) { is_valid(a); is_invalid(b); static_cast(T, a); static_cast(T, \"p\", b); } }",
+        &[
+            (0, 106),
+            (0, 106),
+            (8, 9),
+            (0, 0),
+            (20, 104),
+            (27, 28),
+            (0, 0),
+            (30, 104),
+            (32, 44),
+            (32, 43),
+            (41, 42),
+            (45, 59),
+            (45, 58),
+            (56, 57),
+            (60, 78),
+            (60, 77),
+            (72, 73),
+            (75, 76),
+            (79, 102),
+            (79, 101),
+            (91, 92),
+            (99, 100),
+        ],
+    ),
+    (
+        b"machine(M, \"m\") : { action(a) { -a * -b - -c; } }",
+        &[
+            (0, 49),
+            (0, 49),
+            (8, 9),
+            (0, 0),
+            (20, 47),
+            (27, 28),
+            (0, 0),
+            (30, 47),
+            (32, 45),
+            (32, 44),
+            (32, 39),
+            (32, 34),
+            (33, 34),
+            (37, 39),
+            (38, 39),
+            (42, 44),
+            (43, 44),
+        ],
+    ),
+    (
+        b"machine(M, \"m\") : { action(a) { !!a.b; } }",
+        &[
+            (0, 42),
+            (0, 42),
+            (8, 9),
+            (0, 0),
+            (20, 40),
+            (27, 28),
+            (0, 0),
+            (30, 40),
+            (32, 38),
+            (32, 37),
+            (33, 37),
+            (34, 37),
+            (34, 35),
+            (35, 37),
+            (36, 37),
+        ],
+    ),
+    // blanks and comments
+    (b"/* a */ include // b\n \"c\" ; \n", &[(0, 29), (8, 27)]),
 ];
 
-fn function_letter(function: &Function) -> u8 {
-    match function {
-        Function::Plain { body, .. } => { if body.is_some() { b'f' } else { b'F' } }
-        Function::Skipped(_) => b'S',
+/// Texts with the first token, from 0, with which they can't go on.
+const REFUSED: &[(&[u8], SyntaxFault)] = &[
+    // a file has an item, and nothing but items
+    (b"", Syntax(0)),
+    (b"protocol \"P\";", Syntax(3)),
+    (b"include \"a\"; protocol \"P\";", Syntax(3)),
+    (b"include a;", Syntax(1)),
+    (b"include \"a\"", Syntax(2)),
+    (b"action(a) { }", Syntax(0)),
+    // only `MachineType` may be before the colon
+    (b"machine(Type:M, \"m\") : { }", Syntax(3)),
+    (b"machine(M, m) : { }", Syntax(4)),
+    (b"machine(M, \"m\") : int a := b; { }", Syntax(10)),
+    // a sign is missing, or there is one too many
+    (b"enumeration(E) { A; B }", Syntax(8)),
+    (b"structure(S) { int b }", Syntax(7)),
+    (b"structure(S, ) { }", Syntax(4)),
+    (
+        b"machine(M, \"m\") : { transition(A, B, C, D) { } }",
+        Syntax(17),
+    ),
+    (b"machine(M, \"m\") : { transition({}, B) { } }", Syntax(11)),
+    (b"machine(M, \"m\") : { in_port(a, B, c); }", Syntax(16)),
+    (b"machine(M, \"m\") : { out_port(a, B, c) { } }", Syntax(16)),
+    (b"machine(M, \"m\") : { A * b(); }", Syntax(11)),
+    // a function named so has only the form that is skipped
+    (b"structure(S) { void functionalRead(P * p); }", Syntax(12)),
+    (
+        b"machine(M, \"m\") : { void functionalWrite(P * p); }",
+        Syntax(15),
+    ),
+    (
+        b"machine(M, \"m\") : { void functionalRead(( ] ) { } }",
+        Syntax(12),
+    ),
+    // statements
+    (b"machine(M, \"m\") : { action(a) { b := c } }", Syntax(16)),
+    (b"machine(M, \"m\") : { action(a) { int b; } }", Syntax(15)),
+    (
+        b"machine(M, \"m\") : { action(a) { int b := 1, c := 2; } }",
+        Syntax(17),
+    ),
+    (
+        b"machine(M, \"m\") : { action(a) { a := b := c; } }",
+        Syntax(16),
+    ),
+    (
+        b"machine(M, \"m\") : { action(a) { if (b) c(); } }",
+        Syntax(17),
+    ),
+    (
+        b"machine(M, \"m\") : { action(a) { else { } } }",
+        Syntax(13),
+    ),
+    (
+        b"machine(M, \"m\") : { action(a) { if (b) { } else c(); } }",
+        Syntax(20),
+    ),
+    (
+        b"machine(M, \"m\") : { action(a) { while (b) { } } }",
+        Syntax(13),
+    ),
+    (b"machine(M, \"m\") : { action(a) { ; } }", Syntax(13)),
+    (
+        b"machine(M, \"m\") : { action(a) { enqueue(o, T, 1, 2) { } } }",
+        Syntax(20),
+    ),
+    (
+        b"machine(M, \"m\") : { action(a) { error(e); } }",
+        Syntax(15),
+    ),
+    (
+        b"machine(M, \"m\") : { action(a) { DPRINTF(a } ); } }",
+        Syntax(16),
+    ),
+    (b"machine(M, \"m\") : { action(a) { b(c, ); } }", Syntax(17)),
+    (b"machine(M, \"m\") : { action(a) { b[]; } }", Syntax(15)),
+];
+
+/// How a text goes on that nests: what is before, the tokens that nest, how often they come, what is inside, the tokens that
+/// close them, and what is behind; and whether it is read or refused.
+struct Nest {
+    before: &'static [u8],
+    opening: &'static [u8],
+    count: usize,
+    inside: &'static [u8],
+    closing: &'static [u8],
+    behind: &'static [u8],
+    fault: Option<SyntaxFault>,
+}
+
+const MACHINE: &[u8] = b"machine(M, \"m\") : {";
+
+const ACTION: &[u8] = b"machine(M, \"m\") : { action(a) {";
+
+const FUNCTION: &[u8] = b"machine(M, \"m\") : { void functionalRead() {";
+
+const NESTS: &[Nest] = &[
+    // parentheses, brackets, braces and unary operators, up to 64 nestings and one above
+    Nest {
+        before: ACTION,
+        opening: b"(",
+        count: 62,
+        inside: b"a",
+        closing: b")",
+        behind: b"; } }",
+        fault: None,
+    },
+    Nest {
+        before: ACTION,
+        opening: b"(",
+        count: 63,
+        inside: b"a",
+        closing: b")",
+        behind: b"; } }",
+        fault: Some(Deep(75)),
+    },
+    Nest {
+        before: ACTION,
+        opening: b"a[",
+        count: 62,
+        inside: b"a",
+        closing: b"]",
+        behind: b"; } }",
+        fault: None,
+    },
+    Nest {
+        before: ACTION,
+        opening: b"a[",
+        count: 63,
+        inside: b"a",
+        closing: b"]",
+        behind: b"; } }",
+        fault: Some(Deep(138)),
+    },
+    Nest {
+        before: ACTION,
+        opening: b"!",
+        count: 62,
+        inside: b"a",
+        closing: b"",
+        behind: b"; } }",
+        fault: None,
+    },
+    Nest {
+        before: ACTION,
+        opening: b"!",
+        count: 63,
+        inside: b"a",
+        closing: b"",
+        behind: b"; } }",
+        fault: Some(Deep(75)),
+    },
+    Nest {
+        before: ACTION,
+        opening: b"-",
+        count: 62,
+        inside: b"a",
+        closing: b"",
+        behind: b"; } }",
+        fault: None,
+    },
+    Nest {
+        before: ACTION,
+        opening: b"-",
+        count: 63,
+        inside: b"a",
+        closing: b"",
+        behind: b"; } }",
+        fault: Some(Deep(75)),
+    },
+    Nest {
+        before: ACTION,
+        opening: b"if (a) {",
+        count: 63,
+        inside: b"",
+        closing: b"}",
+        behind: b"} }",
+        fault: Some(Deep(324)),
+    },
+    Nest {
+        before: ACTION,
+        opening: b"if (a) {",
+        count: 62,
+        inside: b"",
+        closing: b"}",
+        behind: b"} }",
+        fault: None,
+    },
+    Nest {
+        before: ACTION,
+        opening: b"if (a) { a(); } else {",
+        count: 62,
+        inside: b"",
+        closing: b"}",
+        behind: b"} }",
+        fault: Some(Deep(751)),
+    },
+    Nest {
+        before: ACTION,
+        opening: b"if (a) { a(); } else {",
+        count: 61,
+        inside: b"",
+        closing: b"}",
+        behind: b"} }",
+        fault: None,
+    },
+    Nest {
+        before: FUNCTION,
+        opening: b"[",
+        count: 62,
+        inside: b"-",
+        closing: b"]",
+        behind: b"} }",
+        fault: None,
+    },
+    Nest {
+        before: FUNCTION,
+        opening: b"{",
+        count: 63,
+        inside: b"",
+        closing: b"}",
+        behind: b"} }",
+        fault: Some(Deep(75)),
+    },
+    // what isn't nested may be as long as it likes
+    Nest {
+        before: ACTION,
+        opening: b"a + ",
+        count: 300,
+        inside: b"a",
+        closing: b"",
+        behind: b"; } }",
+        fault: None,
+    },
+    Nest {
+        before: ACTION,
+        opening: b"",
+        count: 300,
+        inside: b"a",
+        closing: b".a(a)[a]",
+        behind: b"; } }",
+        fault: None,
+    },
+    Nest {
+        before: ACTION,
+        opening: b"if (a) { } else ",
+        count: 300,
+        inside: b"{ }",
+        closing: b"",
+        behind: b"} }",
+        fault: None,
+    },
+    Nest {
+        before: ACTION,
+        opening: b"if (a) { } else ",
+        count: 300,
+        inside: b"if (a) { }",
+        closing: b"",
+        behind: b"} }",
+        fault: None,
+    },
+    // P2 at `!` where no operand may be, and at `-` only where one may
+    Nest {
+        before: ACTION,
+        opening: b"(",
+        count: 62,
+        inside: b"a ! a",
+        closing: b")",
+        behind: b"; } }",
+        fault: Some(Deep(76)),
+    },
+    Nest {
+        before: ACTION,
+        opening: b"(",
+        count: 62,
+        inside: b"a - a",
+        closing: b")",
+        behind: b"; } }",
+        fault: None,
+    },
+    Nest {
+        before: MACHINE,
+        opening: b"{",
+        count: 63,
+        inside: b"",
+        closing: b"}",
+        behind: b"}",
+        fault: Some(Syntax(8)),
+    },
+];
+
+fn are_spans(found: &[Span], expected: &[(u32, u32)]) -> bool {
+    found.len() == expected.len()
+        && found.iter().zip(expected).all(|(span, place)| span.file == 0
+            && span.start == place.0
+            && span.end == place.1)
+}
+
+/// Whether the text is read as a tree with the row's spans.
+fn is_read(alloc: Global, row: &(&[u8], &[(u32, u32)])) -> bool {
+    if row.0.len() > 1_048_576 {
+        return false;
+    }
+    let Ok(tokens) = lex(alloc, 0, row.0) else {
+        return false;
+    };
+    let Ok(tree) = parse(alloc, &tokens) else {
+        return false;
+    };
+    match spans(alloc, &tree) {
+        Ok(found) => are_spans(found.as_slice(), row.1),
+        Err(_) => false,
     }
 }
 
-fn decl_letter(decl: &Decl) -> u8 {
-    match decl {
-        Decl::States(_) => b's',
-        Decl::Enumeration(_) => b'e',
-        Decl::Structure(_) => b'u',
-        Decl::OutPort(_) => b'p',
-        Decl::InPort(_) => b'i',
-        Decl::Action(_) => b'a',
-        Decl::Transition(_) => b't',
-        Decl::Function(function) => function_letter(function),
-        Decl::Object(_) => b'o',
+/// The fault of a text, where it has one.
+fn fault_of(alloc: Global, text: &[u8]) -> Option<SyntaxFault> {
+    if text.len() > 1_048_576 {
+        return None;
     }
-}
-
-fn are_decls(decls: &[Decl], letters: &[u8]) -> bool {
-    decls.len() == letters.len()
-        && decls
-            .iter()
-            .zip(letters)
-            .all(|(decl, letter)| decl_letter(decl) == *letter)
-}
-
-fn is_machine(machine: &Machine, parameters: usize, declarations: &[u8]) -> bool {
-    machine.parameters.len() == parameters && are_decls(&machine.declarations, declarations)
-}
-
-/// Whether the item is one of the letter, a machine with so many parameters and these declarations.
-fn is_item(item: &Item, letter: u8, parameters: usize, declarations: &[u8]) -> bool {
-    match item {
-        Item::Include(_, _) => letter == b'i',
-        Item::Enumeration(_) => letter == b'e',
-        Item::Structure(_) => letter == b's',
-        Item::Machine(machine) => letter == b'm' && is_machine(machine, parameters, declarations),
-    }
-}
-
-fn is_tree(tree: &Tree, row: &(&[u8], &[u8], usize, &[u8], u32)) -> bool {
-    tree.span.start == 0
-        && tree.span.end == row.4
-        && tree.items.len() == row.1.len()
-        && tree
-            .items
-            .iter()
-            .zip(row.1)
-            .all(|(item, letter)| is_item(item, *letter, row.2, row.3))
-}
-
-fn parsed(alloc: Global, text: &[u8]) -> Option<Result<Tree, SyntaxFault>>
-    requires { length text.now ≤ 1000 }
-{
     match lex(alloc, 0, text) {
-        Ok(tokens) => Some(parse(alloc, &tokens)),
-        Err(_) => None,
+        Ok(tokens) => parse(alloc, &tokens).err(),
+        Err(_) => Some(SyntaxFault::NoMemory),
     }
 }
 
-fn is_read(alloc: Global, row: &(&[u8], &[u8], usize, &[u8], u32)) -> bool {
-    if row.0.len() > 1000 {
-        return false;
+fn nested(alloc: Global, row: &Nest) -> Result<Vec<u8>, AllocError> {
+    let mut text = Vec::new(alloc);
+    text.extend_from_slice(row.before)?;
+    for _ in 0..row.count {
+        text.extend_from_slice(row.opening)?;
     }
-    match parsed(alloc, row.0) {
-        Some(Ok(tree)) => is_tree(&tree, row),
-        _ => false,
+    text.extend_from_slice(row.inside)?;
+    for _ in 0..row.count {
+        text.extend_from_slice(row.closing)?;
     }
+    text.extend_from_slice(row.behind)?;
+    Ok(text)
 }
 
-fn is_refused(alloc: Global, row: &(&[u8], SyntaxFault)) -> bool {
-    if row.0.len() > 1000 {
-        return false;
-    }
-    match parsed(alloc, row.0) {
-        Some(Err(fault)) => fault == row.1,
-        _ => false,
+fn is_nested(alloc: Global, row: &Nest) -> bool {
+    match nested(alloc, row) {
+        Ok(text) => match (fault_of(alloc, text.as_slice()), row.fault) {
+            (None, None) => true,
+            (Some(found), Some(expected)) => found == expected,
+            _ => false,
+        },
+        Err(_) => false,
     }
 }
 
 #[test]
-fn files_are_read_whole(rt: HostRuntime) -> Result<(), Fail> {
-    for (place, row) in READ.iter().enumerate() {
-        assert!(rt; is_read(rt.alloc(), row), "row {place}");
-    }
+fn each_text_has_the_spans_of_its_row(rt: HostRuntime) -> Result<(), Fail> {
+    let alloc = rt.alloc();
+    assert_eq!(rt; READ.iter().position(|row| !is_read(alloc, row)), None);
     Ok(())
 }
 
 #[test]
-fn files_are_refused_at_the_first_fault(rt: HostRuntime) -> Result<(), Fail> {
-    for (place, row) in REFUSED.iter().enumerate() {
-        assert!(rt; is_refused(rt.alloc(), row), "row {place}");
-    }
+fn each_text_is_refused_at_the_token_of_its_row(rt: HostRuntime) -> Result<(), Fail> {
+    let alloc = rt.alloc();
+    assert_eq!(rt;
+        REFUSED
+            .iter()
+            .position(|row| fault_of(alloc, row.0) != Some(row.1)),
+        None
+    );
+    Ok(())
+}
+
+#[test]
+fn each_text_nests_as_deep_as_its_row_says(rt: HostRuntime) -> Result<(), Fail> {
+    let alloc = rt.alloc();
+    assert_eq!(rt; NESTS.iter().position(|row| !is_nested(alloc, row)), None);
     Ok(())
 }
