@@ -13,7 +13,8 @@ use slicc_ast::tree::{Pair, PairValue, Pairs};
 
 /// The string that the attribute gives to the key.
 fn quoted<'t>(attribute: &'t Pair, key: &str) -> Option<&'t Text>
-    ensures { IsFound (shape_of (pair_outline attribute.now)) (quoted_shape key.now) (option_copied result) }
+    ensures { IsFound (shape_of (pair_outline attribute.now)) (quoted_shape key.now)
+        (option_copied result) }
 {
     let Pair::Named { name, value, .. } = attribute else {
         return None;
@@ -50,7 +51,8 @@ fn bare(attribute: &Pair) -> Option<&Text>
 
 /// The description and the default that are the two attributes.
 pub fn described_with_default(attributes: &Pairs) -> Option<(&Text, &Text)>
-    ensures { MatchOption result ((d e : List ℕ) → outlines attributes.now ≢ described_with d e) (λ two. outlines attributes.now ≡ described_with two.0.now two.1.now) }
+    ensures { MatchOption result ((d e : List ℕ) → outlines attributes.now ≢ described_with d e)
+        (λ two. outlines attributes.now ≡ described_with two.0.now two.1.now) }
 {
     let Some((first, second)) = two_items(attributes.items.as_slice()) else {
         return None;
@@ -66,7 +68,8 @@ pub fn described_with_default(attributes: &Pairs) -> Option<(&Text, &Text)>
 
 /// The bare string and the description that are the two attributes.
 pub fn short_and_description(attributes: &Pairs) -> Option<(&Text, &Text)>
-    ensures { MatchOption result ((d e : List ℕ) → outlines attributes.now ≢ described_behind d e) (λ two. outlines attributes.now ≡ described_behind two.0.now two.1.now) }
+    ensures { MatchOption result ((d e : List ℕ) → outlines attributes.now ≢ described_behind d e)
+        (λ two. outlines attributes.now ≡ described_behind two.0.now two.1.now) }
 {
     let Some((first, second)) = two_items(attributes.items.as_slice()) else {
         return None;

@@ -37,7 +37,8 @@ fn is_clock_edge(e: &Expr) -> bool
 
 /// Whether `clockEdge()` is the one argument.
 fn are_clock_edge(arguments: &Args) -> bool
-    ensures { IsTrue result ↔ (shape_in (args_list arguments.now.items.items) ≡ part clock_edge none) }
+    ensures { IsTrue result
+        ↔ (shape_in (args_list arguments.now.items.items) ≡ part clock_edge none) }
 {
     match only_item(arguments.items.as_slice()) {
         Some(argument) => is_clock_edge(argument),
@@ -147,7 +148,8 @@ fn event_argument(arguments: &[Expr]) -> Option<&Text>
 
 /// The event of `trigger(Event:EVENT, in_msg.LineAddress)`.
 pub fn triggered(e: &Expr) -> Option<&Text>
-    ensures { IsFound (shape_of (expr e.now)) (λ event. call (codes "trigger") (event_arguments event)) (option_copied result) }
+    ensures { IsFound (shape_of (expr e.now))
+        (λ event. call (codes "trigger") (event_arguments event)) (option_copied result) }
 {
     let Expr::Call {
         name,

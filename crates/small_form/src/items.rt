@@ -21,7 +21,8 @@ pub fn only_item<T>(items: &[T]) -> Option<&T>
 
 /// The items, where there are two alone.
 pub fn two_items<T>(items: &[T]) -> Option<(&T, &T)>
-    ensures { MatchOption result ((x y : T) → items.now ≢ x ∷ y ∷ []) (λ two. items.now ≡ two.0.now ∷ two.1.now ∷ []) }
+    ensures { MatchOption result ((x y : T) → items.now ≢ x ∷ y ∷ [])
+        (λ two. items.now ≡ two.0.now ∷ two.1.now ∷ []) }
 {
     match items {
         [first, second] => Some((first, second)),
@@ -31,7 +32,8 @@ pub fn two_items<T>(items: &[T]) -> Option<(&T, &T)>
 
 /// The first four items, and those after them.
 pub fn split_four<T>(items: &[T]) -> Option<(&T, &T, &T, &T, &[T])>
-    ensures { MatchOption result ((a b c d : T) (rest : List T) → items.now ≢ a ∷ b ∷ c ∷ d ∷ rest) (λ s. items.now ≡ s.0.now ∷ s.1.now ∷ s.2.now ∷ s.3.now ∷ s.4.now) }
+    ensures { MatchOption result ((a b c d : T) (rest : List T) → items.now ≢ a ∷ b ∷ c ∷ d ∷ rest)
+        (λ s. items.now ≡ s.0.now ∷ s.1.now ∷ s.2.now ∷ s.3.now ∷ s.4.now) }
 {
     match items {
         [first, second, third, fourth, rest @ ..] => Some((first, second, third, fourth, rest)),

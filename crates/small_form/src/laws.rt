@@ -8,5 +8,6 @@ ghost use Rattle.small_form.specs.SmallForm.{IsSmallForm};
 
 /// No tree that keeps the conditions of the grammar is a protocol of the small form in two ways: it is one machine at most.
 pub fn machines_are_one()
-    ensures { (t : TreeRecord) (m n : SmallMachine) → IsTrue (is_allowed (tree_outline t)) → IsSmallForm t m → IsSmallForm t n → m ≡ n }
+    ensures { (t : TreeRecord) (m n : SmallMachine) → IsTrue (is_allowed (tree_outline t))
+        → IsSmallForm t m → IsSmallForm t n → m ≡ n }
 {}

@@ -35,7 +35,8 @@ use std::alloc::Global;
 pub fn machine_of(alloc: Global, tree: &Tree) -> Result<Option<Machine>, NoMemory>
     requires { IsTrue (is_allowed (tree_outline tree.now)) }
     ensures sound { IfOk result (λ found. IfSome found (IsSmallForm tree.now)) }
-    ensures only { IfOk result (λ (found : Option SmallMachine). (m : SmallMachine) → IsSmallForm tree.now m → found ≡ Some m) }
+    ensures only { IfOk result (λ (found : Option SmallMachine).
+        (m : SmallMachine) → IsSmallForm tree.now m → found ≡ Some m) }
 {
     let Some(found) = found(alloc, tree)? else {
         return Ok(None);

@@ -31,7 +31,8 @@ struct Content {
 
 /// Reads the declarations of a machine, each in its place.
 fn declared(alloc: Global, declarations: &[Decl]) -> Result<Option<Content>, NoMemory>
-    ensures { IfOk result (IsFound (shape_in (decl_list declarations.now (sign CloseBrace none))) content_shape) }
+    ensures { IfOk result
+        (IsFound (shape_in (decl_list declarations.now (sign CloseBrace none))) content_shape) }
 {
     let Some((first, second, third, fourth, rest)) = split_four(declarations) else {
         return Ok(None);
@@ -91,7 +92,9 @@ fn machine(alloc: Global, tree: &MachineTree) -> Result<Option<Machine>, NoMemor
 
 /// The machine, where a file has one alone.
 fn only_machine(tree: &Tree) -> Option<&MachineTree>
-    ensures { MatchOption result ((m : SmallMachine) → shape_of (tree_outline tree.now) ≢ file m) (λ m. shape_of (tree_outline tree.now) ≡ node no_span (part (shape_of (machine_outline m.now)) none)) }
+    ensures { MatchOption result ((m : SmallMachine) → shape_of (tree_outline tree.now) ≢ file m)
+        (λ m. shape_of (tree_outline tree.now)
+        ≡ node no_span (part (shape_of (machine_outline m.now)) none)) }
 {
     if tree.protocol.is_some() {
         return None;

@@ -57,7 +57,8 @@ impl FromTree<Symbol> for Event {
 
 /// The name, where it stands without braces.
 fn one_name(names: &Names) -> Option<&Text>
-    ensures { IsFound (shape_in (names_outline names.now none)) (λ text. named text none) (option_copied result) }
+    ensures { IsFound (shape_in (names_outline names.now none)) (λ text. named text none)
+        (option_copied result) }
 {
     match names {
         Names::One(name) => Some(&name.text),

@@ -16,7 +16,8 @@ use std::alloc::Global;
 
 /// The statement, where the block has one alone.
 fn only_statement(body: &Block) -> Option<&Stmt>
-    ensures { IsFound (shape_of (block_outline body.now)) block_shape (statement_shape (option_copied result)) }
+    ensures { IsFound (shape_of (block_outline body.now)) block_shape
+        (statement_shape (option_copied result)) }
 {
     only_item(body.statements.as_slice())
 }
@@ -43,7 +44,8 @@ fn dequeued_by(statement: &Stmt) -> Option<&Text>
 
 /// The event of a block that triggers it and does no more.
 fn triggered_in(body: &Block) -> Option<&Text>
-    ensures { IsFound (shape_of (block_outline body.now)) (λ event. block_shape (triggered_shape event)) (option_copied result) }
+    ensures { IsFound (shape_of (block_outline body.now))
+        (λ event. block_shape (triggered_shape event)) (option_copied result) }
 {
     match only_statement(body) {
         Some(statement) => triggered_by(statement),
@@ -53,7 +55,8 @@ fn triggered_in(body: &Block) -> Option<&Text>
 
 /// The port of a block that dequeues from it and does no more.
 pub fn dequeued_in(body: &Block) -> Option<&Text>
-    ensures { IsFound (shape_of (block_outline body.now)) (λ port. block_shape (dequeued_shape port)) (option_copied result) }
+    ensures { IsFound (shape_of (block_outline body.now))
+        (λ port. block_shape (dequeued_shape port)) (option_copied result) }
 {
     match only_statement(body) {
         Some(statement) => dequeued_by(statement),
@@ -95,7 +98,8 @@ fn peek(alloc: Global, statement: &Stmt) -> Result<Option<Peek>, NoMemory>
 
 /// Reads a block as such a statement alone.
 fn peek_in(alloc: Global, body: &Block) -> Result<Option<Peek>, NoMemory>
-    ensures { IfOk result (IsFound (shape_of (block_outline body.now)) (λ p. block_shape (peek_shape p))) }
+    ensures { IfOk result
+        (IsFound (shape_of (block_outline body.now)) (λ p. block_shape (peek_shape p))) }
 {
     match only_statement(body) {
         Some(statement) => peek(alloc, statement),
@@ -139,7 +143,8 @@ fn ready_by(alloc: Global, statement: &Stmt) -> Result<Option<If>, NoMemory>
 
 /// Reads a block as the body of a port, which is such a conditional alone.
 pub fn ready_in(alloc: Global, body: &Block) -> Result<Option<If>, NoMemory>
-    ensures { IfOk result (IsFound (shape_of (block_outline body.now)) (λ i. block_shape (conditional_shape i))) }
+    ensures { IfOk result
+        (IsFound (shape_of (block_outline body.now)) (λ i. block_shape (conditional_shape i))) }
 {
     match only_statement(body) {
         Some(statement) => ready_by(alloc, statement),
