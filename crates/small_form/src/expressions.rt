@@ -48,7 +48,8 @@ fn are_clock_edge(arguments: &Args) -> bool
 
 /// The variable and its suffix, where the expression is a variable with one suffix alone.
 fn only_suffix(e: &Expr) -> Option<(&Text, &Suffix)>
-    ensures { MatchOption result (IsUnsuffixed (shape_of (expr e.now))) (λ r. shape_of (expr e.now) ≡ with_suffix r.0.now (shape_of (suffix_outline r.1.now))) }
+    ensures { MatchOption result (IsUnsuffixed (shape_of (expr e.now)))
+        (λ r. shape_of (expr e.now) ≡ with_suffix r.0.now (shape_of (suffix_outline r.1.now))) }
 {
     let Expr::Postfix {
         value,
