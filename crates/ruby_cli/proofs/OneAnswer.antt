@@ -3,7 +3,7 @@ use Rattle.std.proofs.Common.{◌≡◌, ℕ, Option, None, Some, List, [], ◌�
 use Rattle.ruby_outside.specs.Files.{Files}
 use Rattle.ruby_outside.specs.declared.library.Got.{Got}
 use Rattle.ruby_outside.specs.declared.library.Got.TheVariants as got
-use Rattle.slicc_ast.specs.declared.machine.Machine.{Machine}
+use Rattle.small_machine.specs.declared.machine.Machine.{Machine}
 use Rattle.slicc_meaning.specs.declared.record.RunRecord.{RunRecord}
 use Rattle.slicc_meaning.specs.declared.setting.Setting.{Setting}
 use Rattle.slicc_meaning.specs.Plan.{plan_of}

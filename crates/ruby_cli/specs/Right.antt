@@ -6,8 +6,8 @@ use Rattle.std.specs.Prelude.{◌≡◌, ℕ, Option, None, Some, List, [], ◌�
 use Rattle.ruby_outside.specs.Files.{Files, Reads, bytes_of, got_of}
 use Rattle.ruby_outside.specs.declared.library.Got.{Got}
 use Rattle.ruby_outside.specs.declared.library.Got.TheVariants as got
-use Rattle.slicc_ast.specs.declared.machine.Machine.{Machine}
-use Rattle.slicc_ast.specs.SmallForm.{IsSmallForm}
+use Rattle.small_machine.specs.declared.machine.Machine.{Machine}
+use Rattle.small_form.specs.SmallForm.{IsSmallForm}
 use Rattle.slicc_meaning.specs.declared.setting.Setting.{Setting}
 use Rattle.slicc_meaning.specs.Plan.{plan_of}
 use Rattle.slicc_meaning.specs.Record.{IsWholeRun}

@@ -1,6 +1,6 @@
 // The answer to options, found before anything is written.
 ghost use Rattle.std.specs.Prelude.{◌≡◌, ◌<◌, ◌^◌, IfOk, IsUtf8};
-ghost use Rattle.slicc_ast.specs.WellFormed.{IsWellFormed};
+ghost use Rattle.small_machine.specs.WellFormed.{IsWellFormed};
 ghost use Rattle.slicc_meaning.specs.Plan.{plan_of as plan_of_tree};
 ghost use Rattle.slicc_meaning.specs.Record.{IsWholeRun};
 ghost use Rattle.slicc_meaning.specs.Topology.{plain_of as plain_of_plan};
@@ -13,9 +13,9 @@ use crate::{Answer, Options, Refused};
 use plain_run::run_plain;
 use ruby_base::{NoMemory, Text};
 use ruby_outside::{Got, Library};
-use slicc_ast::Machine;
 use slicc_meaning::{PlainDriver, Plan, RunRecord, Setting, plain_of, plan_of};
 use small_form::read_machine;
+use small_machine::Machine;
 use std::alloc::Global;
 
 // The most bytes of a file.

@@ -1,8 +1,4 @@
 pub mod Bytes
-pub mod Tokens
-pub mod Spelling
-pub mod WellFormed
-pub mod SmallForm
 pub mod Outline
 pub mod Names
 pub mod Expressions

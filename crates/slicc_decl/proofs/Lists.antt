@@ -4,10 +4,11 @@ use Rattle.slicc_ast.specs.declared.tree.declaration.Pair.{Pair}
 use Rattle.slicc_ast.specs.declared.tree.declaration.State.{State}
 use Rattle.slicc_ast.specs.declared.tree.declaration.Symbol.{Symbol}
 use Rattle.slicc_ast.specs.declared.tree.declaration.Formal.{Formal}
+use Rattle.slicc_ast.specs.declared.tree.declaration.Member.{Member}
 use Rattle.slicc_ast.specs.declared.tree.machine.Parameter.{Parameter}
 use Rattle.slicc_ast.specs.declared.tree.name.Name.{Name}
 use Rattle.slicc_ast.specs.declared.tree.token.Sign.TheVariants.{Comma}
-use Rattle.slicc_ast.specs.Declarations.{formal, formal_list, more_formals, pair_list, state_list, symbol_list}
+use Rattle.slicc_ast.specs.Declarations.{formal, formal_list, member, member_list, more_formals, pair_list, state_list, symbol_list}
 use Rattle.slicc_ast.specs.Machines.{action_list, more_names, name_list, parameter, parameter_list}
 use Rattle.slicc_ast.specs.Names.{name, sign}
 use Rattle.slicc_ast.specs.Outline.{Parts, none, part}
@@ -77,3 +78,11 @@ parameter_parts p others = part (parameter p) others
 pub each_parameter : (items : List Parameter) (others : Parts) → parameter_list items others ≡ each parameter_parts items others
 each_parameter [] others = refl
 each_parameter (first ∷ items) others = ap (λ p. parameter_parts first p) (each_parameter items others)
+
+-- a structure's members
+abbrev pub member_parts : Member → Parts → Parts
+member_parts m others = part (member m) others
+
+pub each_member : (items : List Member) (others : Parts) → member_list items others ≡ each member_parts items others
+each_member [] others = refl
+each_member (first ∷ items) others = ap (λ p. member_parts first p) (each_member items others)

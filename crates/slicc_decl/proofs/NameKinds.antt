@@ -145,3 +145,18 @@ first_two false false c some = absurd (false≢true some)
 pub plain_is_name : (tokens : List Token) → is_ahead (other_name ∷ machine_type ∷ []) (symbols tokens) ≡ true → is_ahead names_of (symbols tokens) ≡ true
 plain_is_name [] some = absurd (false≢true some)
 plain_is_name (t ∷ tokens) some = first_two (other_name == kind_of t.kind) (machine_type == kind_of t.kind) (functional_name == kind_of t.kind) some
+
+-- the name of a function that is skipped is one of the two
+pub is_skipped_text : (n : Name) {tokens left : List Token} → IsNode (node n.span (token (Named n.text) none)) tokens left
+    → is_ahead (functional_name ∷ []) (symbols tokens) ≡ true → IsTrue (is_skipped n)
+is_skipped_text n (spelled covers (one {t = t} same nothing)) ahead =
+    has_skipped n.text ∙ subst (λ k. has (functional_name ∷ []) (kind_of k) ≡ true) same ahead
+
+last_one : (a b c : Bool) → (c || false) ≡ true → (a || (b || (c || false))) ≡ true
+last_one true b c some = refl
+last_one false true c some = refl
+last_one false false c some = some
+
+pub skipped_is_name : (tokens : List Token) → is_ahead (functional_name ∷ []) (symbols tokens) ≡ true → is_ahead names_of (symbols tokens) ≡ true
+skipped_is_name [] some = absurd (false≢true some)
+skipped_is_name (t ∷ tokens) some = last_one (other_name == kind_of t.kind) (machine_type == kind_of t.kind) (functional_name == kind_of t.kind) some

@@ -1,14 +1,18 @@
 -- The members of declarations as rows of the grammar, and what each is spelled by before further parts.
+use Rattle.std.specs.Prelude.{List}
+use Rattle.slicc_ast.specs.declared.tree.balanced.Balanced.{Balanced}
+use Rattle.slicc_ast.specs.declared.tree.declaration.Member.{Member}
 use Rattle.slicc_ast.specs.declared.tree.declaration.Pair.{Pair}
+use Rattle.slicc_ast.specs.declared.tree.declaration.Pairs.{Pairs}
 use Rattle.slicc_ast.specs.declared.tree.declaration.State.{State}
 use Rattle.slicc_ast.specs.declared.tree.declaration.Symbol.{Symbol}
 use Rattle.slicc_ast.specs.declared.tree.name.Name.{Name}
-use Rattle.slicc_ast.specs.declared.tree.token.Sign.TheVariants.{Colon, Comma, Semicolon}
-use Rattle.slicc_ast.specs.Declarations.{pair, pairs as pairs_of}
-use Rattle.slicc_ast.specs.Names.{name as name_of, sign}
+use Rattle.slicc_ast.specs.declared.tree.token.Sign.TheVariants.{CloseBrace, CloseParenthesis, Colon, Comma, OpenBrace, OpenParenthesis, Semicolon}
+use Rattle.slicc_ast.specs.Declarations.{member_list, pair, pairs as pairs_of}
+use Rattle.slicc_ast.specs.Names.{balanced as balanced_of, name as name_of, sign}
 use Rattle.slicc_ast.specs.Outline.{Parts, part}
-use Rattle.slicc_grammar.specs.Form.Form.{names, transition_end}
-use Rattle.slicc_grammar.specs.Parts.{Part, ◌▸◌, colon, comma, name, of, optional, pairs, semicolon}
+use Rattle.slicc_grammar.specs.Form.Form.{functional_end, member, names, transition_end}
+use Rattle.slicc_grammar.specs.Parts.{Part, ◌▸◌, balanced, braces, colon, comma, name, of, optional, pairs, parentheses, repeated, semicolon, sign as sign_part, skipped_name}
 
 -- a member of an enumeration
 abbrev pub symbol_row : Part
@@ -39,3 +43,34 @@ pair_parts p others = sign Comma (part (pair p) others)
 -- what a transition has in its parentheses
 abbrev pub transition_inside : Part
 transition_inside = of names ▸ comma ▸ of names ▸ optional (comma ▸ of transition_end)
+
+-- members of a structure and `}`, and these in braces
+abbrev pub members_row : Part
+members_row = repeated (of member) ▸ sign_part CloseBrace
+
+abbrev pub members_parts : List Member → Parts → Parts
+members_parts ms others = member_list ms (sign CloseBrace others)
+
+abbrev pub structure_row : Part
+structure_row = braces (repeated (of member))
+
+abbrev pub structure_parts : List Member → Parts → Parts
+structure_parts ms others = sign OpenBrace (members_parts ms others)
+
+-- a member behind its type, with the name of a function that is skipped
+abbrev pub skipped_member_row : Part
+skipped_member_row = skipped_name ▸ of functional_end
+
+-- attributes and a body of a function that is skipped, and such a function behind its name
+abbrev pub skipped_body_row : Part
+skipped_body_row = pairs ▸ braces balanced
+
+abbrev pub skipped_body_parts : Pairs → Balanced → Parts → Parts
+skipped_body_parts attributes body others = pairs_of attributes (sign OpenBrace (balanced_of body (sign CloseBrace others)))
+
+abbrev pub skipped_row : Part
+skipped_row = parentheses balanced ▸ skipped_body_row
+
+abbrev pub skipped_parts : Balanced → Pairs → Balanced → Parts → Parts
+skipped_parts arguments attributes body others =
+    sign OpenParenthesis (balanced_of arguments (sign CloseParenthesis (skipped_body_parts attributes body others)))

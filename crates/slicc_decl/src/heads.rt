@@ -1,15 +1,25 @@
 //! The heads of declarations: a name and attributes in parentheses, and names and attributes that a sign ends.
-ghost use Rattle.std.specs.Prelude.{◌<◌, length, IfOk, MatchResult};
+ghost use Rattle.std.specs.Prelude.{◌≡◌, ◌∷◌, ◌<◌, [], length, IfOk, MatchResult};
+ghost use Rattle.grammar_rows.specs.Kinds.{is_ahead};
 ghost use Rattle.slicc_ast.specs.Declarations.{pairs as pairs_of};
 ghost use Rattle.slicc_ast.specs.Names.{name as name_of, sign as sign_of};
-ghost use Rattle.slicc_ast.specs.declared.tree.token.Sign.TheVariants.{CloseParenthesis, OpenParenthesis};
+ghost use Rattle.slicc_ast.specs.declared.tree.token.Sign.TheVariants.{CloseParenthesis, Comma, OpenParenthesis, Semicolon};
 ghost use Rattle.slicc_grammar.specs.Parts.{◌▸◌, name as name_part, pairs as pairs_part, parentheses, sign as sign_part};
+ghost use Rattle.slicc_grammar.specs.TokenKinds.{sign_kind};
+ghost use Rattle.slicc_lex.specs.Syntax.{symbols};
 ghost use Rattle.slicc_reading.specs.Reading.{AreRead, Refuses};
 
 use slicc_ast::tree::{Name, Pairs, Sign};
 use slicc_lex::Token;
-use slicc_reading::{Fault, name, open, pairs, sign};
+use slicc_reading::{Fault, is_sign, name, open, pairs, sign};
 use std::alloc::Global;
+
+/// Whether attributes and `;` begin with the first token.
+pub fn begins_ended_pairs(tokens: &[Token]) -> bool
+    ensures { result ≡ is_ahead (sign_kind Comma ∷ sign_kind Semicolon ∷ []) (symbols tokens.now) }
+{
+    is_sign(Sign::Comma, tokens) || is_sign(Sign::Semicolon, tokens)
+}
 
 /// Attributes and the sign that ends them.
 pub fn ended_pairs(

@@ -74,7 +74,7 @@ fn port_inside(alloc: Global, room: u32, tokens: &[Token]) -> Result<(PortHead, 
 }
 
 /// A port's name, message type, buffer and attributes in parentheses.
-fn port_head(alloc: Global, room: u32, tokens: &[Token]) -> Result<(PortHead, &[Token]), Fault>
+pub fn port_head(alloc: Global, room: u32, tokens: &[Token]) -> Result<(PortHead, &[Token]), Fault>
     ensures { MatchResult result (λ read. AreRead room (parentheses (name_part ▸ comma ▸ type_part ▸ comma ▸ name_part ▸ pairs_part)) (λ others. sign_of OpenParenthesis (name_of read.0.name (sign_of Comma (type_of read.0.message (sign_of Comma (name_of read.0.buffer (pairs_of read.0.pairs (sign_of CloseParenthesis others)))))))) tokens.now read.1.now) (Refuses room (parentheses (name_part ▸ comma ▸ type_part ▸ comma ▸ name_part ▸ pairs_part)) tokens.now) }
 {
     match open(room, Sign::OpenParenthesis, tokens) {

@@ -1,10 +1,10 @@
-use slicc_reading::Fault;
-use slicc_reading::Fault::{Deep, Syntax};
-use slicc_lex::lex;
 use slicc_decl::{
     enumeration, formals, include, literal, machine_head, names, optional_protocol, out_port,
-    parameter, states, transition,
+    parameter, states, structure, transition,
 };
+use slicc_lex::lex;
+use slicc_reading::Fault;
+use slicc_reading::Fault::{Deep, Syntax};
 use std::alloc::Global;
 use std::test::Fail;
 
@@ -44,6 +44,7 @@ enum Form {
     Protocol,
     Parameter,
     States,
+    Structure,
     Transition,
 }
 
@@ -127,6 +128,33 @@ const FORMS: &[(Form, &[u8], u32, Result<usize, Fault>)] = &[
         Err(Syntax(3)),
     ),
     (
+        Form::Structure,
+        b"structure(S, desc=\"s\") { A a; B b, desc=\"b\"; C c(D, E e), desc=\"c\"; F f(); } action",
+        2,
+        Ok(2),
+    ),
+    (Form::Structure, b"structure(S) { }", 1, Ok(1)),
+    (
+        Form::Structure,
+        b"structure(S) { bool functionalRead(A * a) { [x] (y) } A functionalWrite; }",
+        64,
+        Ok(1),
+    ),
+    (Form::Structure, b"structure(S) { A a }", 64, Err(Syntax(2))),
+    (
+        Form::Structure,
+        b"structure(S) { A a() { } }",
+        64,
+        Err(Syntax(4)),
+    ),
+    (
+        Form::Structure,
+        b"structure(S) { A functionalRead(); }",
+        64,
+        Err(Syntax(3)),
+    ),
+    (Form::Structure, b"structure(S) { A a(); }", 1, Err(Deep(5))),
+    (
         Form::Transition,
         b"transition(I, Load, M) { a; b; }",
         64,
@@ -191,6 +219,7 @@ fn form_left(alloc: Global, form: Form, text: &[u8], room: u32) -> Option<Result
         Form::Names => names(alloc, room, from).map(|read| read.1.len()),
         Form::Parameter => parameter(alloc, room, from).map(|read| read.1.len()),
         Form::States => states(alloc, room, from).map(|read| read.1.len()),
+        Form::Structure => structure(alloc, room, from).map(|read| read.1.len()),
         Form::Transition => transition(alloc, room, from).map(|read| read.1.len()),
     })
 }

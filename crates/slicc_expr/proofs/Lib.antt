@@ -1,3 +1,5 @@
 pub mod Rows
 pub mod Ahead
 pub mod Loops
+pub mod StatementForms
+pub mod Branches

@@ -3,9 +3,9 @@
 -- well-formed machine's statements name no other.
 use Rattle.std.specs.Prelude.{ℕ, Bool, List, [], ◌∷◌, ◌+◌, map, if◌then◌else◌}
 use Rattle.std.specs.Str.{bytes_eq}
-use Rattle.slicc_ast.specs.declared.machine.Machine.{Machine}
-use Rattle.slicc_ast.specs.declared.machine.Transition.{Transition}
-use Rattle.slicc_ast.specs.WellFormed.{state_names, event_names, is_default}
+use Rattle.small_machine.specs.declared.machine.Machine.{Machine}
+use Rattle.small_machine.specs.declared.machine.Transition.{Transition}
+use Rattle.small_machine.specs.WellFormed.{state_names, event_names, is_default}
 use Rattle.slicc_meaning.specs.declared.plan.Plan.{Plan}
 use Rattle.slicc_meaning.specs.declared.plan.MachinePlan.{MachinePlan}
 use Rattle.slicc_meaning.specs.declared.plan.WrittenTransition.{WrittenTransition}

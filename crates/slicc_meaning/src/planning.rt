@@ -1,6 +1,6 @@
 // The plan of a machine: its names by their numbers.
 ghost use Rattle.std.specs.Prelude.{◌≡◌, ◌≤◌, ◌∷◌, [], IfOk, length, map};
-ghost use Rattle.slicc_ast.specs.WellFormed.{IsWellFormed, event_names as event_names_of, is_default as is_default_of, state_names as state_names_of};
+ghost use Rattle.small_machine.specs.WellFormed.{IsWellFormed, event_names as event_names_of, is_default as is_default_of, state_names as state_names_of};
 ghost use Rattle.slicc_meaning.specs.Plan.{machine_plan_of as machine_plan_of_machine, number_of as number_of_name, place_of, plan_of as plan_of_machine, written as written_of};
 
 use crate::single::single;
@@ -8,7 +8,7 @@ use crate::{
     ActionPlan, Dequeue, If, MachinePlan, Peek, Plan, PortPlan, Trigger, WrittenTransition,
 };
 use ruby_base::{NoMemory, Seq, Text};
-use slicc_ast::{Machine, Named, Transition};
+use small_machine::{Machine, Named, Transition};
 use std::alloc::Global;
 
 // The names of declarations, in their order.

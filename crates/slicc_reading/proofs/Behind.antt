@@ -1,18 +1,18 @@
 -- Nodes that begin before what is read of them: with a comma of which it was not known whose it is.
-use Rattle.std.proofs.Common.{◌≡◌, ℕ, ◌≤◌, List, [], length, sym, subst, arith}
+use Rattle.std.proofs.Common.{◌≡◌, ℕ, ◌≤◌, Bool, IsTrue, List, [], length, sym, subst, arith}
 use Rattle.slicc_ast.specs.declared.tree.declaration.Pair.{Pair}
 use Rattle.slicc_ast.specs.declared.tree.span.Span.{Span}
 use Rattle.slicc_ast.specs.declared.tree.token.Sign.TheVariants.{Comma}
 use Rattle.slicc_ast.specs.Declarations.{pair_list}
 use Rattle.slicc_ast.specs.Names.{sign}
-use Rattle.slicc_ast.specs.Outline.{Outline, node, none, Parts, part}
+use Rattle.slicc_ast.specs.Outline.{Outline, node, none, Parts, part, provided}
 use Rattle.grammar_rows.proofs.Steps.{passes_both}
 use Rattle.slicc_grammar.specs.Parts.{Part, ◌▸◌, comma}
 use Rattle.slicc_grammar.specs.Table.{table}
 use Rattle.slicc_lex.specs.declared.token.Token.{Token}
 use Rattle.slicc_lex.specs.Syntax.{symbols}
 use Rattle.slicc_reading.specs.Reading.{AreRead, Covers, IsNode, IsRead}
-use Rattle.slicc_reading.specs.Reading.AreParts.{inside, nothing}
+use Rattle.slicc_reading.specs.Reading.AreParts.{allowed, inside, nothing}
 use Rattle.slicc_reading.specs.Reading.IsNode.{spelled}
 use Rattle.slicc_reading.specs.Reading.{IsSpelledBefore}
 
@@ -53,3 +53,10 @@ pub as_node_behind_two : {room : ℕ} {g : Part} {first second : Outline} {parts
     → IsRead room g (node span (part first (part second (parts none)))) start tokens left
 as_node_behind_two span covers first second r =
     record { passes = r.passes; is_node = spelled covers (inside first (inside second (r.spells none _ nothing))); within = r.within }
+
+-- the same under a condition that holds
+pub as_allowed_behind_two : {room : ℕ} {g : Part} {first second : Outline} {parts : Parts → Parts} {start between tokens left : List Token} {condition : Bool} (span : Span)
+    → Covers span start left → IsTrue condition → IsNode first start between → IsNode second between tokens → AreRead room g parts tokens left
+    → IsRead room g (node span (provided condition (part first (part second (parts none))))) start tokens left
+as_allowed_behind_two span covers holds first second r =
+    record { passes = r.passes; is_node = spelled covers (allowed holds (inside first (inside second (r.spells none _ nothing)))); within = r.within }

@@ -104,13 +104,21 @@ never_short n limit at tokens from inner lt is ended (too_short within begins no
     let last = ended_from at tokens from lt is ended in
     never_ended n from last.front last.last inner last.split last.is_end begins
 
+-- the fault of a form that is never too short
+pub fault_unless_short : (n : Form) (depth at : ℕ) (tokens from : List Token) (fault : Fault)
+    → (IsFirstFault written (nesting_limit - depth) n (symbols from) Short → ⊥)
+    → at < length tokens → from ≡ drop at tokens
+    → Refuses (nesting_limit - depth) (of n) from fault → IsFaultFrom n depth tokens at (placed (length tokens) fault)
+fault_unless_short n depth at tokens from fault never lt is no_memory = tt
+fault_unless_short n depth at tokens from fault never lt is (stops stop fails (is_bad {rest = rest})) =
+    bad_at n depth at tokens from rest lt is (failed (nesting_limit - depth) n (symbols from) (Bad rest) fails)
+fault_unless_short n depth at tokens from fault never lt is (stops stop fails (is_deep {rest = rest})) =
+    deep_at n depth at tokens from rest lt is (failed (nesting_limit - depth) n (symbols from) (Deep rest) fails)
+fault_unless_short n depth at tokens from fault never lt is (stops stop fails is_short) =
+    absurd (never (failed (nesting_limit - depth) n (symbols from) Short fails))
+
 pub fault_from : (n : Form) (depth at : ℕ) (tokens from : List Token) (fault : Fault) → is_inner n ≡ true
     → at < length tokens → from ≡ drop at tokens → AreEnded tokens
     → Refuses (nesting_limit - depth) (of n) from fault → IsFaultFrom n depth tokens at (placed (length tokens) fault)
-fault_from n depth at tokens from fault inner lt is ended no_memory = tt
-fault_from n depth at tokens from fault inner lt is ended (stops stop fails (is_bad {rest = rest})) =
-    bad_at n depth at tokens from rest lt is (failed (nesting_limit - depth) n (symbols from) (Bad rest) fails)
-fault_from n depth at tokens from fault inner lt is ended (stops stop fails (is_deep {rest = rest})) =
-    deep_at n depth at tokens from rest lt is (failed (nesting_limit - depth) n (symbols from) (Deep rest) fails)
-fault_from n depth at tokens from fault inner lt is ended (stops stop fails is_short) =
-    absurd (never_short n (nesting_limit - depth) at tokens from inner lt is ended (failed (nesting_limit - depth) n (symbols from) Short fails))
+fault_from n depth at tokens from fault inner lt is ended r =
+    fault_unless_short n depth at tokens from fault (never_short n (nesting_limit - depth) at tokens from inner lt is ended) lt is r

@@ -138,7 +138,7 @@ endless (outside {row = row} {rows = rows} m) e es =
     let parts = and_parts (is_endless row) (are_endless rows) es in
     endless m parts.0 parts.1
 
-has_last : (front : List Token) (last : Token) → last.kind ≡ End → has (symbols (front ++ last ∷ [])) end_of_text ≡ true
+pub has_last : (front : List Token) (last : Token) → last.kind ≡ End → has (symbols (front ++ last ∷ [])) end_of_text ≡ true
 has_last [] last is = subst (λ k. has (kind_of k ∷ []) end_of_text ≡ true) (sym is) refl
 has_last (t ∷ front) last is = later (kind_of t.kind == end_of_text) (has (symbols (front ++ last ∷ [])) end_of_text) (has_last front last is)
 

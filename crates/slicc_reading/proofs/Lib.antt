@@ -8,3 +8,5 @@ pub mod Behind
 pub mod Spelled
 pub mod Endless
 pub mod Border
+pub mod FirstTokens
+pub mod BalancedParts

@@ -21,7 +21,7 @@ use Rattle.slicc_lex.specs.declared.token.Token.{Token}
 use Rattle.slicc_lex.specs.Syntax.{symbols}
 use Rattle.slicc_reading.specs.declared.fault.Fault.{Fault}
 use Rattle.slicc_reading.specs.declared.fault.Fault.TheVariants.{Deep as TooDeep}
-use Rattle.slicc_reading.specs.Reading.{Covers, IsNode, IsRead, AreRead, IsStopOf, Refuses}
+use Rattle.slicc_reading.specs.Reading.{AreParts, Covers, IsNode, IsRead, AreRead, IsStopOf, Refuses}
 use Rattle.slicc_reading.specs.Reading.IsNode.{spelled}
 use Rattle.slicc_reading.specs.Reading.AreParts.{nothing, one, inside, allowed}
 use Rattle.slicc_reading.specs.Reading.Refuses.{no_memory, stops}
@@ -159,6 +159,12 @@ string_read room text found t tokens left is same copy =
 pub as_tree : {room : ℕ} {g : Part} {o : Outline} {start tokens left : List Token} (outline : Outline)
     → outline ≡ o → IsRead room g o start tokens left → IsRead room g outline start tokens left
 as_tree {room = room} {g = g} {start = start} {tokens = tokens} {left = left} outline is r = subst (λ x. IsRead room g x start tokens left) (sym is) r
+
+-- the same of parts
+pub as_parts : {room : ℕ} {g : Part} {p : Parts → Parts} {tokens left : List Token} (parts : Parts → Parts)
+    → ((others : Parts) → p others ≡ parts others) → AreRead room g p tokens left → AreRead room g parts tokens left
+as_parts {tokens = tokens} parts same r =
+    record { passes = r.passes; spells = λ others end m. subst (λ q. AreParts q tokens end) (same others) (r.spells others end m); within = r.within }
 
 -- a result that is a call's own
 pub match_map : {A E : Type 0} {P R : A → Type 0} {Q S : E → Type 0} (r : Result A E)

@@ -1,61 +1,75 @@
--- Each part as it is made of the tokens at its front.
-use Rattle.std.proofs.Common.{◌≡◌, ℕ, List}
-use Rattle.slicc_ast.specs.declared.token.Token.{Token}
-use Rattle.slicc_ast.specs.declared.machine.State.{State}
-use Rattle.slicc_ast.specs.declared.machine.States.{States}
-use Rattle.slicc_ast.specs.declared.machine.Event.{Event}
-use Rattle.slicc_ast.specs.declared.machine.Events.{Events}
-use Rattle.slicc_ast.specs.declared.machine.InPort.{InPort}
-use Rattle.slicc_ast.specs.declared.machine.Action.{Action}
-use Rattle.slicc_ast.specs.declared.machine.Transition.{Transition}
-use Rattle.small_form.specs.Parsing.{text_at}
+-- The members of a machine's lists as the small form has them.
+use Rattle.std.proofs.Common.{◌≡◌, ◌∙◌, ℕ, List, [], ◌∷◌, Option, Some, None, codes, refl}
+use Rattle.slicc_ast.specs.declared.tree.token.Word.TheVariants.{Transition as TransitionWord}
+use Rattle.slicc_ast.specs.declared.tree.token.Sign.TheVariants.{OpenBrace, CloseBrace, OpenParenthesis, CloseParenthesis, Semicolon, Colon, Comma}
+use Rattle.slicc_ast.specs.declared.tree.span.Span.{Span}
+use Rattle.slicc_ast.specs.declared.tree.name.Name.{Name}
+use Rattle.slicc_ast.specs.declared.tree.declaration.Pair.{Pair}
+use Rattle.slicc_ast.specs.declared.tree.machine.Names.{Names}
+use Rattle.slicc_ast.specs.declared.tree.machine.Names.TheVariants.{One, Several}
+use Rattle.slicc_ast.specs.Declarations.{pair_list as pair_parts}
+use Rattle.slicc_ast.specs.Machines.{names as names_parts, next_parts, action_list}
+use Rattle.slicc_ast.specs.Names.{word, sign}
+use Rattle.slicc_ast.specs.Outline.{Outline, node, Parts, none, part, shape_of}
+use Rattle.small_machine.specs.declared.machine.Event.{Event}
+use Rattle.small_machine.specs.declared.machine.State.{State}
+use Rattle.small_machine.specs.declared.machine.Transition.{Transition}
+use Rattle.small_form.specs.Found.{IsFound}
+use Rattle.small_form.specs.Shapes.{named, pairs, described, event, state, transition}
+use Rattle.small_form.proofs.Bodies.{same_pairs}
+use Rattle.small_form.proofs.Finding.{unfound, is_found, missing}
 
-abbrev pub make_state : List Token → State
-make_state ts = record { name = text_at ts 0; permission = text_at ts 4; description = text_at ts 8 }
+-- events
+abbrev pub event_view : List ℕ → List Outline → Parts
+event_view called attributes = named called (pairs attributes (sign Semicolon none))
 
-pub state_made : (ts : List Token) (name permission description : List ℕ) → name ≡ text_at ts 0 → permission ≡ text_at ts 4 → description ≡ text_at ts 8 → let state : State = record { name = name; permission = permission; description = description } in state ≡ make_state ts
-state_made ts name permission description n p d = cc
+event_parts : (whole : Parts) (called : List ℕ) (attributes : List Outline) (e : Event) → whole ≡ event_view called attributes → whole ≡ event e none → (called ≡ e.name) × (attributes ≡ described e.description)
+event_parts whole called attributes e is same = (cc, same_pairs attributes (described e.description) (cc))
 
-abbrev pub make_event : List Token → Event
-make_event ts = record { name = text_at ts 0; description = text_at ts 4 }
+pub no_event : (whole : Parts) (called : List ℕ) (attributes : List Outline) → whole ≡ event_view called attributes → IsFound attributes described None → IsFound whole (λ e. event e none) None
+no_event whole called attributes is gone = unfound whole (λ e. event e none) (λ e same.
+    missing attributes described None gone refl e.description (event_parts whole called attributes e is same).1)
 
-pub event_made : (ts : List Token) (name description : List ℕ) → name ≡ text_at ts 0 → description ≡ text_at ts 4 → let event : Event = record { name = name; description = description } in event ≡ make_event ts
-event_made ts name description n d = cc
+pub same_event : (e f : Event) → e.name ≡ f.name → e.description ≡ f.description → e ≡ f
+same_event e f called text = λ i. record { name = called i; description = text i }
 
-abbrev pub make_transition : List Token → Transition
-make_transition ts = record { state = text_at ts 2; event = text_at ts 4; next = text_at ts 6; action = text_at ts 9 }
+pub an_event : (whole : Parts) (called text : List ℕ) (attributes : List Outline) (e : Event) → whole ≡ event_view called attributes → IsFound attributes described (Some text) → e.name ≡ called → e.description ≡ text → IsFound whole (λ e. event e none) (Some e)
+an_event whole called text attributes e is found a b =
+    let d : attributes ≡ described text = found.sound in
+    is_found whole (λ e. event e none) e (cc) (λ f same.
+    let there = event_parts whole called attributes f is same in
+    let g : Some text ≡ Some f.description = found.only f.description there.1 in
+    same_event e f (a ∙ there.0) (b ∙ (cc)))
 
-pub transition_made : (ts : List Token) (state event next action : List ℕ) → state ≡ text_at ts 2 → event ≡ text_at ts 4 → next ≡ text_at ts 6 → action ≡ text_at ts 9 → let transition : Transition = record { state = state; event = event; next = next; action = action } in transition ≡ make_transition ts
-transition_made ts state event next action s e n a = cc
+-- states
+abbrev pub state_view : List ℕ → List ℕ → List ℕ → List Outline → Parts
+state_view called owner permission attributes =
+    named called (sign Comma (named owner (sign Colon (named permission (pairs attributes (sign Semicolon none))))))
 
--- a port of its names: its own, that of its `if`, that of its `peek`, and the event
-abbrev pub port_of : List ℕ → List ℕ → List ℕ → List ℕ → InPort
-port_of name ready peeked event = record { name = name; body = record { port = ready; then = record { port = peeked; then = record { event = event } } } }
+state_parts : (whole : Parts) (called owner permission : List ℕ) (attributes : List Outline) (s : State) → whole ≡ state_view called owner permission attributes → whole ≡ state s none → (called ≡ s.name) × (permission ≡ s.permission) × (attributes ≡ described s.description)
+state_parts whole called owner permission attributes s is same = (cc, cc, same_pairs attributes (described s.description) (cc))
 
-abbrev pub make_port : List Token → InPort
-make_port ts = port_of (text_at ts 2) (text_at ts 11) (text_at ts 23) (text_at ts 32)
+pub no_state : (whole : Parts) (called owner permission : List ℕ) (attributes : List Outline) → whole ≡ state_view called owner permission attributes → IsFound attributes described None → IsFound whole (λ s. state s none) None
+no_state whole called owner permission attributes is gone = unfound whole (λ s. state s none) (λ s same.
+    missing attributes described None gone refl s.description (state_parts whole called owner permission attributes s is same).2)
 
-pub port_made : (ts : List Token) (name ready peeked event : List ℕ) → name ≡ text_at ts 2 → ready ≡ text_at ts 11 → peeked ≡ text_at ts 23 → event ≡ text_at ts 32 → port_of name ready peeked event ≡ make_port ts
-port_made ts name ready peeked event n r p e = cc
+pub same_state : (s t : State) → s.name ≡ t.name → s.permission ≡ t.permission → s.description ≡ t.description → s ≡ t
+same_state s t called allowed text = λ i. record { name = called i; permission = allowed i; description = text i }
 
--- an action of its texts: its name, short name and description, and the port that it dequeues
-abbrev pub action_of : List ℕ → List ℕ → List ℕ → List ℕ → Action
-action_of name short description port = record { name = name; short = short; description = description; body = record { port = port } }
+pub a_state : (whole : Parts) (called owner permission text : List ℕ) (attributes : List Outline) (s : State) → whole ≡ state_view called owner permission attributes → owner ≡ codes "AccessPermission" → IsFound attributes described (Some text) → s.name ≡ called → s.permission ≡ permission → s.description ≡ text → IsFound whole (λ s. state s none) (Some s)
+a_state whole called owner permission text attributes s is owned found a b d =
+    let e : attributes ≡ described text = found.sound in
+    is_found whole (λ s. state s none) s (cc) (λ t same.
+    let there = state_parts whole called owner permission attributes t is same in
+    let g : Some text ≡ Some t.description = found.only t.description there.2 in
+    same_state s t (a ∙ there.0) (b ∙ there.1) (d ∙ (cc)))
 
-abbrev pub make_action : List Token → Action
-make_action ts = action_of (text_at ts 2) (text_at ts 4) (text_at ts 8) (text_at ts 11)
-
-pub action_made : (ts : List Token) (name short description port : List ℕ) → name ≡ text_at ts 2 → short ≡ text_at ts 4 → description ≡ text_at ts 8 → port ≡ text_at ts 11 → action_of name short description port ≡ make_action ts
-action_made ts name short description port n s d p = cc
-
-abbrev pub make_states : List Token → List State → States
-make_states ts members = record { description = text_at ts 6; default = text_at ts 10; members = members }
-
-pub states_made : (ts : List Token) (members : List State) (description default : List ℕ) → description ≡ text_at ts 6 → default ≡ text_at ts 10 → let states : States = record { description = description; default = default; members = members } in states ≡ make_states ts members
-states_made ts members description default d f = cc
-
-abbrev pub make_events : List Token → List Event → Events
-make_events ts members = record { description = text_at ts 6; members = members }
-
-pub events_made : (ts : List Token) (members : List Event) (description : List ℕ) → description ≡ text_at ts 6 → let events : Events = record { description = description; members = members } in events ≡ make_events ts members
-events_made ts members description d = cc
+-- transitions
+pub transition_parts : (states events : Names) (next : Option Name) (inner outer : Span) (ps : List Pair) (actions : List Name) (t : Transition) → shape_of (node outer (word TransitionWord (sign OpenParenthesis (names_parts states (sign Comma (names_parts events (next_parts next (part (node inner (pair_parts ps)) (sign CloseParenthesis (sign OpenBrace (action_list actions (sign CloseBrace none)))))))))))) ≡ transition t → (ps ≡ []) × (a : Name) × (actions ≡ a ∷ [])
+transition_parts (One s) (One e) (Some n) inner outer [] (a ∷ []) t same = (refl, a, refl)
+transition_parts (One s) (One e) (Some n) inner outer [] [] t same = absurd (cc)
+transition_parts (One s) (One e) (Some n) inner outer [] (a ∷ b ∷ others) t same = absurd (cc)
+transition_parts (One s) (One e) (Some n) inner outer (p ∷ ps) actions t same = absurd (cc)
+transition_parts (One s) (One e) None inner outer ps actions t same = absurd (cc)
+transition_parts (One s) (Several es span) next inner outer ps actions t same = absurd (cc)
+transition_parts (Several ss span) events next inner outer ps actions t same = absurd (cc)

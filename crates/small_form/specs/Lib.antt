@@ -1,2 +1,5 @@
-pub mod Lexing
-pub mod Parsing
+pub mod Spelling
+pub mod SmallForm
+pub mod Shapes
+pub mod Found
+pub mod Outlines

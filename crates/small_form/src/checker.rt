@@ -1,12 +1,12 @@
 ghost use Rattle.std.specs.Prelude.{◌≡◌, ◌↔◌, ◌++◌, List, ℕ, IsTrue, map, codes};
 ghost use Rattle.std.specs.List.{list_any, list_all};
 ghost use Rattle.std.specs.Str.{bytes_eq};
-ghost use Rattle.slicc_ast.specs.WellFormed.{is_among, are_distinct, are_single, is_declared, is_default, is_same_pair, permissions, state_names, event_names, AreStatesWellFormed, AreEventsWellFormed, AreBodiesWellFormed, AreNamesWellFormed, AreTransitionsWellFormed, IsWellFormed};
-ghost use Rattle.slicc_ast.specs.declared.machine.State.{State as StateTree};
+ghost use Rattle.small_machine.specs.WellFormed.{is_among, are_distinct, are_single, is_declared, is_default, is_same_pair, permissions, state_names, event_names, AreStatesWellFormed, AreEventsWellFormed, AreBodiesWellFormed, AreNamesWellFormed, AreTransitionsWellFormed, IsWellFormed};
+ghost use Rattle.small_machine.specs.declared.machine.State.{State as StateTree};
 
 use crate::items::split_front;
 use crate::words::is_permission;
-use slicc_ast::{Machine, Named, State, Transition};
+use small_machine::{Machine, Named, State, Transition};
 
 /// The most states, and the most events, of a machine. The limit is this project's own.
 const MOST_MEMBERS: usize = 256;

@@ -1,39 +1,44 @@
-//! Reads the bytes of a protocol of the small form as its tree. The bytes are read as tokens and these as a tree by the
-//! grammar, which is then checked for the conditions that the grammar doesn't state.
+//! Reads a protocol's tree as the machine of the small form that it is. The tree's parts are compared with those of the small
+//! form, which gives the machine, and the machine is then checked for the conditions that the grammar doesn't state.
 #![tactic(auto)]
 
-ghost use Rattle.std.specs.Prelude.{◌≡◌, IfOk, Option, Some};
+ghost use Rattle.std.specs.Prelude.{◌≡◌, IfOk, IsTrue, Option, Some};
 ghost use Rattle.std.specs.Option.{IfSome};
-ghost use Rattle.slicc_ast.specs.declared.machine.Machine.{Machine as Tree};
-ghost use Rattle.slicc_ast.specs.SmallForm.{IsSmallForm};
+ghost use Rattle.slicc_ast.specs.Outline.{is_allowed};
+ghost use Rattle.slicc_ast.specs.Trees.{tree as tree_outline};
+ghost use Rattle.small_machine.specs.declared.machine.Machine.{Machine as SmallMachine};
+ghost use Rattle.small_form.specs.SmallForm.{IsSmallForm};
 
-mod bytes;
+mod attributes;
 mod checker;
-mod grammar;
+mod declarations;
+mod expressions;
+mod heads;
 mod items;
 mod laws;
-mod lexer;
-mod parser;
-mod pattern;
+mod lists;
+mod machine;
+mod members;
+mod statements;
 mod words;
 
 use checker::is_well_formed;
-pub use laws::trees_are_one;
-use lexer::tokens;
-use parser::machine;
+pub use laws::machines_are_one;
+use machine::found;
 use ruby_base::NoMemory;
-use slicc_ast::Machine;
+use slicc_ast::tree::Tree;
+use small_machine::Machine;
 use std::alloc::Global;
 
-/// Reads bytes as a machine of the small form: its tree where they are one's, and `None` where they are of another form.
-pub fn read_machine(alloc: Global, bytes: &[u8]) -> Result<Option<Machine>, NoMemory>
-    ensures sound { IfOk result (λ found. IfSome found (IsSmallForm bytes.now)) }
-    ensures only { IfOk result (λ (found : Option Tree). (m : Tree) → IsSmallForm bytes.now m → found ≡ Some m) }
+/// The machine of the small form that the tree is, and `None` where the tree is of another form. The tree is one that keeps
+/// the conditions of the grammar, as each does that tokens spell.
+pub fn machine_of(alloc: Global, tree: &Tree) -> Result<Option<Machine>, NoMemory>
+    requires { IsTrue (is_allowed (tree_outline tree.now)) }
+    ensures sound { IfOk result (λ found. IfSome found (IsSmallForm tree.now)) }
+    ensures only { IfOk result (λ (found : Option SmallMachine).
+        (m : SmallMachine) → IsSmallForm tree.now m → found ≡ Some m) }
 {
-    let Some(tokens) = tokens(alloc, bytes)? else {
-        return Ok(None);
-    };
-    let Some(found) = machine(alloc, tokens.as_slice())? else {
+    let Some(found) = found(alloc, tree)? else {
         return Ok(None);
     };
     if is_well_formed(&found) {
@@ -42,6 +47,3 @@ pub fn read_machine(alloc: Global, bytes: &[u8]) -> Result<Option<Machine>, NoMe
         Ok(None)
     }
 }
-
-#[cfg(test)]
-mod tests;

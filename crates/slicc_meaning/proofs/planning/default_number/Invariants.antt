@@ -1,5 +1,5 @@
 use Rattle.std.proofs.Common.{◌≡◌, ◌+◌, drop}
-use Rattle.slicc_ast.specs.WellFormed.{is_default}
+use Rattle.small_machine.specs.WellFormed.{is_default}
 use Rattle.slicc_meaning.specs.Plan.{place_of}
 use Rattle.slicc_meaning.proofs.planning.default_number.Given as goal
 

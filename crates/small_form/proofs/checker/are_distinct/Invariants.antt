@@ -1,5 +1,5 @@
 use Rattle.std.proofs.Common.{◌≡◌, length, map}
-use Rattle.slicc_ast.specs.WellFormed.{are_distinct}
+use Rattle.small_machine.specs.WellFormed.{are_distinct}
 use Rattle.small_form.proofs.checker.are_distinct.Given as goal
 
 abbrev pub invariant-loop-first : goal.invariant-loop-first

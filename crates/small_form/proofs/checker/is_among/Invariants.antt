@@ -1,5 +1,5 @@
 use Rattle.std.proofs.Common.{◌≡◌, length, map}
-use Rattle.slicc_ast.specs.WellFormed.{is_among}
+use Rattle.small_machine.specs.WellFormed.{is_among}
 use Rattle.small_form.proofs.checker.is_among.Given as goal
 
 abbrev pub invariant-loop-member : goal.invariant-loop-member

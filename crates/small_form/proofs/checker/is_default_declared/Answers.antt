@@ -1,7 +1,7 @@
 use Rattle.std.proofs.Common.{◌++◌, List, ℕ, None, Some, codes, ap, ap₂, sym, ◌∙◌}
 use Rattle.std.proofs.lemmas.Bool.Decides.{Decides-eqb}
 use Rattle.std.proofs.lemmas.Slice.Eq.{strip_prefix_is}
-use Rattle.slicc_ast.specs.WellFormed.{state_names}
+use Rattle.small_machine.specs.WellFormed.{state_names}
 use Rattle.small_form.proofs.Checked.{default_of_none, default_of_state, default_of_other}
 use Rattle.small_form.proofs.checker.is_default_declared.Goals as goal
 

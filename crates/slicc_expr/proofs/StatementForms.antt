@@ -1,0 +1,37 @@
+-- How statements are read by their words.
+use Rattle.std.proofs.Common.{◌≡◌, ℕ, true, false, List, [], ◌∷◌, refl, sym, subst}
+use Rattle.slicc_ast.specs.declared.tree.statement.PrintWord.{PrintWord}
+use Rattle.slicc_ast.specs.declared.tree.statement.PrintWord.TheVariants.{Dprintf, AppendTransitionComment}
+use Rattle.slicc_ast.specs.declared.tree.token.TokenKind.TheVariants.{Word as WordOf}
+use Rattle.slicc_ast.specs.Names.{word}
+use Rattle.slicc_ast.specs.Statements.{print_word as print_word_of}
+use Rattle.grammar_rows.specs.Kinds.{has, is_ahead}
+use Rattle.slicc_grammar.specs.TokenKinds.{kind_of, word_kind}
+use Rattle.slicc_ast.specs.declared.tree.token.Word.TheVariants.{StallAndWait, CheckAllocate, Error, Assert}
+use Rattle.slicc_lex.specs.declared.token.Token.{Token}
+use Rattle.slicc_lex.specs.Syntax.{symbols}
+use Rattle.slicc_reading.specs.Reading.{AreRead}
+use Rattle.slicc_reading.proofs.FirstTokens.{later_kind}
+use Rattle.slicc_reading.proofs.Parts.{token_read}
+use Rattle.slicc_expr.specs.StatementParts.{IsPrintWord, calling_words, print_kinds, print_word}
+
+is_print_kind : (which : PrintWord) → has print_kinds (word_kind (print_word_of which)) ≡ true
+is_print_kind Dprintf = refl
+is_print_kind AppendTransitionComment = refl
+
+pub print_word_read : (room : ℕ) (which : PrintWord) (t : Token) (tokens left : List Token)
+    → tokens ≡ t ∷ left → IsPrintWord t.kind which → AreRead room print_word (word (print_word_of which)) tokens left
+print_word_read room which t tokens left is same =
+    token_read room print_kinds (WordOf (print_word_of which)) t tokens left is
+    (subst (λ k. has print_kinds (kind_of k) ≡ true) (sym same) (is_print_kind which)) same
+
+pub print_ahead : (tokens : List Token) → is_ahead calling_words (symbols tokens) ≡ true
+    → is_ahead (word_kind StallAndWait ∷ []) (symbols tokens) ≡ false → is_ahead (word_kind CheckAllocate ∷ []) (symbols tokens) ≡ false
+    → is_ahead (word_kind Error ∷ []) (symbols tokens) ≡ false → is_ahead (word_kind Assert ∷ []) (symbols tokens) ≡ false
+    → is_ahead print_kinds (symbols tokens) ≡ true
+print_ahead tokens some stall check error assert =
+    later_kind (word_kind Assert ∷ []) print_kinds (symbols tokens)
+    (later_kind (word_kind Error ∷ []) (word_kind Assert ∷ print_kinds) (symbols tokens)
+    (later_kind (word_kind CheckAllocate ∷ []) (word_kind Error ∷ word_kind Assert ∷ print_kinds) (symbols tokens)
+    (later_kind (word_kind StallAndWait ∷ []) (word_kind CheckAllocate ∷ word_kind Error ∷ word_kind Assert ∷ print_kinds) (symbols tokens) some stall)
+    check) error) assert

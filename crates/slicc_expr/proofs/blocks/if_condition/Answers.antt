@@ -1,0 +1,11 @@
+use Rattle.slicc_reading.proofs.Parts.{◌then◌, at_first, behind, match_map}
+use Rattle.slicc_expr.specs.StatementParts.{condition}
+use Rattle.slicc_expr.proofs.blocks.if_condition.Goals as goal
+
+pub returns-in-Ok-clause-read : goal.returns-in-Ok-clause-read
+returns-in-Ok-clause-read c =
+    match_map c.condition.result c.condition.ensures.read (λ read is. c.in-Ok.ensures.read then is) (λ fault is. behind c.in-Ok.ensures.read is)
+
+pub returns-in-Err-clause-read : goal.returns-in-Err-clause-read
+returns-in-Err-clause-read c =
+    at_first condition c.in-Err.ensures.read

@@ -1,0 +1,12 @@
+use Rattle.slicc_grammar.specs.Form.{Form}
+use Rattle.slicc_grammar.specs.Parts.{of}
+use Rattle.slicc_reading.proofs.Parts.{at_first, behind_read, match_map, read_behind}
+use Rattle.slicc_expr.proofs.plain_statements.name_statement.Goals as goal
+
+pub returns-in-Ok-clause-read : goal.returns-in-Ok-clause-read
+returns-in-Ok-clause-read c =
+    match_map c.behind_name.result c.behind_name.ensures (λ read is. read_behind c.in-Ok.ensures.read is) (λ fault is. behind_read c.in-Ok.ensures.read is)
+
+pub returns-in-Err-clause-read : goal.returns-in-Err-clause-read
+returns-in-Err-clause-read c =
+    at_first (of Form.statement_end) c.in-Err.ensures.read

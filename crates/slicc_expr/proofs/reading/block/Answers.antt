@@ -1,0 +1,21 @@
+use Rattle.std.proofs.Common.{refl, sym, ◌∙◌, drop, length, ◌-◌, subst, ap}
+use Rattle.slicc_ast.specs.Statements.{block_outline}
+use Rattle.slicc_grammar.specs.Form.Form.{block}
+use Rattle.slicc_grammar.specs.Parts.{of}
+use Rattle.slicc_reading.specs.Answers.{IsFaultFrom, placed}
+use Rattle.slicc_reading.specs.Reading.{IsRead, Refuses}
+use Rattle.slicc_reading.proofs.Border.{read_from, fault_from}
+use Rattle.slicc_expr.proofs.reading.block.Goals as goal
+
+pub returns-in-Ok : goal.returns-in-Ok
+returns-in-Ok c =
+    read_from block c.args.depth c.args.at c.place.result c.args.tokens.now c.split_at.result.1.now c.in-Ok.left.now (block_outline c.in-Ok.tree)
+    c.requires.place (c.split_at.ensures.back ∙ ap (λ ts. drop c.args.at ts) c.as_slice.ensures) (c.place.ensures ∙ ap (λ n. n - length c.in-Ok.left.now) c.len-count.ensures)
+    (subst (λ room. IsRead room (of block) (block_outline c.in-Ok.tree) c.split_at.result.1.now c.split_at.result.1.now c.in-Ok.left.now) c.room_within.ensures c.in-Ok.ensures.read)
+
+pub returns-in-Err : goal.returns-in-Err
+returns-in-Err c =
+    subst (λ f. IsFaultFrom block c.args.depth c.args.tokens.now c.args.at f) (sym (c.placed.ensures ∙ ap (λ n. placed n c.in-Err.fault) c.len-count.ensures))
+    (fault_from block c.args.depth c.args.at c.args.tokens.now c.split_at.result.1.now c.in-Err.fault refl
+    c.requires.place (c.split_at.ensures.back ∙ ap (λ ts. drop c.args.at ts) c.as_slice.ensures) c.requires.ended
+    (subst (λ room. Refuses room (of block) c.split_at.result.1.now c.in-Err.fault) c.room_within.ensures c.in-Err.ensures.read))

@@ -1,0 +1,12 @@
+use Rattle.slicc_grammar.specs.Form.{Form}
+use Rattle.slicc_grammar.specs.Parts.{of}
+use Rattle.slicc_reading.proofs.Parts.{◌then◌, as_part, at_first, behind, match_map}
+use Rattle.slicc_expr.proofs.statement_values.comma_value.Goals as goal
+
+pub returns-in-Ok : goal.returns-in-Ok
+returns-in-Ok c =
+    match_map c.expression.result c.expression.ensures.read (λ read is. c.in-Ok.ensures.read then as_part is) (λ fault is. behind c.in-Ok.ensures.read is)
+
+pub returns-in-Err : goal.returns-in-Err
+returns-in-Err c =
+    at_first (of Form.expression) c.in-Err.ensures.read

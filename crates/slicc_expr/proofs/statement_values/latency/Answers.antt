@@ -1,0 +1,17 @@
+use Rattle.std.proofs.Common.{sym}
+use Rattle.grammar_rows.specs.Grammar.Row.{done}
+use Rattle.slicc_reading.proofs.Choices.{absent, fault_in_present, present}
+use Rattle.slicc_expr.specs.StatementParts.{comma_value}
+use Rattle.slicc_expr.proofs.statement_values.latency.Goals as goal
+
+pub returns-then-not-is_sign : goal.returns-then-not-is_sign
+returns-then-not-is_sign c =
+    absent (comma_value done) (sym c.if-not-is_sign.ensures)
+
+pub returns-in-Ok : goal.returns-in-Ok
+returns-in-Ok c =
+    present (sym c.if-not-is_sign.ensures) c.in-Ok.ensures
+
+pub returns-in-Err : goal.returns-in-Err
+returns-in-Err c =
+    fault_in_present (sym c.if-not-is_sign.ensures) c.in-Err.ensures

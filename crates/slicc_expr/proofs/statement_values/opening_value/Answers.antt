@@ -1,0 +1,11 @@
+use Rattle.slicc_grammar.specs.Parts.{operators}
+use Rattle.slicc_reading.proofs.Parts.{at_first, behind_read, match_map, read_behind}
+use Rattle.slicc_expr.proofs.statement_values.opening_value.Goals as goal
+
+pub returns-in-Ok-clause-read : goal.returns-in-Ok-clause-read
+returns-in-Ok-clause-read c =
+    match_map c.operators.result c.operators.ensures.read (λ read is. read_behind c.in-Ok.ensures.read is) (λ fault is. behind_read c.in-Ok.ensures.read is)
+
+pub returns-in-Err-clause-read : goal.returns-in-Err-clause-read
+returns-in-Err-clause-read c =
+    at_first operators c.in-Err.ensures.read

@@ -1,0 +1,241 @@
+-- The parts of statements that are read by functions of their own, each with what it is spelled by.
+use Rattle.std.specs.Prelude.{◌≡◌, ◌&&◌, ℕ, Bool, false, List, [], ◌∷◌, Option, Some, None}
+use Rattle.slicc_ast.specs.declared.tree.balanced.Balanced.{Balanced}
+use Rattle.slicc_ast.specs.declared.tree.declaration.Pairs.{Pairs}
+use Rattle.slicc_ast.specs.declared.tree.expression.Expr.{Expr}
+use Rattle.slicc_ast.specs.declared.tree.name.Name.{Name}
+use Rattle.slicc_ast.specs.declared.tree.name.TypeName.{TypeName}
+use Rattle.slicc_ast.specs.declared.tree.statement.Block.{Block}
+use Rattle.slicc_ast.specs.declared.tree.statement.ElseIf.{ElseIf}
+use Rattle.slicc_ast.specs.declared.tree.statement.PrintWord.{PrintWord}
+use Rattle.slicc_ast.specs.declared.tree.statement.Stmt.{Stmt}
+use Rattle.slicc_ast.specs.declared.tree.token.TokenKind.{TokenKind}
+use Rattle.slicc_ast.specs.declared.tree.token.TokenKind.TheVariants.{Name as Named, Quoted, Word as WordOf}
+use Rattle.slicc_ast.specs.declared.tree.token.Sign.TheVariants.{CloseBrace, OpenParenthesis, CloseParenthesis, Comma, Assign as AssignSign, Colon, Dot, OpenBracket, Star, Plus, Minus, Less, Greater, LessOrEqual, GreaterOrEqual, Equal, Unequal, And, Or, Semicolon}
+use Rattle.slicc_ast.specs.declared.tree.token.Word.TheVariants.{Return as ReturnWord, If as IfWord, Else as ElseWord, Peek as PeekWord, Enqueue as EnqueueWord, StallAndWait as StallAndWaitWord, CheckAllocate as CheckAllocateWord, Error as ErrorWord, Assert as AssertWord, Dprintf, AppendTransitionComment}
+use Rattle.slicc_ast.specs.Declarations.{pairs as pairs_parts}
+use Rattle.slicc_ast.specs.Expressions.{expr}
+use Rattle.slicc_ast.specs.Names.{name as name_parts, sign as sign_of, type_name as type_parts, word as word_of}
+use Rattle.slicc_ast.specs.Outline.{Outline, node, none, Parts, part, token}
+use Rattle.slicc_ast.specs.Statements.{block as block_parts, latency_parts, print_word as print_word_of, stmt_list}
+use Rattle.grammar_rows.specs.Kinds.{has, is_ahead}
+use Rattle.slicc_grammar.specs.Form.Form.{block, expression, name_end, opening, otherwise, statement, suffix}
+use Rattle.slicc_grammar.specs.Parts.{Part, ◌▸◌, assign, balanced, comma, name, of, operators, optional, pairs, parentheses, repeated, semicolon, sign, string, type, word, words}
+use Rattle.slicc_lex.specs.declared.token.Token.{Token}
+use Rattle.slicc_reading.specs.Reading.{IsSpelledBefore, Leads}
+use Rattle.slicc_grammar.specs.TokenKinds.{kind_of, sign_kind, word_kind}
+
+-- a name by itself
+abbrev pub name_outline : Name → Outline
+name_outline n = node n.span (token (Named n.text) none)
+
+-- an expression behind the name that it begins with, and one that doesn't begin with a name
+abbrev pub value_end : Part
+value_end = optional (of name_end) ▸ repeated (of suffix) ▸ operators
+
+abbrev pub opening_value : Part
+opening_value = of opening ▸ operators
+
+-- := expr
+abbrev pub assigned_value : Part
+assigned_value = assign ▸ of expression
+
+abbrev pub assigned_parts : Expr → Parts → Parts
+assigned_parts value others = sign_of AssignSign (part (expr value) others)
+
+-- what is behind the expression that a statement begins with
+abbrev pub expression_end : Part
+expression_end = optional assigned_value ▸ semicolon
+
+-- NAME := expr
+abbrev pub named_value : Part
+named_value = name ▸ assigned_value
+
+abbrev pub named_value_parts : Name → Expr → Parts → Parts
+named_value_parts called value others = name_parts called (assigned_parts value others)
+
+-- ( expr )
+abbrev pub condition : Part
+condition = parentheses (of expression)
+
+abbrev pub condition_parts : Expr → Parts → Parts
+condition_parts e others = sign_of OpenParenthesis (part (expr e) (sign_of CloseParenthesis others))
+
+-- , expr
+abbrev pub comma_value : Part
+comma_value = comma ▸ of expression
+
+abbrev pub comma_value_parts : Expr → Parts → Parts
+comma_value_parts e others = sign_of Comma (part (expr e) others)
+
+-- NAME , expr
+abbrev pub port_value : Part
+port_value = name ▸ comma_value
+
+abbrev pub port_value_parts : Name → Expr → Parts → Parts
+port_value_parts port value others = name_parts port (comma_value_parts value others)
+
+-- NAME ,
+abbrev pub port_and_comma_parts : Name → Parts → Parts
+port_and_comma_parts port others = name_parts port (sign_of Comma others)
+
+-- NAME , type
+abbrev pub port_and_message : Part
+port_and_message = name ▸ comma ▸ type
+
+abbrev pub port_and_message_parts : Name → TypeName → Parts → Parts
+port_and_message_parts port message others = name_parts port (sign_of Comma (type_parts message others))
+
+-- peek ( NAME , type pairs )
+abbrev pub peek_inside : Part
+peek_inside = port_and_message ▸ pairs
+
+abbrev pub peek_inside_parts : Name → TypeName → Pairs → Parts → Parts
+peek_inside_parts port message attributes others =
+    port_and_message_parts port message (pairs_parts attributes others)
+
+abbrev pub peek_parentheses_parts : Name → TypeName → Pairs → Parts → Parts
+peek_parentheses_parts port message attributes others =
+    sign_of OpenParenthesis (peek_inside_parts port message attributes (sign_of CloseParenthesis others))
+
+abbrev pub peek_head : Part
+peek_head = word PeekWord ▸ parentheses peek_inside
+
+abbrev pub peek_head_parts : Name → TypeName → Pairs → Parts → Parts
+peek_head_parts port message attributes others =
+    word_of PeekWord (peek_parentheses_parts port message attributes others)
+
+-- enqueue ( NAME , type [ , expr ] )
+abbrev pub enqueue_inside : Part
+enqueue_inside = port_and_message ▸ optional comma_value
+
+abbrev pub enqueue_inside_parts : Name → TypeName → Option Expr → Parts → Parts
+enqueue_inside_parts port message latency others =
+    port_and_message_parts port message (latency_parts latency others)
+
+abbrev pub enqueue_parentheses_parts : Name → TypeName → Option Expr → Parts → Parts
+enqueue_parentheses_parts port message latency others =
+    sign_of OpenParenthesis (enqueue_inside_parts port message latency (sign_of CloseParenthesis others))
+
+abbrev pub enqueue_head : Part
+enqueue_head = word EnqueueWord ▸ parentheses enqueue_inside
+
+abbrev pub enqueue_head_parts : Name → TypeName → Option Expr → Parts → Parts
+enqueue_head_parts port message latency others =
+    word_of EnqueueWord (enqueue_parentheses_parts port message latency others)
+
+-- the words of a text for a trace
+abbrev pub print_word : Part
+print_word = words (Dprintf ∷ AppendTransitionComment ∷ [])
+
+abbrev pub print_kinds : List ℕ
+print_kinds = word_kind Dprintf ∷ word_kind AppendTransitionComment ∷ []
+
+abbrev pub IsPrintWord : TokenKind → PrintWord → Type 0
+IsPrintWord kind which = kind ≡ WordOf (print_word_of which)
+
+-- if ( expr ) block
+abbrev pub branch : Part
+branch = word IfWord ▸ condition ▸ of block
+
+abbrev pub branch_parts : Expr → Block → Parts → Parts
+branch_parts e then others = word_of IfWord (condition_parts e (block_parts then others))
+
+abbrev pub if_condition : Part
+if_condition = word IfWord ▸ condition
+
+abbrev pub if_condition_parts : Expr → Parts → Parts
+if_condition_parts e others = word_of IfWord (condition_parts e others)
+
+-- else if ( expr ) block
+abbrev pub else_if_parts : ElseIf → Parts → Parts
+else_if_parts e others = word_of ElseWord (branch_parts e.condition e.then others)
+
+-- what is behind a branch, and the parts of a last block where there is one
+abbrev pub branches_end : Part
+branches_end = optional (word ElseWord ▸ of otherwise)
+
+abbrev pub last_parts : Option Block → Parts → Parts
+last_parts None others = others
+last_parts (Some last) others = word_of ElseWord (block_parts last others)
+
+-- further branches, and a last block where there is one
+abbrev pub else_ifs_parts : List ElseIf → Parts → Parts
+else_ifs_parts [] others = others
+else_ifs_parts (first ∷ items) others = else_if_parts first (else_ifs_parts items others)
+
+abbrev pub other_branches_parts : List ElseIf → Option Block → Parts → Parts
+other_branches_parts items last others = else_ifs_parts items (last_parts last others)
+
+-- so many further branches are read, behind which branches may come as behind those before
+pub record AreElseIfs (room : ℕ) (tokens : List Token) (items : List ElseIf) (now : List Token) : Type 0 where
+  pub leads : Leads room branches_end tokens branches_end now
+  pub spells : IsSpelledBefore (else_ifs_parts items) tokens now
+
+-- the first two tokens are `else` and `if`
+abbrev pub is_else_if : List ℕ → Bool
+is_else_if [] = false
+is_else_if (kind ∷ kinds) = has (word_kind ElseWord ∷ []) kind && is_ahead (word_kind IfWord ∷ []) kinds
+
+-- what a statement goes on with behind a name, where it is no declaration
+abbrev pub signs_behind_name : List ℕ
+signs_behind_name =
+    sign_kind Colon ∷ sign_kind OpenParenthesis ∷ sign_kind Dot ∷ sign_kind OpenBracket ∷ sign_kind Star ∷ sign_kind Plus
+    ∷ sign_kind Minus ∷ sign_kind Less ∷ sign_kind Greater ∷ sign_kind LessOrEqual ∷ sign_kind GreaterOrEqual ∷ sign_kind Equal
+    ∷ sign_kind Unequal ∷ sign_kind And ∷ sign_kind Or ∷ sign_kind AssignSign ∷ sign_kind Semicolon ∷ []
+
+-- the words that statements begin with: those that hold blocks, and all
+abbrev pub nesting_words : List ℕ
+nesting_words = word_kind IfWord ∷ word_kind PeekWord ∷ word_kind EnqueueWord ∷ []
+
+abbrev pub calling_words : List ℕ
+calling_words =
+    word_kind StallAndWaitWord ∷ word_kind CheckAllocateWord ∷ word_kind ErrorWord ∷ word_kind AssertWord ∷ print_kinds
+
+abbrev pub statement_words : List ℕ
+statement_words =
+    word_kind ReturnWord ∷ word_kind IfWord ∷ word_kind PeekWord ∷ word_kind EnqueueWord ∷ calling_words
+
+-- statements and what closes their block
+abbrev pub statements_end : Part
+statements_end = repeated (of statement) ▸ sign CloseBrace
+
+abbrev pub statements_parts : List Stmt → Parts → Parts
+statements_parts items others = stmt_list items (sign_of CloseBrace others)
+
+-- statements that hold a block, besides those with branches
+abbrev pub peek_statement : Part
+peek_statement = peek_head ▸ of block
+
+abbrev pub enqueue_statement : Part
+enqueue_statement = enqueue_head ▸ of block
+
+-- return [ expr ] ;
+abbrev pub return_form : Part
+return_form = word ReturnWord ▸ optional (of expression) ▸ semicolon
+
+-- WORD ( .. ) ;
+abbrev pub stall_and_wait : Part
+stall_and_wait = word StallAndWaitWord ▸ parentheses port_value ▸ semicolon
+
+abbrev pub check_allocate : Part
+check_allocate = word CheckAllocateWord ▸ parentheses name ▸ semicolon
+
+abbrev pub error : Part
+error = word ErrorWord ▸ parentheses string ▸ semicolon
+
+abbrev pub assert : Part
+assert = word AssertWord ▸ condition ▸ semicolon
+
+abbrev pub print_statement : Part
+print_statement = print_word ▸ parentheses balanced ▸ semicolon
+
+abbrev pub name_inside_parts : Name → Parts → Parts
+name_inside_parts called others = sign_of OpenParenthesis (name_parts called (sign_of CloseParenthesis others))
+
+abbrev pub text_inside_parts : List ℕ → Parts → Parts
+text_inside_parts text others = sign_of OpenParenthesis (token (Quoted text) (sign_of CloseParenthesis others))
+
+abbrev pub port_value_inside_parts : Name → Expr → Parts → Parts
+port_value_inside_parts port value others =
+    sign_of OpenParenthesis (port_value_parts port value (sign_of CloseParenthesis others))

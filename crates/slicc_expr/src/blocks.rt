@@ -1,0 +1,340 @@
+//! Blocks, and the statements that hold them. A block is read with one more nesting open, so that the cycle of functions goes
+//! no deeper than the nesting may. The statements of a block and the branches behind `else if` are loops.
+ghost use Rattle.std.specs.Prelude.{◌≡◌, ◌∷◌, ◌<◌, [], false, true, length, IfOk, MatchResult};
+ghost use Rattle.grammar_rows.specs.Kinds.{is_ahead};
+ghost use Rattle.slicc_ast.specs.Statements.{block_outline, if_outline, stmt};
+ghost use Rattle.slicc_ast.specs.declared.tree.token.Word.TheVariants.{Else, If as IfWord};
+ghost use Rattle.slicc_grammar.specs.Ahead.{first_of_form};
+ghost use Rattle.slicc_grammar.specs.Form.Form.{block as block_form, conditional as conditional_form, otherwise as otherwise_form, statement as statement_form};
+ghost use Rattle.slicc_grammar.specs.Parts.{◌▸◌, of, word as word_part};
+ghost use Rattle.slicc_grammar.specs.TokenKinds.{word_kind};
+ghost use Rattle.slicc_lex.specs.Syntax.{symbols};
+ghost use Rattle.slicc_reading.specs.Reading.{AreRead, IsRead, Refuses};
+ghost use Rattle.slicc_expr.specs.StatementParts.{AreElseIfs, branch as branch_form, branch_parts, branches_end, else_if_parts, enqueue_statement, if_condition as if_condition_form, if_condition_parts, is_else_if, nesting_words, other_branches_parts, last_parts, peek_statement, statements_end, statements_parts};
+
+use crate::called_statements::called_statement;
+use crate::plain_statements::{name_statement, opening_statement, return_statement};
+use crate::port_heads::{enqueue_head, peek_head};
+use crate::statement_ahead::{begins_else_if, begins_nesting, begins_statement};
+use crate::statement_values::condition;
+use crate::values::begins_opening;
+use slicc_ast::tree::{Block, ElseIf, Expr, If, Sign, Stmt, Word};
+use slicc_lex::Token;
+use slicc_reading::{Fault, is_name, is_sign, is_word, open, refuse, sign, span, word};
+use std::alloc::Global;
+
+/// Statements in braces.
+#[cycle(block)]
+pub fn statement_block(
+    alloc: Global,
+    room: u32,
+    tokens: &[Token],
+) -> Result<(Block, &[Token]), Fault>
+    ensures read { MatchResult result
+        (λ read. IsRead room (of block_form)
+        (block_outline read.0) tokens.now tokens.now read.1.now)
+        (Refuses room (of block_form) tokens.now) }
+    ensures shorter { IfOk result (λ read. length read.1.now < length tokens.now) }
+{
+    if !is_sign(Sign::OpenBrace, tokens) {
+        return Err(refuse(room, tokens));
+    }
+    match open(room, Sign::OpenBrace, tokens) {
+        Ok(inside) => match statements(alloc, room - 1, inside) {
+            Ok((statements, left)) => {
+                let span = span(tokens, left);
+                Ok((Block { statements, span }, left))
+            }
+            Err(fault) => Err(fault),
+        },
+        Err(fault) => Err(fault),
+    }
+}
+
+/// Statements and `}`.
+#[cycle(block)]
+fn statements(alloc: Global, room: u32, tokens: &[Token]) -> Result<(Vec<Stmt>, &[Token]), Fault>
+    ensures { MatchResult result
+        (λ read. AreRead room statements_end
+        (statements_parts read.0.items) tokens.now read.1.now)
+        (Refuses room statements_end tokens.now) }
+{
+    let mut items = Vec::new(alloc);
+    let mut left = tokens;
+    'more: while begins_statement(left) {
+        match statement(alloc, room, left) {
+            Ok((next, after)) => match items.push(next) {
+                Ok(()) => left = after,
+                Err(_) => return Err(Fault::NoMemory),
+            },
+            Err(fault) => return Err(fault),
+        }
+    }
+    match sign(room, Sign::CloseBrace, left) {
+        Ok(behind) => Ok((items, behind)),
+        Err(fault) => Err(fault),
+    }
+}
+
+#[cycle(block)]
+fn statement(alloc: Global, room: u32, tokens: &[Token]) -> Result<(Stmt, &[Token]), Fault>
+    requires { is_ahead (first_of_form statement_form) (symbols tokens.now) ≡ true }
+    ensures read { MatchResult result
+        (λ read. IsRead room (of statement_form) (stmt read.0) tokens.now tokens.now read.1.now)
+        (Refuses room (of statement_form) tokens.now) }
+    ensures shorter { IfOk result (λ read. length read.1.now < length tokens.now) }
+{
+    if is_name(tokens) {
+        return name_statement(alloc, room, tokens);
+    }
+    if begins_opening(tokens) {
+        return opening_statement(alloc, room, tokens);
+    }
+    if is_word(Word::Return, tokens) {
+        return return_statement(alloc, room, tokens);
+    }
+    if begins_nesting(tokens) {
+        return nesting_statement(alloc, room, tokens);
+    }
+    called_statement(alloc, room, tokens)
+}
+
+/// A statement that holds a block.
+#[cycle(block)]
+fn nesting_statement(alloc: Global, room: u32, tokens: &[Token]) -> Result<(Stmt, &[Token]), Fault>
+    requires { is_ahead nesting_words (symbols tokens.now) ≡ true }
+    ensures read { MatchResult result
+        (λ read. IsRead room (of statement_form) (stmt read.0) tokens.now tokens.now read.1.now)
+        (Refuses room (of statement_form) tokens.now) }
+    ensures shorter { IfOk result (λ read. length read.1.now < length tokens.now) }
+{
+    if is_word(Word::If, tokens) {
+        return match conditional(alloc, room, tokens) {
+            Ok((branches, left)) => Ok((Stmt::If(branches), left)),
+            Err(fault) => Err(fault),
+        };
+    }
+    if is_word(Word::Peek, tokens) {
+        return peek(alloc, room, tokens);
+    }
+    enqueue(alloc, room, tokens)
+}
+
+#[cycle(block)]
+fn peek(alloc: Global, room: u32, tokens: &[Token]) -> Result<(Stmt, &[Token]), Fault>
+    ensures read { MatchResult result
+        (λ read. IsRead room peek_statement (stmt read.0) tokens.now tokens.now read.1.now)
+        (Refuses room peek_statement tokens.now) }
+    ensures shorter { IfOk result (λ read. length read.1.now < length tokens.now) }
+{
+    match peek_head(alloc, room, tokens) {
+        Ok((port, message, pairs, behind)) => match statement_block(alloc, room, behind) {
+            Ok((body, left)) => {
+                let span = span(tokens, left);
+                Ok((
+                    Stmt::Peek {
+                        port,
+                        message,
+                        pairs,
+                        body,
+                        span,
+                    },
+                    left,
+                ))
+            }
+            Err(fault) => Err(fault),
+        },
+        Err(fault) => Err(fault),
+    }
+}
+
+#[cycle(block)]
+fn enqueue(alloc: Global, room: u32, tokens: &[Token]) -> Result<(Stmt, &[Token]), Fault>
+    ensures read { MatchResult result
+        (λ read. IsRead room enqueue_statement (stmt read.0) tokens.now tokens.now read.1.now)
+        (Refuses room enqueue_statement tokens.now) }
+    ensures shorter { IfOk result (λ read. length read.1.now < length tokens.now) }
+{
+    match enqueue_head(alloc, room, tokens) {
+        Ok((port, message, latency, behind)) => match statement_block(alloc, room, behind) {
+            Ok((body, left)) => {
+                let span = span(tokens, left);
+                Ok((
+                    Stmt::Enqueue {
+                        port,
+                        message,
+                        latency,
+                        body,
+                        span,
+                    },
+                    left,
+                ))
+            }
+            Err(fault) => Err(fault),
+        },
+        Err(fault) => Err(fault),
+    }
+}
+
+/// `if`, its branches, and those behind `else`.
+#[cycle(block)]
+fn conditional(alloc: Global, room: u32, tokens: &[Token]) -> Result<(If, &[Token]), Fault>
+    requires { is_ahead (word_kind IfWord ∷ []) (symbols tokens.now) ≡ true }
+    ensures read { MatchResult result
+        (λ read. IsRead room (of conditional_form)
+        (if_outline read.0) tokens.now tokens.now read.1.now)
+        (Refuses room (of conditional_form) tokens.now) }
+    ensures shorter { IfOk result (λ read. length read.1.now < length tokens.now) }
+{
+    match if_branch(alloc, room, tokens) {
+        Ok((condition, then, behind)) => match other_branches(alloc, room, behind) {
+            Ok((others, otherwise, left)) => {
+                let span = span(tokens, left);
+                Ok((
+                    If {
+                        condition,
+                        then,
+                        others,
+                        otherwise,
+                        span,
+                    },
+                    left,
+                ))
+            }
+            Err(fault) => Err(fault),
+        },
+        Err(fault) => Err(fault),
+    }
+}
+
+/// `if` and a condition.
+fn if_condition(alloc: Global, room: u32, tokens: &[Token]) -> Result<(Expr, &[Token]), Fault>
+    ensures read { MatchResult result
+        (λ read. AreRead room if_condition_form
+        (if_condition_parts read.0) tokens.now read.1.now)
+        (Refuses room if_condition_form tokens.now) }
+    ensures shorter { IfOk result (λ read. length read.1.now < length tokens.now) }
+{
+    match word(room, Word::If, tokens) {
+        Ok(behind) => condition(alloc, room, behind),
+        Err(fault) => Err(fault),
+    }
+}
+
+/// `if`, a condition and a block.
+#[cycle(block)]
+fn if_branch(alloc: Global, room: u32, tokens: &[Token]) -> Result<(Expr, Block, &[Token]), Fault>
+    ensures read { MatchResult result
+        (λ read. AreRead room branch_form (branch_parts read.0 read.1) tokens.now read.2.now)
+        (Refuses room branch_form tokens.now) }
+    ensures shorter { IfOk result (λ read. length read.2.now < length tokens.now) }
+{
+    match if_condition(alloc, room, tokens) {
+        Ok((condition, behind)) => match statement_block(alloc, room, behind) {
+            Ok((then, left)) => Ok((condition, then, left)),
+            Err(fault) => Err(fault),
+        },
+        Err(fault) => Err(fault),
+    }
+}
+
+/// The branches behind the first one, and the block of the last `else`.
+#[cycle(block)]
+fn other_branches(
+    alloc: Global,
+    room: u32,
+    tokens: &[Token],
+) -> Result<(Vec<ElseIf>, Option<Block>, &[Token]), Fault>
+    ensures { MatchResult result
+        (λ read. AreRead room branches_end
+        (other_branches_parts read.0.items read.1) tokens.now read.2.now)
+        (Refuses room branches_end tokens.now) }
+{
+    match else_ifs(alloc, room, tokens) {
+        Ok((others, behind)) => match last_branch(alloc, room, behind) {
+            Ok((otherwise, left)) => Ok((others, otherwise, left)),
+            Err(fault) => Err(fault),
+        },
+        Err(fault) => Err(fault),
+    }
+}
+
+/// Any number of branches behind `else if`.
+#[cycle(block)]
+fn else_ifs(alloc: Global, room: u32, tokens: &[Token]) -> Result<(Vec<ElseIf>, &[Token]), Fault>
+    ensures read { MatchResult result
+        (λ read. AreElseIfs room tokens.now read.0.items read.1.now)
+        (Refuses room branches_end tokens.now) }
+    ensures ended { IfOk result (λ read. is_else_if (symbols read.1.now) ≡ false) }
+{
+    let mut others = Vec::new(alloc);
+    let mut left = tokens;
+    'branches: while begins_else_if(left) {
+        match else_if(alloc, room, left) {
+            Ok((next, after)) => match others.push(next) {
+                Ok(()) => left = after,
+                Err(_) => return Err(Fault::NoMemory),
+            },
+            Err(fault) => return Err(fault),
+        }
+    }
+    Ok((others, left))
+}
+
+/// `else if`, a condition and a block.
+#[cycle(block)]
+fn else_if(alloc: Global, room: u32, tokens: &[Token]) -> Result<(ElseIf, &[Token]), Fault>
+    ensures read { MatchResult result
+        (λ read. AreRead room (word_part Else ▸ branch_form)
+        (else_if_parts read.0) tokens.now read.1.now)
+        (Refuses room (word_part Else ▸ branch_form) tokens.now) }
+    ensures shorter { IfOk result (λ read. length read.1.now < length tokens.now) }
+{
+    match word(room, Word::Else, tokens) {
+        Ok(behind) => match if_branch(alloc, room, behind) {
+            Ok((condition, then, left)) => Ok((ElseIf { condition, then }, left)),
+            Err(fault) => Err(fault),
+        },
+        Err(fault) => Err(fault),
+    }
+}
+
+/// `else` and a block where there is an `else`.
+#[cycle(block)]
+fn last_branch(
+    alloc: Global,
+    room: u32,
+    tokens: &[Token],
+) -> Result<(Option<Block>, &[Token]), Fault>
+    requires { is_else_if (symbols tokens.now) ≡ false }
+    ensures { MatchResult result
+        (λ read. AreRead room branches_end (last_parts read.0) tokens.now read.1.now)
+        (Refuses room branches_end tokens.now) }
+{
+    if !is_word(Word::Else, tokens) {
+        return Ok((None, tokens));
+    }
+    match word(room, Word::Else, tokens) {
+        Ok(behind) => match last_block(alloc, room, behind) {
+            Ok((last, left)) => Ok((Some(last), left)),
+            Err(fault) => Err(fault),
+        },
+        Err(fault) => Err(fault),
+    }
+}
+
+/// What is behind an `else` without an `if`.
+#[cycle(block)]
+fn last_block(alloc: Global, room: u32, tokens: &[Token]) -> Result<(Block, &[Token]), Fault>
+    requires { is_ahead (word_kind IfWord ∷ []) (symbols tokens.now) ≡ false }
+    ensures read { MatchResult result
+        (λ read. IsRead room (of otherwise_form)
+        (block_outline read.0) tokens.now tokens.now read.1.now)
+        (Refuses room (of otherwise_form) tokens.now) }
+    ensures shorter { IfOk result (λ read. length read.1.now < length tokens.now) }
+{
+    if !is_sign(Sign::OpenBrace, tokens) {
+        return Err(refuse(room, tokens));
+    }
+    statement_block(alloc, room, tokens)
+}

@@ -1,0 +1,265 @@
+//! Statements of a word with something in parentheses and `;`.
+ghost use Rattle.std.specs.Prelude.{◌≡◌, ◌<◌, true, false, length, IfOk, MatchOption, MatchResult};
+ghost use Rattle.grammar_rows.specs.Kinds.{has, is_ahead};
+ghost use Rattle.slicc_ast.specs.Names.{word as word_of};
+ghost use Rattle.slicc_ast.specs.Statements.{print_word as print_word_of, stmt};
+ghost use Rattle.slicc_grammar.specs.Form.Form.{statement as statement_form};
+ghost use Rattle.slicc_grammar.specs.Parts.{name as name_part, of, parentheses, string as string_part};
+ghost use Rattle.slicc_grammar.specs.TokenKinds.{kind_of, word_kind};
+ghost use Rattle.slicc_lex.specs.Syntax.{symbols};
+ghost use Rattle.slicc_reading.specs.Reading.{AreRead, IsRead, Refuses};
+ghost use Rattle.slicc_expr.specs.StatementParts.{IsPrintWord, assert as assert_form, calling_words, check_allocate as check_form, error as error_form, name_inside_parts, port_value as port_form, port_value_inside_parts, print_kinds, print_statement as print_form, print_word as print_word_form, stall_and_wait as stall_form, text_inside_parts};
+
+use crate::statement_values::{condition, port_value};
+use slicc_ast::Text;
+use slicc_ast::tree::{Expr, Name, PrintWord, Sign, Stmt, TokenKind, Word};
+use slicc_lex::Token;
+use slicc_reading::{
+    Fault, bracketed, is_word, name, open, refuse, sign, span, split_first, string, word,
+};
+use std::alloc::Global;
+
+/// A port, a comma and an expression in parentheses.
+fn port_value_inside(
+    alloc: Global,
+    room: u32,
+    tokens: &[Token],
+) -> Result<(Name, Expr, &[Token]), Fault>
+    ensures { MatchResult result
+        (λ read. AreRead room (parentheses port_form)
+        (port_value_inside_parts read.0 read.1) tokens.now read.2.now)
+        (Refuses room (parentheses port_form) tokens.now) }
+{
+    match open(room, Sign::OpenParenthesis, tokens) {
+        Ok(inside) => match port_value(alloc, room - 1, inside) {
+            Ok((port, value, after)) => match sign(room - 1, Sign::CloseParenthesis, after) {
+                Ok(left) => Ok((port, value, left)),
+                Err(fault) => Err(fault),
+            },
+            Err(fault) => Err(fault),
+        },
+        Err(fault) => Err(fault),
+    }
+}
+
+fn stall_and_wait(alloc: Global, room: u32, tokens: &[Token]) -> Result<(Stmt, &[Token]), Fault>
+    ensures read { MatchResult result
+        (λ read. IsRead room stall_form (stmt read.0) tokens.now tokens.now read.1.now)
+        (Refuses room stall_form tokens.now) }
+    ensures shorter { IfOk result (λ read. length read.1.now < length tokens.now) }
+{
+    match word(room, Word::StallAndWait, tokens) {
+        Ok(behind) => match port_value_inside(alloc, room, behind) {
+            Ok((port, address, after)) => match sign(room, Sign::Semicolon, after) {
+                Ok(left) => {
+                    let span = span(tokens, left);
+                    Ok((
+                        Stmt::StallAndWait {
+                            port,
+                            address,
+                            span,
+                        },
+                        left,
+                    ))
+                }
+                Err(fault) => Err(fault),
+            },
+            Err(fault) => Err(fault),
+        },
+        Err(fault) => Err(fault),
+    }
+}
+
+/// A name in parentheses.
+fn name_inside(alloc: Global, room: u32, tokens: &[Token]) -> Result<(Name, &[Token]), Fault>
+    ensures { MatchResult result
+        (λ read. AreRead room (parentheses name_part)
+        (name_inside_parts read.0) tokens.now read.1.now)
+        (Refuses room (parentheses name_part) tokens.now) }
+{
+    match open(room, Sign::OpenParenthesis, tokens) {
+        Ok(inside) => match name(alloc, room - 1, inside) {
+            Ok((called, after)) => match sign(room - 1, Sign::CloseParenthesis, after) {
+                Ok(left) => Ok((called, left)),
+                Err(fault) => Err(fault),
+            },
+            Err(fault) => Err(fault),
+        },
+        Err(fault) => Err(fault),
+    }
+}
+
+fn check_allocate(alloc: Global, room: u32, tokens: &[Token]) -> Result<(Stmt, &[Token]), Fault>
+    ensures read { MatchResult result
+        (λ read. IsRead room check_form (stmt read.0) tokens.now tokens.now read.1.now)
+        (Refuses room check_form tokens.now) }
+    ensures shorter { IfOk result (λ read. length read.1.now < length tokens.now) }
+{
+    match word(room, Word::CheckAllocate, tokens) {
+        Ok(behind) => match name_inside(alloc, room, behind) {
+            Ok((table, after)) => match sign(room, Sign::Semicolon, after) {
+                Ok(left) => Ok((Stmt::CheckAllocate(table, span(tokens, left)), left)),
+                Err(fault) => Err(fault),
+            },
+            Err(fault) => Err(fault),
+        },
+        Err(fault) => Err(fault),
+    }
+}
+
+/// A string in parentheses.
+fn text_inside(alloc: Global, room: u32, tokens: &[Token]) -> Result<(Text, &[Token]), Fault>
+    ensures { MatchResult result
+        (λ read. AreRead room (parentheses string_part)
+        (text_inside_parts read.0) tokens.now read.1.now)
+        (Refuses room (parentheses string_part) tokens.now) }
+{
+    match open(room, Sign::OpenParenthesis, tokens) {
+        Ok(inside) => match string(alloc, room - 1, inside) {
+            Ok((text, after)) => match sign(room - 1, Sign::CloseParenthesis, after) {
+                Ok(left) => Ok((text, left)),
+                Err(fault) => Err(fault),
+            },
+            Err(fault) => Err(fault),
+        },
+        Err(fault) => Err(fault),
+    }
+}
+
+fn error(alloc: Global, room: u32, tokens: &[Token]) -> Result<(Stmt, &[Token]), Fault>
+    ensures read { MatchResult result
+        (λ read. IsRead room error_form (stmt read.0) tokens.now tokens.now read.1.now)
+        (Refuses room error_form tokens.now) }
+    ensures shorter { IfOk result (λ read. length read.1.now < length tokens.now) }
+{
+    match word(room, Word::Error, tokens) {
+        Ok(behind) => match text_inside(alloc, room, behind) {
+            Ok((text, after)) => match sign(room, Sign::Semicolon, after) {
+                Ok(left) => Ok((Stmt::Error(text, span(tokens, left)), left)),
+                Err(fault) => Err(fault),
+            },
+            Err(fault) => Err(fault),
+        },
+        Err(fault) => Err(fault),
+    }
+}
+
+fn assert(alloc: Global, room: u32, tokens: &[Token]) -> Result<(Stmt, &[Token]), Fault>
+    ensures read { MatchResult result
+        (λ read. IsRead room assert_form (stmt read.0) tokens.now tokens.now read.1.now)
+        (Refuses room assert_form tokens.now) }
+    ensures shorter { IfOk result (λ read. length read.1.now < length tokens.now) }
+{
+    match word(room, Word::Assert, tokens) {
+        Ok(behind) => match condition(alloc, room, behind) {
+            Ok((claim, after)) => match sign(room, Sign::Semicolon, after) {
+                Ok(left) => Ok((Stmt::Assert(claim, span(tokens, left)), left)),
+                Err(fault) => Err(fault),
+            },
+            Err(fault) => Err(fault),
+        },
+        Err(fault) => Err(fault),
+    }
+}
+
+fn print_word_named(word: Word) -> Option<PrintWord>
+    ensures { MatchOption result
+        (has print_kinds (word_kind word) ≡ false)
+        (λ which. print_word_of which ≡ word) }
+{
+    match word {
+        Word::Dprintf => Some(PrintWord::Dprintf),
+        Word::AppendTransitionComment => Some(PrintWord::AppendTransitionComment),
+        _ => None,
+    }
+}
+
+fn print_word_kind(kind: &TokenKind) -> Option<PrintWord>
+    ensures { MatchOption result
+        (has print_kinds (kind_of kind.now) ≡ false)
+        (IsPrintWord kind.now) }
+{
+    match kind {
+        TokenKind::Word(word) => print_word_named(*word),
+        _ => None,
+    }
+}
+
+/// The word of a text for a trace.
+fn print_word(room: u32, tokens: &[Token]) -> Result<(PrintWord, &[Token]), Fault>
+    ensures read { MatchResult result
+        (λ read. AreRead room print_word_form
+        (word_of (print_word_of read.0)) tokens.now read.1.now)
+        (Refuses room print_word_form tokens.now) }
+    ensures shorter { IfOk result (λ read. length read.1.now < length tokens.now) }
+{
+    let Some((first, left)) = split_first(tokens) else {
+        return Err(refuse(room, tokens));
+    };
+    match print_word_kind(&first.kind) {
+        Some(which) => Ok((which, left)),
+        None => Err(refuse(room, tokens)),
+    }
+}
+
+/// A text for a trace.
+fn print_statement(alloc: Global, room: u32, tokens: &[Token]) -> Result<(Stmt, &[Token]), Fault>
+    ensures read { MatchResult result
+        (λ read. IsRead room print_form (stmt read.0) tokens.now tokens.now read.1.now)
+        (Refuses room print_form tokens.now) }
+    ensures shorter { IfOk result (λ read. length read.1.now < length tokens.now) }
+{
+    match print_word(room, tokens) {
+        Ok((word, behind)) => match bracketed(
+            alloc,
+            room,
+            Sign::OpenParenthesis,
+            Sign::CloseParenthesis,
+            behind,
+        ) {
+            Ok((arguments, after)) => match sign(room, Sign::Semicolon, after) {
+                Ok(left) => {
+                    let span = span(tokens, left);
+                    Ok((
+                        Stmt::Print {
+                            word,
+                            arguments,
+                            span,
+                        },
+                        left,
+                    ))
+                }
+                Err(fault) => Err(fault),
+            },
+            Err(fault) => Err(fault),
+        },
+        Err(fault) => Err(fault),
+    }
+}
+
+/// A statement of a word with something in parentheses and `;`.
+pub fn called_statement(
+    alloc: Global,
+    room: u32,
+    tokens: &[Token],
+) -> Result<(Stmt, &[Token]), Fault>
+    requires { is_ahead calling_words (symbols tokens.now) ≡ true }
+    ensures read { MatchResult result
+        (λ read. IsRead room (of statement_form) (stmt read.0) tokens.now tokens.now read.1.now)
+        (Refuses room (of statement_form) tokens.now) }
+    ensures shorter { IfOk result (λ read. length read.1.now < length tokens.now) }
+{
+    if is_word(Word::StallAndWait, tokens) {
+        return stall_and_wait(alloc, room, tokens);
+    }
+    if is_word(Word::CheckAllocate, tokens) {
+        return check_allocate(alloc, room, tokens);
+    }
+    if is_word(Word::Error, tokens) {
+        return error(alloc, room, tokens);
+    }
+    if is_word(Word::Assert, tokens) {
+        return assert(alloc, room, tokens);
+    }
+    print_statement(alloc, room, tokens)
+}

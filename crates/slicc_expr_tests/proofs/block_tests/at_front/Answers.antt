@@ -1,0 +1,15 @@
+use Rattle.std.proofs.Common.{◌≤◌, ◌+◌, length, arith, length-append, ap, [], ◌∷◌}
+use Rattle.slicc_lex.proofs.EndedTokens.{are_ended, are_few}
+use Rattle.slicc_lex.specs.Syntax.{AreEnded}
+use Rattle.slicc_expr_tests.proofs.block_tests.at_front.Goals as goal
+
+pub block-requires-clause-place : goal.block-requires-clause-place
+block-requires-clause-place c =
+    let ended : AreEnded c.in-Ok.tokens = are_ended 0 c.args.text.now c.in-Ok.tokens c.in-Ok.ensures in
+    omega (arith, ap length ended.split, length-append ended.front (ended.end ∷ []))
+
+pub block-requires-clause-size : goal.block-requires-clause-size
+block-requires-clause-size c = omega (arith, are_few 0 c.args.text.now c.in-Ok.tokens c.in-Ok.ensures)
+
+pub block-requires-clause-ended : goal.block-requires-clause-ended
+block-requires-clause-ended c = are_ended 0 c.args.text.now c.in-Ok.tokens c.in-Ok.ensures
