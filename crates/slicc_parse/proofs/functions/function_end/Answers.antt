@@ -1,0 +1,13 @@
+use Rattle.slicc_grammar.specs.Form.Form.{body}
+use Rattle.slicc_grammar.specs.Parts.{◌▸◌, of, pairs}
+use Rattle.slicc_reading.proofs.Parts.{◌then◌, at_first, behind}
+use Rattle.slicc_parse.proofs.functions.function_end.Goals as goal
+
+pub returns-in-Ok-pairs_and_body : goal.returns-in-Ok-pairs_and_body
+returns-in-Ok-pairs_and_body c = c.in-Ok.ensures then c.in-Ok-pairs_and_body.ensures
+
+pub returns-in-Err-pairs_and_body : goal.returns-in-Err-pairs_and_body
+returns-in-Err-pairs_and_body c = behind c.in-Ok.ensures c.in-Err-pairs_and_body.ensures
+
+pub returns-in-Err : goal.returns-in-Err
+returns-in-Err c = at_first (pairs ▸ of body) c.in-Err.ensures

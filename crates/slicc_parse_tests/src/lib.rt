@@ -1,0 +1,5 @@
+//! Texts and their trees or faults.
+#![tactic(auto)]
+
+#[cfg(test)]
+mod tests;
