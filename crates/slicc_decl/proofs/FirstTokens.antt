@@ -1,18 +1,12 @@
--- The number that is the first token, and tokens that no literal begins with.
-use Rattle.std.proofs.Common.{◌≡◌, ℕ, ◌==◌, Bool, true, false, ◌||◌, List, [], ◌∷◌, ◌++◌, refl, sym, subst}
+-- Tokens that no literal begins with, and those that are neither of some kinds nor of others.
+use Rattle.std.proofs.Common.{◌≡◌, ℕ, ◌==◌, Bool, true, false, ◌||◌, List, [], ◌∷◌, ◌++◌, refl, sym}
 use Rattle.std.proofs.lemmas.Bool.{false≢true}
-use Rattle.std.specs.Prelude.{ℤ}
 use Rattle.slicc_ast.specs.declared.tree.token.Sign.TheVariants.{Minus}
 use Rattle.slicc_ast.specs.declared.tree.token.Word.TheVariants.{True, False}
-use Rattle.slicc_ast.specs.declared.tree.token.TokenKind.TheVariants.{Number}
-use Rattle.slicc_ast.specs.Outline.{token}
 use Rattle.grammar_rows.specs.Kinds.{has, is_ahead}
 use Rattle.slicc_grammar.specs.Ahead.{first_of_form}
 use Rattle.slicc_grammar.specs.Form.Form.{literal}
 use Rattle.slicc_grammar.specs.TokenKinds.{kind_of, number, quoted, sign_kind, word_kind}
-use Rattle.slicc_grammar.specs.Parts.{number_token}
-use Rattle.slicc_reading.specs.Reading.{AreRead}
-use Rattle.slicc_reading.proofs.Parts.{token_read}
 use Rattle.slicc_lex.specs.declared.token.Token.{Token}
 use Rattle.slicc_lex.specs.Syntax.{symbols}
 

@@ -1,6 +1,6 @@
 -- The branches of a conditional are read by a loop, though each `else if` is a conditional of its own where one token ahead
 -- is looked at; and what statements that hold blocks are spelled by.
-use Rattle.std.proofs.Common.{rules, ◌≡◌, ◌&&◌, ℕ, ◌≤◌, Bool, true, false, Option, Some, None, List, [], ◌∷◌, ◌++◌, length, refl, sym, subst, ap, ◌∙◌, arith}
+use Rattle.std.proofs.Common.{rules, ◌≡◌, ◌&&◌, ℕ, ◌≤◌, Bool, true, false, Option, List, [], ◌∷◌, ◌++◌, length, refl, sym, subst, ap, ◌∙◌, arith}
 use Rattle.std.proofs.lemmas.Bool.{false≢true}
 use Rattle.slicc_ast.specs.declared.tree.declaration.Pairs.{Pairs}
 use Rattle.slicc_ast.specs.declared.tree.expression.Expr.{Expr}
@@ -24,11 +24,11 @@ use Rattle.grammar_rows.specs.Grammar.{Row, Rows}
 use Rattle.grammar_rows.specs.Grammar.Row.{done, form, token as token_row}
 use Rattle.grammar_rows.specs.Grammar.Rows.{next}
 use Rattle.grammar_rows.specs.Kinds.{has, is_ahead}
-use Rattle.grammar_rows.specs.Reader.{Fails, Passes, Stops}
+use Rattle.grammar_rows.specs.Reader.{Passes, Stops}
 use Rattle.grammar_rows.specs.Reader.Stops.{chosen, on, present, refused, taken}
-use Rattle.slicc_grammar.specs.Ahead.{first_of_expression, first_of_form, first_of_opening}
+use Rattle.slicc_grammar.specs.Ahead.{first_of_form, first_of_opening}
 use Rattle.slicc_grammar.specs.Form.{Form}
-use Rattle.slicc_grammar.specs.Parts.{Part, ◌▸◌, names_of, of, word}
+use Rattle.slicc_grammar.specs.Parts.{Part, ◌▸◌, names_of, word}
 use Rattle.slicc_grammar.specs.Table.{table}
 use Rattle.slicc_grammar.specs.TokenKinds.{kind_of, sign_kind, word_kind}
 use Rattle.slicc_lex.specs.declared.token.Token.{Token}
@@ -41,7 +41,7 @@ use Rattle.slicc_reading.proofs.Choices.{leads_here}
 use Rattle.slicc_reading.proofs.FirstTokens.{later_kind, neither_kind}
 use Rattle.slicc_reading.proofs.Parts.{as_tree}
 use Rattle.slicc_reading.proofs.Repeats.{each}
-use Rattle.slicc_expr.specs.StatementParts.{AreElseIfs, branch, branch_parts, branches_end, calling_words, else_if_parts, else_ifs_parts, enqueue_head_parts, is_else_if, last_parts, nesting_words, other_branches_parts, peek_head_parts, statement_words}
+use Rattle.slicc_expr.specs.StatementParts.{AreElseIfs, branch, branch_parts, branches_end, calling_words, else_if_parts, else_ifs_parts, enqueue_head_parts, is_else_if, nesting_words, other_branches_parts, peek_head_parts, statement_words}
 
 -- statements, one behind another
 abbrev pub stmt_parts : Stmt → Parts → Parts

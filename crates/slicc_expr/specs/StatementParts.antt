@@ -1,6 +1,5 @@
 -- The parts of statements that are read by functions of their own, each with what it is spelled by.
 use Rattle.std.specs.Prelude.{◌≡◌, ◌&&◌, ℕ, Bool, false, List, [], ◌∷◌, Option, Some, None}
-use Rattle.slicc_ast.specs.declared.tree.balanced.Balanced.{Balanced}
 use Rattle.slicc_ast.specs.declared.tree.declaration.Pairs.{Pairs}
 use Rattle.slicc_ast.specs.declared.tree.expression.Expr.{Expr}
 use Rattle.slicc_ast.specs.declared.tree.name.Name.{Name}
@@ -23,7 +22,7 @@ use Rattle.slicc_grammar.specs.Form.Form.{block, expression, name_end, opening, 
 use Rattle.slicc_grammar.specs.Parts.{Part, ◌▸◌, assign, balanced, comma, name, of, operators, optional, pairs, parentheses, repeated, semicolon, sign, string, type, word, words}
 use Rattle.slicc_lex.specs.declared.token.Token.{Token}
 use Rattle.slicc_reading.specs.Reading.{IsSpelledBefore, Leads}
-use Rattle.slicc_grammar.specs.TokenKinds.{kind_of, sign_kind, word_kind}
+use Rattle.slicc_grammar.specs.TokenKinds.{sign_kind, word_kind}
 
 -- a name by itself
 abbrev pub name_outline : Name → Outline

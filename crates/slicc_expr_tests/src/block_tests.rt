@@ -18,7 +18,13 @@ const READ: &[(&[u8], u32, usize, &str, usize)] = &[
     (b"{ return a; }", 5, 1, "return a value", 0),
     (b"{ if (a) { b; c; } }", 12, 1, "if", 0),
     (b"{ if (a) {} else { b; } }", 13, 1, "if with else", 0),
-    (b"{ if (a) {} else if (b) {} else if (c) {} }", 22, 1, "if", 2),
+    (
+        b"{ if (a) {} else if (b) {} else if (c) {} }",
+        22,
+        1,
+        "if",
+        2,
+    ),
     (
         b"{ if (a) {} else if (b) {} else if (c) {} else {} }",
         25,
@@ -27,7 +33,13 @@ const READ: &[(&[u8], u32, usize, &str, usize)] = &[
         2,
     ),
     (b"{ peek(p, M) {} }", 10, 1, "peek", 0),
-    (b"{ peek(p, M, block_on=\"a\") { b; c; } }", 18, 1, "peek", 2),
+    (
+        b"{ peek(p, M, block_on=\"a\") { b; c; } }",
+        18,
+        1,
+        "peek",
+        2,
+    ),
     (b"{ enqueue(p, M) { a; } }", 12, 1, "enqueue", 1),
     (b"{ enqueue(p, M, 1) {} }", 12, 1, "enqueue later", 0),
     (b"{ stall_and_wait(p, a); }", 9, 1, "stall_and_wait", 0),
@@ -111,7 +123,9 @@ fn kind_of(s: &Stmt) -> (&'static str, usize) {
         Stmt::Error(_, _) => ("error", 0),
         Stmt::Assert(_, _) => ("assert", 0),
         Stmt::Print {
-            word, arguments, ..
+            word,
+            arguments,
+            ..
         } => match word {
             PrintWord::Dprintf => ("DPRINTF", arguments.parts.len()),
             PrintWord::AppendTransitionComment => {
@@ -162,10 +176,7 @@ fn is_read(alloc: Global, row: &(&[u8], u32, usize, &'static str, usize)) -> boo
     match at_front(alloc, row.0) {
         Some((tree, next)) => {
             let (word, inside) = first_kind(&tree);
-            next == row.1
-                && tree.statements.len() == row.2
-                && word == row.3
-                && inside == row.4
+            next == row.1 && tree.statements.len() == row.2 && word == row.3 && inside == row.4
         }
         None => false,
     }

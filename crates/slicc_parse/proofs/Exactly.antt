@@ -1,5 +1,5 @@
 -- Tokens that spell a tree and open no nesting above the limit have no fault.
-use Rattle.std.proofs.Common.{◌≡◌, ◌++◌, ℕ, List, [], ◌∷◌, map, Result, Ok, Err, refl, sym, subst, ap, ◌∙◌}
+use Rattle.std.proofs.Common.{◌≡◌, ◌++◌, ℕ, List, [], ◌∷◌, map, Result, Ok, Err, refl, subst, ap, ◌∙◌}
 use Rattle.std.specs.Result.{IfErr}
 use Rattle.std.proofs.lemmas.List.{map-append}
 use Rattle.slicc_ast.specs.declared.tree.item.Tree.{Tree}

@@ -6,7 +6,7 @@ use Rattle.slicc_ast.specs.declared.tree.span.Span.{Span}
 use Rattle.slicc_ast.specs.declared.tree.token.TokenKind.{TokenKind}
 use Rattle.slicc_ast.specs.declared.tree.token.TokenKind.TheVariants.{End}
 use Rattle.slicc_ast.specs.Outline.{covering, none, token}
-use Rattle.slicc_ast.specs.Trees.{protocol_parts, tree_parts}
+use Rattle.slicc_ast.specs.Trees.{protocol_parts}
 use Rattle.grammar_rows.specs.Faults.{IsFirstFault}
 use Rattle.grammar_rows.specs.Faults.Stop.{Passed}
 use Rattle.grammar_rows.specs.Kinds.{has, is_ahead}
@@ -17,7 +17,7 @@ use Rattle.slicc_grammar.specs.TokenKinds.{end_of_text, kind_of}
 use Rattle.slicc_grammar.specs.Written.{written}
 use Rattle.slicc_grammar.proofs.Readers.{passed}
 use Rattle.slicc_lex.specs.declared.token.Token.{Token}
-use Rattle.slicc_lex.specs.Spells.{Spells, token_spans}
+use Rattle.slicc_lex.specs.Spells.{token_spans}
 use Rattle.slicc_lex.specs.Syntax.{nesting_limit, symbols}
 use Rattle.slicc_parse.specs.Ends.{IsEndAt, IsFileRead}
 use Rattle.slicc_parse.specs.Parsed.{AreEndedOnce, IsFileOf}
@@ -30,7 +30,7 @@ use Rattle.slicc_reading.specs.Answers.{IsFaultFrom, placed}
 use Rattle.slicc_reading.specs.Reading.{AreParts, AreRead, Refuses}
 use Rattle.slicc_reading.specs.Reading.AreParts.{allowed, nothing}
 use Rattle.slicc_reading.proofs.Border.{fault_unless_short}
-use Rattle.slicc_reading.proofs.Parts.{◌then◌, behind, by_alternative, in_alternative, at_first, token_read}
+use Rattle.slicc_reading.proofs.Parts.{◌then◌, by_alternative, token_read}
 use Rattle.slicc_reading.proofs.Spelled.{parts_of}
 
 -- the end token is one of its kind

@@ -8,11 +8,11 @@ use Rattle.grammar_rows.specs.Faults.{IsFirstFault}
 use Rattle.grammar_rows.specs.Faults.Stop.{Short}
 use Rattle.grammar_rows.specs.Faults.IsStop.{too_short}
 use Rattle.grammar_rows.specs.Grammar.{Row}
-use Rattle.grammar_rows.specs.Grammar.Row.{done, form, token}
+use Rattle.grammar_rows.specs.Grammar.Row.{done, form}
 use Rattle.grammar_rows.specs.Grammar.Rows.{end, next}
 use Rattle.grammar_rows.specs.Kinds.{has}
 use Rattle.grammar_rows.specs.Matches.{Begins, Derives, Matches}
-use Rattle.grammar_rows.specs.Matches.Extent.{Front, Whole}
+use Rattle.grammar_rows.specs.Matches.Extent.{Front}
 use Rattle.grammar_rows.specs.Matches.Matches.{stopped, ended, one, alternative}
 use Rattle.grammar_rows.specs.Same.{joined}
 use Rattle.grammar_rows.proofs.InARow.{begins_in_a_row, derives_in_a_row}

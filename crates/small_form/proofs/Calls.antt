@@ -1,13 +1,15 @@
 -- Calls and members as the small form has them.
-use Rattle.std.proofs.Common.{◌≡◌, ◌≢◌, ℕ, Bool, IsTrue, List, [], ◌∷◌, Option, None, codes, refl}
+use Rattle.std.proofs.Common.{◌≡◌, ℕ, Bool, IsTrue, List, [], ◌∷◌, Option, codes, refl, ap, ◌∙◌}
 use Rattle.slicc_ast.specs.declared.tree.expression.Expr.{Expr}
+use Rattle.slicc_ast.specs.declared.tree.expression.Suffix.{Suffix}
 use Rattle.slicc_ast.specs.declared.tree.token.Sign.TheVariants.{OpenParenthesis, CloseParenthesis, Dot}
-use Rattle.slicc_ast.specs.Expressions.{args_list, expr}
+use Rattle.slicc_ast.specs.Expressions.{args_list, expr, suffix, suffix_list}
 use Rattle.slicc_ast.specs.Names.{sign}
 use Rattle.slicc_ast.specs.Outline.{Outline, node, Parts, none, part, no_span, shape_in, shape_of}
 use Rattle.small_form.specs.Found.{IsFound}
-use Rattle.small_form.specs.Shapes.{named, name, call, clock_edge, asked}
-use Rattle.small_form.proofs.Finding.{within, unfound}
+use Rattle.small_form.specs.Outlines.{IsUnsuffixed}
+use Rattle.small_form.specs.Shapes.{named, name, call, clock_edge, asking, with_suffix}
+use Rattle.small_form.proofs.Finding.{within}
 
 -- `clockEdge()` has no argument
 pub clock_edge_if : (shape : Outline) (function : List ℕ) (arguments : List Expr) (empty : Bool) → shape ≡ call function (shape_in (args_list arguments)) → function ≡ codes "clockEdge" → (IsTrue empty → arguments ≡ []) × (arguments ≡ [] → IsTrue empty) → (IsTrue empty → shape ≡ clock_edge) × (shape ≡ clock_edge → IsTrue empty)
@@ -21,21 +23,27 @@ one_argument [] shape same = absurd (cc)
 one_argument (e ∷ []) shape same = (e, refl, cc)
 one_argument (e ∷ f ∷ es) shape same = absurd (cc)
 
--- the method of a value with these arguments
-abbrev pub method : Outline → List ℕ → Parts → Outline
-method value called arguments =
-    node no_span (part value (sign Dot (named called
-    (sign OpenParenthesis (part (node no_span arguments) (sign CloseParenthesis none))))))
+-- a method with these arguments
+abbrev pub method : List ℕ → Parts → Outline
+method called arguments =
+    node no_span (sign Dot (named called (sign OpenParenthesis (part (node no_span arguments) (sign CloseParenthesis none)))))
 
-pub asked_found : (whole value : Outline) (called wanted : List ℕ) (arguments : Parts) (found : Option (List ℕ)) → whole ≡ method value called arguments → called ≡ wanted → arguments ≡ part clock_edge none → IsFound value name found → IsFound whole (asked wanted) found
-asked_found whole value called wanted arguments found is same clocked inner =
-    within value name whole (asked wanted) found inner (λ p here. cc) (λ p here. cc)
+pub asking_if : (shape : Outline) (called wanted : List ℕ) (arguments : Parts) (clocked : Bool) → shape ≡ method called arguments → called ≡ wanted → (IsTrue clocked → arguments ≡ part clock_edge none) × (arguments ≡ part clock_edge none → IsTrue clocked) → (IsTrue clocked → shape ≡ asking wanted) × (shape ≡ asking wanted → IsTrue clocked)
+asking_if shape called wanted arguments clocked is same test =
+    (λ yes. let inside : arguments ≡ part clock_edge none = test.0 yes in cc, λ asks. test.1 (cc))
 
-pub other_method : (whole value : Outline) (called wanted : List ℕ) (arguments : Parts) → whole ≡ method value called arguments → called ≢ wanted → IsFound whole (asked wanted) None
-other_method whole value called wanted arguments is other = unfound whole (asked wanted) (λ p here. other (cc))
+-- a value with suffixes, of which a variable with one suffix is one
+abbrev pub postfix : Outline → List Suffix → Outline
+postfix value suffixes = node no_span (part value (shape_in (suffix_list suffixes)))
 
-pub other_arguments : (whole value : Outline) (called wanted : List ℕ) (arguments : Parts) → whole ≡ method value called arguments → arguments ≢ part clock_edge none → IsFound whole (asked wanted) None
-other_arguments whole value called wanted arguments is other = unfound whole (asked wanted) (λ p here. other (cc))
+pub one_suffix : (whole value : Outline) (text : List ℕ) (s : Suffix) (suffixes : List Suffix) → whole ≡ postfix value suffixes → suffixes ≡ s ∷ [] → value ≡ name text → whole ≡ with_suffix text (shape_of (suffix s))
+one_suffix whole value text s suffixes is alone called =
+    is ∙ ap (postfix value) alone ∙ ap (λ v. node no_span (part v (part (shape_of (suffix s)) none))) called
+
+pub other_suffixes : (whole value : Outline) (suffixes : List Suffix) → whole ≡ postfix value suffixes → ((s : Suffix) → suffixes ≡ s ∷ [] → ⊥) → IsUnsuffixed whole
+other_suffixes whole value [] is other text o same = absurd (cc)
+other_suffixes whole value (s ∷ []) is other text o same = other s refl
+other_suffixes whole value (s ∷ t ∷ ss) is other text o same = absurd (cc)
 
 pub called_found : {P : Type 0} (whole : Outline) (called wanted : List ℕ) (arguments : Parts) (spell : P → Parts) (found : Option P) → whole ≡ call called arguments → called ≡ wanted → IsFound arguments spell found → IsFound whole (λ p. call wanted (spell p)) found
 called_found whole called wanted arguments spell found is same inner =

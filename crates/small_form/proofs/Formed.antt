@@ -42,7 +42,7 @@ clock_edge_forms =
     record {
       makes = λ allowed R S rest s to m.
           alternative 1 _ refl (any_name (codes "clockEdge") (present (alternative 1 _ refl (marked (one refl (marked (absent (marked (one refl
-          (marked (on (on (enough (enough (enough (enough (enough (enough (enough (on m))))))))))))))))))));
+          (marked (on (on (absent (absent (absent (absent (absent (absent (absent (on m))))))))))))))))))));
     }
 
 event_name_forms : (event : List ℕ) → Forms Form.expression (event_name event)
@@ -50,25 +50,25 @@ event_name_forms event =
     record {
       makes = λ allowed R S rest s to m.
           alternative 1 _ refl (any_name (codes "Event") (present (alternative 0 _ refl (marked (one refl (any_name event
-          (marked (on (on (enough (enough (enough (enough (enough (enough (enough (on m)))))))))))))))));
+          (marked (on (on (absent (absent (absent (absent (absent (absent (absent (on m)))))))))))))))));
     }
 
 line_address_forms : Forms Form.expression line_address
 line_address_forms =
     record {
       makes = λ allowed R S rest s to m.
-          alternative 1 _ refl (any_name (codes "in_msg") (absent (again (alternative 0 _ refl (marked (one refl (any_name (codes "LineAddress")
-          (absent (marked (on (on (enough (enough (enough (enough (enough (enough (enough (on m)))))))))))))))))));
+          alternative 1 _ refl (any_name (codes "in_msg") (absent (present (marked (alternative 0 _ refl (marked (one refl (any_name (codes "LineAddress")
+          (absent (marked (on (enough (marked (on (absent (absent (absent (absent (absent (absent (on m)))))))))))))))))))));
     }
 
 asked_forms : (method port : List ℕ) → Forms Form.expression (asked method port)
 asked_forms method port =
     record {
       makes = λ allowed R S rest s to m.
-          alternative 1 _ refl (any_name port (absent (again (alternative 0 _ refl (marked (one refl (any_name method
+          alternative 1 _ refl (any_name port (absent (present (marked (alternative 0 _ refl (marked (one refl (any_name method
           (present (one refl (marked (present (alternative 0 _ refl (clock_edge_forms.makes refl _ _ _ _ to
           (enough (on (on (marked (one refl
-          (on (marked (on (on (enough (enough (enough (enough (enough (enough (enough (on m))))))))))))))))))))))))))))));
+          (on (marked (on (enough (marked (on (absent (absent (absent (absent (absent (absent (on m))))))))))))))))))))))))))))))));
     }
 
 -- statements
@@ -76,11 +76,11 @@ dequeued_forms : (port : List ℕ) → Forms Form.statement (dequeued port)
 dequeued_forms port =
     record {
       makes = λ allowed R S rest s to m.
-          alternative 0 _ refl (marked (any_name port (alternative 1 _ refl (absent (again (alternative 0 _ refl (marked (one refl (any_name (codes "dequeue")
+          alternative 0 _ refl (marked (any_name port (alternative 1 _ refl (absent (present (marked (alternative 0 _ refl (marked (one refl (any_name (codes "dequeue")
           (present (one refl (marked (present (alternative 0 _ refl (clock_edge_forms.makes refl _ _ _ _ to
           (enough (on (on (marked (one refl
-          (on (marked (on (on (enough (enough (enough (enough (enough (enough (enough
-          (absent (one refl (on (marked (on m))))))))))))))))))))))))))))))))))));
+          (on (marked (on (enough (marked (on (absent (absent (absent (absent (absent (absent
+          (absent (one refl (on (marked (on m))))))))))))))))))))))))))))))))))))));
     }
 
 triggered_forms : (event : List ℕ) → Forms Form.statement (triggered event)
@@ -91,7 +91,7 @@ triggered_forms event =
           (present (alternative 0 _ refl ((event_name_forms event).makes refl _ _ _ _ to
           (again (one refl (line_address_forms.makes refl _ _ _ _ to (on
           (enough (on (on (marked (one refl
-          (marked (on (on (enough (enough (enough (enough (enough (enough (enough
+          (marked (on (on (absent (absent (absent (absent (absent (absent (absent
           (absent (one refl (on (marked (on m)))))))))))))))))))))))))))))))))));
     }
 

@@ -8,6 +8,7 @@ pub mod FormedMachines
 pub mod Machines
 pub mod Mapped
 pub mod OneMachine
+pub mod OtherExpressions
 pub mod Parts
 pub mod Rows
 pub mod Spelled

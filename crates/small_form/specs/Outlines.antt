@@ -1,5 +1,5 @@
 -- The outlines of parts of a tree that are no nodes of their own, spans aside.
-use Rattle.std.specs.Prelude.{List, [], ◌∷◌, map, Option, Some, None}
+use Rattle.std.specs.Prelude.{◌≢◌, ℕ, List, [], ◌∷◌, map, Option, Some, None}
 use Rattle.std.specs.Option.{option_map}
 use Rattle.slicc_ast.specs.declared.tree.declaration.Pairs.{Pairs}
 use Rattle.slicc_ast.specs.declared.tree.declaration.Pair.{Pair}
@@ -15,7 +15,7 @@ use Rattle.slicc_ast.specs.Expressions.{expr}
 use Rattle.slicc_ast.specs.Declarations.{pair}
 use Rattle.slicc_ast.specs.Statements.{stmt, block_outline}
 use Rattle.small_form.specs.declared.machine.Content.{Content}
-use Rattle.small_form.specs.Shapes.{declarations}
+use Rattle.small_form.specs.Shapes.{declarations, with_suffix}
 
 -- attributes
 abbrev pub outlines : Pairs → List Outline
@@ -24,6 +24,10 @@ outlines ps = map (λ (p : Pair). shape_of (pair p)) ps.items.items
 -- a statement, where there is one
 abbrev pub statement_shape : Option Stmt → Option Outline
 statement_shape found = option_map (λ (s : Stmt). shape_of (stmt s)) found
+
+-- the outline is that of no variable with one suffix
+abbrev pub IsUnsuffixed : Outline → Type 0
+IsUnsuffixed whole = (variable : List ℕ) (suffix : Outline) → whole ≢ with_suffix variable suffix
 
 abbrev pub else_if_list : List ElseIf → Parts → Parts
 else_if_list [] parts = parts

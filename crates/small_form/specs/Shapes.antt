@@ -60,19 +60,31 @@ call function arguments =
 abbrev pub clock_edge : Outline
 clock_edge = call (codes "clockEdge") none
 
+-- .method(clockEdge())
+abbrev pub asking : List ℕ → Outline
+asking method =
+    node no_span (sign Dot (named method
+    (sign OpenParenthesis (part (node no_span (part clock_edge none)) (sign CloseParenthesis none)))))
+
+-- a variable with one suffix
+abbrev pub with_suffix : List ℕ → Outline → Outline
+with_suffix variable suffix = node no_span (part (name variable) (part suffix none))
+
 -- NAME.method(clockEdge())
 abbrev pub asked : List ℕ → List ℕ → Outline
-asked method port =
-    node no_span (part (name port) (sign Dot (named method
-    (sign OpenParenthesis (part (node no_span (part clock_edge none)) (sign CloseParenthesis none))))))
+asked method port = with_suffix port (asking method)
 
 -- Event:NAME
 abbrev pub event_name : List ℕ → Outline
 event_name event = node no_span (named (codes "Event") (sign Colon (named event none)))
 
+-- .LineAddress
+abbrev pub address : Outline
+address = node no_span (sign Dot (named (codes "LineAddress") none))
+
 -- in_msg.LineAddress
 abbrev pub line_address : Outline
-line_address = node no_span (part (name (codes "in_msg")) (sign Dot (named (codes "LineAddress") none)))
+line_address = with_suffix (codes "in_msg") address
 
 abbrev pub evaluated : Outline → Outline
 evaluated value = node no_span (part value (sign Semicolon none))

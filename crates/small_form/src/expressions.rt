@@ -1,14 +1,15 @@
-ghost use Rattle.std.specs.Prelude.{◌≡◌, ◌∷◌, [], ◌↔◌, IsTrue, ℕ, List, codes};
+ghost use Rattle.std.specs.Prelude.{◌≡◌, ◌∷◌, [], ◌↔◌, IsTrue, MatchOption, ℕ, List, codes};
 ghost use Rattle.std.specs.Option.{option_copied};
-ghost use Rattle.slicc_ast.specs.Expressions.{args_list, expr};
+ghost use Rattle.slicc_ast.specs.Expressions.{args_list, expr, suffix as suffix_outline};
 ghost use Rattle.slicc_ast.specs.Outline.{none, part, shape_in, shape_of};
 ghost use Rattle.small_form.specs.Found.{IsFound};
-ghost use Rattle.small_form.specs.Shapes.{asked as asked_shape, call, clock_edge, event_arguments, event_name as event_name_shape, line_address, name as name_shape};
+ghost use Rattle.small_form.specs.Outlines.{IsUnsuffixed};
+ghost use Rattle.small_form.specs.Shapes.{address, asked as asked_shape, asking, call, clock_edge, event_arguments, event_name as event_name_shape, line_address, name as name_shape, with_suffix};
 
 use crate::items::{are_none, only_item, split_front};
 use crate::words::is_word;
 use ruby_base::Text;
-use slicc_ast::tree::{Args, Expr};
+use slicc_ast::tree::{Args, Expr, Suffix};
 
 /// The name that the expression is.
 fn variable(e: &Expr) -> Option<&Text>
@@ -45,23 +46,63 @@ fn are_clock_edge(arguments: &Args) -> bool
     }
 }
 
-/// The port of which `PORT.method(clockEdge())` asks.
-pub fn asked<'t>(e: &'t Expr, method: &str) -> Option<&'t Text>
-    ensures { IsFound (shape_of (expr e.now)) (asked_shape method.now) (option_copied result) }
+/// The variable and its suffix, where the expression is a variable with one suffix alone.
+fn only_suffix(e: &Expr) -> Option<(&Text, &Suffix)>
+    ensures { MatchOption result (IsUnsuffixed (shape_of (expr e.now)))
+        (λ r. shape_of (expr e.now) ≡ with_suffix r.0.now (shape_of (suffix_outline r.1.now))) }
 {
-    let Expr::Method {
+    let Expr::Postfix {
         value,
-        name,
-        arguments,
+        suffixes,
         ..
     } = e
     else {
         return None;
     };
-    if is_word(&name.text, method) && are_clock_edge(arguments) {
-        variable(value)
+    let Some(suffix) = only_item(suffixes.as_slice()) else {
+        return None;
+    };
+    match variable(value) {
+        Some(text) => Some((text, suffix)),
+        None => None,
+    }
+}
+
+/// Whether the suffix is `.method(clockEdge())`.
+fn is_asking(suffix: &Suffix, method: &str) -> bool
+    ensures { IsTrue result ↔ (shape_of (suffix_outline suffix.now) ≡ asking method.now) }
+{
+    match suffix {
+        Suffix::Method {
+            name,
+            arguments,
+            ..
+        } => is_word(&name.text, method) && are_clock_edge(arguments),
+        _ => false,
+    }
+}
+
+/// The port of which `PORT.method(clockEdge())` asks.
+pub fn asked<'t>(e: &'t Expr, method: &str) -> Option<&'t Text>
+    ensures { IsFound (shape_of (expr e.now)) (asked_shape method.now) (option_copied result) }
+{
+    let Some((port, suffix)) = only_suffix(e) else {
+        return None;
+    };
+    if is_asking(suffix, method) {
+        Some(port)
     } else {
         None
+    }
+}
+
+/// Whether the suffix is `.LineAddress`.
+fn is_address(suffix: &Suffix) -> bool
+    ensures { IsTrue result ↔ (shape_of (suffix_outline suffix.now) ≡ address) }
+{
+    match suffix {
+        Suffix::Field(name, _) => is_word(&name.text, "LineAddress"),
+        _ => false,
     }
 }
 
@@ -69,11 +110,8 @@ pub fn asked<'t>(e: &'t Expr, method: &str) -> Option<&'t Text>
 fn is_line_address(e: &Expr) -> bool
     ensures { IsTrue result ↔ (shape_of (expr e.now) ≡ line_address) }
 {
-    let Expr::Field { value, name, .. } = e else {
-        return false;
-    };
-    match variable(value) {
-        Some(text) => is_word(text, "in_msg") && is_word(&name.text, "LineAddress"),
+    match only_suffix(e) {
+        Some((text, suffix)) => is_word(text, "in_msg") && is_address(suffix),
         None => false,
     }
 }

@@ -1,7 +1,6 @@
 use Rattle.std.proofs.Common.{refl, sym}
 use Rattle.slicc_grammar.specs.Form.{Form}
 use Rattle.slicc_reading.proofs.Parts.{in_alternative, match_map, of_alternative}
-use Rattle.slicc_expr.specs.StatementParts.{stall_and_wait, check_allocate, error, assert}
 use Rattle.slicc_expr.proofs.StatementForms.{print_ahead}
 use Rattle.slicc_expr.proofs.called_statements.called_statement.Goals as goal
 

@@ -6,6 +6,8 @@ use Rattle.slicc_ast.specs.Outline.{shape_in, shape_of}
 use Rattle.small_form.specs.Found.{IsFound}
 use Rattle.small_form.specs.Shapes.{call, event_arguments}
 use Rattle.small_form.proofs.Calls.{called_found}
+use Rattle.small_form.proofs.Finding.{unfound}
+use Rattle.small_form.proofs.OtherExpressions.{not_call}
 use Rattle.small_form.proofs.Rows.{args_of_row}
 use Rattle.small_form.proofs.expressions.triggered.Goals as goal
 
@@ -14,3 +16,8 @@ returns-then-is_word c =
     let same : shape_of (expr c.args.e.now) ≡ call c.in-Call.name.text (shape_in (args_list c.in-Call.arguments.items.items)) = search (rules, the_lemmas, args_of_row) in
     called_found _ c.in-Call.name.text (codes "trigger") _ event_arguments _ same (c.if-is_word.ensures.0 refl)
     (subst (λ es. IsFound (shape_in (args_list es)) event_arguments (option_copied c.event_argument.result)) c.as_slice.ensures.value c.event_argument.ensures)
+
+pub returns-in_default : goal.returns-in_default
+returns-in_default c =
+    unfound _ (λ event. call (codes "trigger") (event_arguments event))
+    (λ event same. not_call c.args.e.now (codes "trigger") (event_arguments event) c.in_default.not-Call same)
