@@ -6,9 +6,8 @@ use ruby_base::Text;
 use ruby_outside::{FileLibrary, Got, Library};
 use slicc_lex::lex;
 use slicc_parse::parse;
-use std::env;
-use std::io;
 use std::time::Instant;
+use std::{env, io};
 
 // The most bytes that a file may have.
 const FILE_LIMIT: u64 = 1_048_576;

@@ -13,8 +13,7 @@ use Rattle.ruby_cli.specs.declared.answer.Answer.{Answer}
 use Rattle.ruby_cli.specs.declared.done.Done.{Done}
 use Rattle.ruby_cli.specs.declared.options.Options.{Options}
 use Rattle.ruby_cli.specs.Answer.{text_of, done_of, out_of_memory}
-use Rattle.ruby_cli.specs.Call.{IsAnswered, IsBeginning}
-use Rattle.ruby_cli.specs.Find.{IsReadOnce}
+use Rattle.ruby_cli.specs.Call.{IsAnswered, IsBeginning, IsReadOnce}
 use Rattle.ruby_cli.specs.Right.{IsRightTo}
 
 beginning : (o : Options) (made : List Read) → IsGatheredFrom o.protocol made NoMemory → IsBeginning (Some o) made

@@ -6,7 +6,7 @@ use Rattle.std.specs.Prelude.{◌≡◌, ◌⊎◌, ℕ, Bool, Option, None, Som
 use Rattle.ruby_outside.specs.declared.library.Got.{Got}
 use Rattle.ruby_outside.specs.declared.sink.Wrote.{Wrote}
 use Rattle.slicc_front.specs.Gathering.{IsGatheredFrom}
-use Rattle.slicc_front.specs.Reads.{Read, AreMade}
+use Rattle.slicc_front.specs.Reads.{Read, AreMade, AreOfOneNameEach}
 use Rattle.slicc_front.specs.declared.gathered.Gathered.TheVariants.{NoMemory}
 use Rattle.run_text.specs.Pieces.{IsPutInPieces}
 use Rattle.ruby_cli.specs.declared.answer.Answer.{Answer}
@@ -39,6 +39,10 @@ pub record IsAnswered {L S : Type 0} (reads : L → List ℕ → ℕ → Got →
   pub made : List Read
   pub are_made : AreMade reads library made library'
   pub ended : IsOutOfMemory asked made sink sink' done ⊎ IsGivenOut writes asked made sink sink' done
+
+-- the reads that were made are of no name twice, whatever the answer; this follows from what is gathered
+abbrev pub IsReadOnce : {L : Type 0} (reads : L → List ℕ → ℕ → Got → L → Type 0) → (before after : L) → Type 0
+IsReadOnce reads before after = (made : List Read) × AreMade reads before made after × AreOfOneNameEach made
 
 -- a call that reads nothing, since nothing was asked for
 abbrev pub IsUsageAnswered : {S : Type 0} (writes : S → List ℕ → Wrote → S → Type 0) → (sink sink' : S) → Done → Type 0

@@ -3,7 +3,6 @@ use Rattle.std.specs.Prelude.{◌≡◌, ℕ, Option, None, Some, List, [], ◌�
 use Rattle.ruby_outside.specs.declared.library.Got.{Got}
 use Rattle.slicc_ast.specs.declared.tree.item.Tree.{Tree}
 use Rattle.slicc_front.specs.Gathering.{IsGatheredBy}
-use Rattle.slicc_front.specs.Reads.{Read, AreMade, AreOfOneNameEach}
 use Rattle.slicc_front.specs.declared.gathered.Gathered.{Gathered}
 use Rattle.small_machine.specs.declared.machine.Machine.{Machine}
 use Rattle.small_form.specs.SmallForm.{IsSmallForm}
@@ -16,10 +15,6 @@ use Rattle.ruby_cli.specs.Right.{IsOtherForm}
 -- the protocol's files were read from a library, and this holds of what they are
 abbrev pub IsReadFor : {L : Type 0} (reads : L → List ℕ → ℕ → Got → L → Type 0) → Options → (before after : L) → (Gathered → Type 0) → Type 0
 IsReadFor reads o before after P = (g : Gathered) × IsGatheredBy reads o.protocol before after g × P g
-
--- no file was read twice
-abbrev pub IsReadOnce : {L : Type 0} (reads : L → List ℕ → ℕ → Got → L → Type 0) → (before after : L) → Type 0
-IsReadOnce reads before after = (made : List Read) × AreMade reads before made after × AreOfOneNameEach made
 
 -- one worker made the answer's run, if it has one
 abbrev pub IsAloneAnswer : Answer → Type 0

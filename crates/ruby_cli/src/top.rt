@@ -3,8 +3,8 @@ ghost use Rattle.std.specs.Prelude.{◌≡◌, ◌<◌, ◌≤◌, ◌^◌, Some
 ghost use Rattle.ruby_outside.specs.Faults.{Rose};
 ghost use Rattle.slicc_meaning.specs.Record.{IsWholeRun};
 ghost use Rattle.ruby_cli.specs.Answer.{text_of};
-ghost use Rattle.ruby_cli.specs.Call.{IsAnswered};
-ghost use Rattle.ruby_cli.specs.Find.{IsReadFor, IsReadOnce, IsAloneAnswer};
+ghost use Rattle.ruby_cli.specs.Call.{IsAnswered, IsReadOnce};
+ghost use Rattle.ruby_cli.specs.Find.{IsReadFor, IsAloneAnswer};
 ghost use Rattle.ruby_cli.specs.Headline.{IsWokenOnce, IsMessageAccount, IsInvalidExactly, IsTallied, IsAsAsked, IsAsWritten, IsCaused, IsComplete, IsByOneWorker};
 ghost use Rattle.ruby_cli.specs.Right.{IsRightTo};
 
@@ -71,7 +71,7 @@ pub fn ruby_alone<L: Library, S: Sink>(
     requires cycles { (1 ≤ options.cycles) × (options.cycles ≤ 10 ^ 12) }
     requires limit { (1 ≤ options.limit) × (options.limit ≤ 1000) }
 
-    // All that the call does: it reads the protocol's files, each once, and writes the text of the right answer, up to a
+    // All that the call does: it reads the protocol's files, none twice, and writes the text of the right answer, up to a
     // fault.
     ensures answered { IsAnswered L.reads S.writes (Some options) library.old library.new sink.old sink.new result }
     ensures reads_once { IsReadOnce L.reads library.old library.new }
