@@ -2,4 +2,8 @@
 #![tactic(auto)]
 
 #[cfg(test)]
+mod fault_rows;
+#[cfg(test)]
+mod read_rows;
+#[cfg(test)]
 mod tests;
