@@ -1,7 +1,7 @@
 -- What is there in every protocol without a declaration: types, the members of the enumerations among them, the fields of the
 -- structure among them, and calls. The names and what they mean are those of gem5's Ruby; that it is these is this project's
 -- choice. A call takes the arguments that stand beside it, of which the last ones may be left out.
-use Rattle.std.specs.Prelude.{ℕ, Bool, true, false, Option, None, Some, List, [], ◌∷◌, map, find, codes}
+use Rattle.std.specs.Prelude.{◌==◌, ℕ, Bool, true, false, Option, List, [], ◌∷◌, find, codes}
 use Rattle.std.specs.Option.{option_map}
 use Rattle.std.specs.List.{list_any}
 use Rattle.std.specs.Str.{bytes_eq}
@@ -38,6 +38,32 @@ built_in_types =
 abbrev pub built_in_type : List ℕ → Option BuiltInType
 built_in_type text =
     option_map (λ (t : NamedType). t.meaning) (find (λ (t : NamedType). bytes_eq t.name text) built_in_types)
+
+-- the types are told apart by these numbers
+abbrev pub type_number : BuiltInType → ℕ
+type_number Int = 0
+type_number Cycles = 1
+type_number Tick = 2
+type_number Boolean = 3
+type_number Address = 4
+type_number MachineId = 5
+type_number MachineType = 6
+type_number NetDest = 7
+type_number DataBlock = 8
+type_number AccessPermission = 9
+type_number RequestType = 10
+type_number MessageSize = 11
+type_number Request = 12
+type_number AbstractEntry = 13
+type_number Void = 14
+type_number Cache = 15
+type_number Directory = 16
+type_number TbeTable = 17
+type_number Sequencer = 18
+type_number Buffer = 19
+
+abbrev pub is_same_type : BuiltInType → BuiltInType → Bool
+is_same_type b c = type_number b == type_number c
 
 -- what kind of thing a type's values are
 pub data Nature : Type 0 where

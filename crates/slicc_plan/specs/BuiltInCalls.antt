@@ -1,7 +1,7 @@
 -- The calls that are there in every protocol without a declaration, by what they are called on, in the order by which they are
 -- numbered. The names are those of gem5's SLICC; that it is these is this project's choice. What `trigger` takes depends on
 -- the machine, and so does a machine's own call from its states to permissions, which stands apart.
-use Rattle.std.specs.Prelude.{ℕ, Bool, ◌||◌, ◌++◌, List, [], ◌∷◌, length, codes}
+use Rattle.std.specs.Prelude.{ℕ, Bool, ◌||◌, ◌++◌, List, [], ◌∷◌, codes}
 use Rattle.std.specs.List.{list_any}
 use Rattle.std.specs.Str.{bytes_eq}
 use Rattle.slicc_plan.specs.declared.built_in.BuiltInType.{BuiltInType}
@@ -91,7 +91,7 @@ calls_on_values =
 abbrev pub callback : List ℕ → Call
 callback name =
     call_with sequencer name (value_of Address ∷ value_of DataBlock ∷ [])
-        (value_of Boolean ∷ value_of MachineType ∷ [])
+    (value_of Boolean ∷ value_of MachineType ∷ [])
 
 abbrev pub calls_on_sequencers : List Call
 calls_on_sequencers = callback (codes "readCallback") ∷ callback (codes "writeCallback") ∷ []

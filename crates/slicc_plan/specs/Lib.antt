@@ -1,3 +1,15 @@
+pub mod Attributes
+pub mod Blocks
+pub mod BrokenDeclarations
 pub mod BuiltIn
 pub mod BuiltInCalls
+pub mod Declarations
+pub mod FieldTypes
+pub mod Limits
 pub mod Order
+pub mod Prototypes
+pub mod Scopes
+pub mod TwiceDeclared
+pub mod Types
+pub mod UnknownTypes
+pub mod Values
