@@ -1,9 +1,11 @@
 pub mod Attributes
 pub mod Blocks
+pub mod BodySizes
 pub mod BrokenDeclarations
 pub mod Buffers
 pub mod BuiltIn
 pub mod BuiltInCalls
+pub mod CallsBetween
 pub mod Declarations
 pub mod FieldTypes
 pub mod Limits
@@ -12,6 +14,7 @@ pub mod Machines
 pub mod Networks
 pub mod Order
 pub mod Prototypes
+pub mod Returns
 pub mod Scopes
 pub mod StateFunctions
 pub mod TwiceDeclared

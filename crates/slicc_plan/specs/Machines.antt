@@ -11,11 +11,13 @@ use Rattle.slicc_ast.specs.declared.tree.machine.Decl.TheVariants.{Transition as
 use Rattle.slicc_ast.specs.declared.tree.machine.Transition.{Transition}
 use Rattle.slicc_ast.specs.declared.tree.machine.Names.{Names}
 use Rattle.slicc_ast.specs.declared.tree.machine.Names.TheVariants.{One, Several}
+use Rattle.slicc_ast.specs.declared.tree.declaration.Function.{Function}
+use Rattle.slicc_ast.specs.declared.tree.declaration.Function.TheVariants.{Plain}
 use Rattle.slicc_ast.specs.declared.tree.declaration.Structure.{Structure}
 use Rattle.slicc_plan.specs.declared.broken.Broken.{Broken}
 use Rattle.slicc_plan.specs.declared.row.Row.{Row}
 use Rattle.slicc_plan.specs.Attributes.{has_attribute}
-use Rattle.slicc_plan.specs.Declarations.{Declaration, structure, is_external, is_named, machine_declarations, machines_of}
+use Rattle.slicc_plan.specs.Declarations.{Declaration, first_named, function, structure, is_external, is_named, machine_declarations, machines_of}
 use Rattle.slicc_plan.specs.Limits.{event_members, is_action, state_members}
 
 -- Lines. Of several structures that could be it the first counts, which is this project's own.
@@ -48,6 +50,16 @@ directory_structure m = find is_directory_entry (own_structures m)
 
 abbrev pub tbe_structure : Machine → Option Structure
 tbe_structure m = find is_tbe (own_structures m)
+
+-- Functions.
+
+abbrev pub function_found : Option Declaration → Option Function
+function_found (Some (function (Plain kind called formals attributes body span))) =
+    Some (Plain kind called formals attributes body span)
+function_found _ = None
+
+abbrev pub function_named : Machine → List ℕ → Option Function
+function_named m text = function_found (first_named text (machine_declarations m))
 
 -- Transitions.
 

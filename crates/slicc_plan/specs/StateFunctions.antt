@@ -15,9 +15,9 @@ use Rattle.slicc_plan.specs.declared.broken.Broken.{Broken}
 use Rattle.slicc_plan.specs.declared.broken.Rule.TheVariants.{StateFunctions}
 use Rattle.slicc_plan.specs.declared.built_in.BuiltInType.{BuiltInType}
 use Rattle.slicc_plan.specs.declared.built_in.BuiltInType.TheVariants.{Address, Void}
-use Rattle.slicc_plan.specs.Declarations.{Declaration, function, within, first_named, is_named, machine_declarations}
+use Rattle.slicc_plan.specs.Declarations.{Declaration, within, is_named, machine_declarations}
 use Rattle.slicc_plan.specs.Limits.{is_states}
-use Rattle.slicc_plan.specs.Machines.{entry_structure, in_each, tbe_structure}
+use Rattle.slicc_plan.specs.Machines.{entry_structure, function_named, in_each, tbe_structure}
 use Rattle.slicc_plan.specs.Types.{KnownType, enumerated, structured, is_built_in, type_in}
 
 -- the type that a function of states should take or answer
@@ -62,14 +62,6 @@ taken_to_write m = taken_to_read m ++ own_state ∷ []
 
 abbrev pub taken_to_permit : Machine → List Wanted
 taken_to_permit m = line_where (entry_structure m) ++ built_in_type Address ∷ own_state ∷ []
-
-abbrev pub function_found : Option Declaration → Option Function
-function_found (Some (function (Plain kind called formals attributes body span))) =
-    Some (Plain kind called formals attributes body span)
-function_found _ = None
-
-abbrev pub function_named : Machine → List ℕ → Option Function
-function_named m text = function_found (first_named text (machine_declarations m))
 
 abbrev pub told_at : ℕ → Span → Broken
 told_at number place = record { rule = StateFunctions; machine = number; place = place; other = None }
