@@ -6,6 +6,7 @@ pub mod Buffers
 pub mod BuiltIn
 pub mod BuiltInCalls
 pub mod CallsBetween
+pub mod Counts
 pub mod Declarations
 pub mod FieldTypes
 pub mod Limits

@@ -4,11 +4,13 @@
 
 mod broken;
 mod built_in;
+mod laws;
 mod refusal;
 mod row;
 
 pub use broken::{Broken, Rule, Subject};
 pub use built_in::BuiltInType;
+pub use laws::first_is_one;
 pub use refusal::Refusal;
 pub use row::{Counts, Row};
 pub use ruby_base::{NoMemory, Seq, Text};
