@@ -18,6 +18,7 @@ pub mod Prototypes
 pub mod Returns
 pub mod Scopes
 pub mod StateFunctions
+pub mod TransitionNames
 pub mod TwiceDeclared
 pub mod TwoTransitions
 pub mod Types
