@@ -1,13 +1,37 @@
--- Two broken rules of which neither comes before the other are equal in the order.
-use Rattle.std.proofs.Common.{◌≡◌, ℕ, false, List, [], ◌∷◌, refl, subst, arith, Contains, All}
+-- The order of broken rules is one: two of which neither comes before the other are equal in it, and the first is found by
+-- going through them.
+use Rattle.std.proofs.Common.{◌≡◌, ◌<◌, ◌++◌, ℕ, Bool, true, false, cond, Option, None, Some, List, [], ◌∷◌, refl, sym, take, add-one, ◌+◌, subst, arith, lit<, suc, Contains, All, slice_index_or, length}
+use Rattle.std.proofs.Math.Seq.{take-suc}
+use Rattle.std.proofs.lemmas.List.Elements.{All-push, All-nil, Contains-append_left}
 use Rattle.slicc_plan.specs.declared.broken.Broken.{Broken}
-use Rattle.slicc_plan.specs.Order.{IsFirstBroken, comes_before, is_less, rank_of}
+use Rattle.slicc_plan.specs.Order.{IsFirstBroken, IsFirstOf, comes_before, earlier_of, is_less, rank_of}
 
 pub equal_unless_less : (ms ns : List ℕ) → is_less ms ns ≡ false → is_less ns ms ≡ false → ms ≡ ns
 equal_unless_less [] [] h k = refl
 equal_unless_less [] (n ∷ ns) h k = cc
 equal_unless_less (m ∷ ms) [] h k = cc
 equal_unless_less (m ∷ ms) (n ∷ ns) h k = grind (arith, equal_unless_less ms ns)
+
+pub less_trans : (ls ms ns : List ℕ) → is_less ls ms ≡ true → is_less ms ns ≡ true → is_less ls ns ≡ true
+less_trans [] [] ns h k = cc
+less_trans [] (m ∷ ms) [] h k = cc
+less_trans [] (m ∷ ms) (n ∷ ns) h k = refl
+less_trans (l ∷ ls) [] ns h k = cc
+less_trans (l ∷ ls) (m ∷ ms) [] h k = cc
+less_trans (l ∷ ls) (m ∷ ms) (n ∷ ns) h k = grind (arith, less_trans ls ms ns)
+
+pub not_less_self : (ns : List ℕ) → is_less ns ns ≡ false
+not_less_self [] = refl
+not_less_self (n ∷ ns) = grind (arith, not_less_self ns)
+
+-- what isn't before one isn't before another that is before that
+pub not_less : (cs bs fs : List ℕ) (v : Bool) → v ≡ is_less cs bs → is_less bs fs ≡ true → is_less cs fs ≡ false → is_less cs bs ≡ false
+not_less cs bs fs true e earlier h = let both = less_trans cs bs fs (sym e) earlier in cc
+not_less cs bs fs false e earlier h = sym e
+
+pub not_before : (c b f : Broken) → comes_before b f ≡ true → comes_before c f ≡ false → comes_before c b ≡ false
+not_before c b f earlier h =
+    not_less (rank_of c) (rank_of b) (rank_of f) (comes_before c b) refl earlier h
 
 -- what holds of each element holds of this one
 pub of_contained : (all : List Broken) (b c : Broken) → All (λ (a : Broken). comes_before a b ≡ false) all → Contains all c → comes_before c b ≡ false
@@ -17,3 +41,38 @@ of_contained all b c h (k, below, e) =
 pub first_rank : (all : List Broken) (b c : Broken) → IsFirstBroken all b → IsFirstBroken all c → rank_of b ≡ rank_of c
 first_rank all b c first other =
     equal_unless_less (rank_of b) (rank_of c) (of_contained all c b other.is_first first.is_among) (of_contained all b c first.is_first other.is_among)
+
+pub last_of : (all : List Broken) (b : Broken) → Contains (all ++ b ∷ []) b
+last_of [] b = (0, lit< tt, refl)
+last_of (a ∷ all) b = let (k, below, e) = last_of all b in (suc k, omega (arith, below), e)
+
+-- one more that comes before the first so far is the first
+pub first_by : (all : List Broken) (f b : Broken) (v : Bool) → v ≡ comes_before b f → IsFirstBroken all f → IsFirstBroken (all ++ b ∷ []) (cond v b f)
+first_by all f b true e first =
+    record {
+      is_among = last_of all b;
+      is_first = All-push (λ (c : Broken). comes_before c b ≡ false) all b (λ k d below. not_before (slice_index_or all k d) b f (sym e) (first.is_first k d below)) (not_less_self (rank_of b));
+    }
+first_by all f b false e first =
+    record {
+      is_among = Contains-append_left all (b ∷ []) f first.is_among;
+      is_first = All-push (λ (c : Broken). comes_before c f ≡ false) all b first.is_first (sym e);
+    }
+
+pub first_of_one : (b : Broken) → IsFirstBroken (b ∷ []) b
+first_of_one b =
+    record {
+      is_among = last_of [] b;
+      is_first = All-push (λ (c : Broken). comes_before c b ≡ false) [] b (All-nil (λ (c : Broken). comes_before c b ≡ false)) (not_less_self (rank_of b));
+    }
+
+pub first_of_push : (all : List Broken) (o : Option Broken) (b : Broken) → IsFirstOf all o → IsFirstOf (all ++ b ∷ []) (Some (earlier_of o b))
+first_of_push all None b empty =
+    let P : List Broken → Type 0 = λ xs. IsFirstBroken (xs ++ b ∷ []) b in subst P (sym empty) (first_of_one b)
+first_of_push all (Some f) b first = first_by all f b (comes_before b f) refl first
+
+-- after one more step through the list
+pub first_of_taken : (xs : List Broken) (i : ℕ) (o : Option Broken) (d r : Broken) → i < length xs → r ≡ earlier_of o (slice_index_or xs i d) → IsFirstOf (take i xs) o → IsFirstBroken (take (i + 1) xs) r
+first_of_taken xs i o d r below e first =
+    let taken : take (i + 1) xs ≡ take i xs ++ slice_index_or xs i d ∷ [] = rw (add-one, take-suc xs i d below) refl in
+    subst (λ ys. IsFirstBroken ys r) (sym taken) (subst (λ b. IsFirstBroken (take i xs ++ slice_index_or xs i d ∷ []) b) (sym e) (first_of_push (take i xs) o (slice_index_or xs i d) first))

@@ -1,6 +1,7 @@
 -- The calls that are there in every protocol without a declaration, by what they are called on, in the order by which they are
 -- numbered. The names are those of gem5's SLICC; that it is these is this project's choice. What `trigger` takes depends on
--- the machine, and so does a machine's own call from its states to permissions, which stands apart.
+-- the machine, and so does a machine's own call from its states to permissions, which isn't listed; its number would be the
+-- one after that of `trigger`.
 use Rattle.std.specs.Prelude.{ℕ, Bool, ◌||◌, ◌++◌, List, [], ◌∷◌, codes}
 use Rattle.std.specs.List.{list_any}
 use Rattle.std.specs.Str.{bytes_eq}

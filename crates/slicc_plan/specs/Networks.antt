@@ -49,7 +49,7 @@ abbrev pub differ : PortOn → PortOn → Bool
 differ p q =
     (is_one_network p.buffer.place q.buffer.place || is_one_own_buffer p q) && not (is_same_known p.message q.message)
 
--- of the ports behind these
+-- of these ports, with those before them
 abbrev pub differing_after : List PortOn → List PortOn → List Broken
 differing_after before [] = []
 differing_after before (p ∷ ps) = port_broken (list_any (differ p) before) p ++ differing_after (before ++ p ∷ []) ps
@@ -109,7 +109,7 @@ abbrev pub are_from_one : Place → Place → Bool
 are_from_one (from_network v) (from_network w) = v == w
 are_from_one _ _ = false
 
--- of the buffers behind these
+-- of these buffers, with those before them
 abbrev pub doubled_after : ℕ → List BufferIn → List BufferIn → List Broken
 doubled_after number before [] = []
 doubled_after number before (b ∷ bs) =

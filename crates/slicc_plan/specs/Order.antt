@@ -2,7 +2,7 @@
 -- machines. Of the former two sorts the one with the earliest place counts, in the order of reading and then of the text, and
 -- at one place the one of the least number. Of the last sort the machines are gone through in order, each rule by rule. The
 -- order and the numbers are this project's own. Which rules are broken, and where, stands in other files.
-use Rattle.std.specs.Prelude.{◌≡◌, ◌||◌, ◌&&◌, ◌==◌, ℕ, Bool, true, false, nat_lt, Contains, All, List, [], ◌∷◌}
+use Rattle.std.specs.Prelude.{◌≡◌, ◌||◌, ◌&&◌, ◌==◌, ℕ, Bool, true, false, nat_lt, cond, Contains, All, MatchOption, Option, None, Some, List, [], ◌∷◌}
 use Rattle.slicc_plan.specs.declared.broken.Broken.{Broken}
 use Rattle.slicc_plan.specs.declared.broken.Subject.{Subject}
 use Rattle.slicc_plan.specs.declared.broken.Subject.TheVariants.{Declarations, Bodies, Machines}
@@ -78,3 +78,12 @@ comes_before b c = is_less (rank_of b) (rank_of c)
 pub record IsFirstBroken (broken : List Broken) (b : Broken) : Type 0 where
   pub is_among : Contains broken b
   pub is_first : All (λ (c : Broken). comes_before c b ≡ false) broken
+
+-- of these broken rules it is the first, or there is none
+abbrev pub IsFirstOf : List Broken → Option Broken → Type 0
+IsFirstOf broken first = MatchOption first (broken ≡ []) (IsFirstBroken broken)
+
+-- the one of two that comes first, where there may be one already
+abbrev pub earlier_of : Option Broken → Broken → Broken
+earlier_of None b = b
+earlier_of (Some f) b = cond (comes_before b f) b f

@@ -20,7 +20,7 @@ told_with number t None = []
 told_with number t (Some u) =
     record { rule = TwoTransitions; machine = number; place = t.span; other = Some u.span } ∷ []
 
--- of the transitions behind these
+-- of these transitions, with those before them
 abbrev pub shared_after : ℕ → Machine → List Transition → List Transition → List Broken
 shared_after number m before [] = []
 shared_after number m before (t ∷ ts) =

@@ -1,5 +1,5 @@
 ghost use Rattle.std.specs.Prelude.{◌≡◌};
-ghost use Rattle.slicc_plan.specs.Order.{comes_before, is_less, number_of, rank_of, subject_of};
+ghost use Rattle.slicc_plan.specs.Order.{IsFirstOf, comes_before, earlier_of, is_less, number_of, rank_of, subject_of};
 
 use slicc_ast::tree::Span;
 
@@ -161,4 +161,25 @@ fn is_less(a: &[u32], b: &[u32]) -> bool
         [first_b, b @ ..] => *first_a < *first_b || *first_a == *first_b && is_less(a, b),
         [] => false,
     }
+}
+
+// The one of two that comes first, where there may be one already.
+fn earlier(first: Option<Broken>, b: Broken) -> Broken
+    ensures { result ≡ earlier_of first b }
+{
+    match first {
+        None => b,
+        Some(f) => { if b.comes_before(f) { b } else { f } }
+    }
+}
+
+/// Of broken rules the one that is told, if there are any.
+pub fn first_broken(broken: &[Broken]) -> Option<Broken>
+    ensures { IsFirstOf broken.now result }
+{
+    let mut first = None;
+    for b in broken {
+        first = Some(earlier(first, *b));
+    }
+    first
 }

@@ -8,7 +8,7 @@ mod laws;
 mod refusal;
 mod row;
 
-pub use broken::{Broken, Rule, Subject};
+pub use broken::{Broken, Rule, Subject, first_broken};
 pub use built_in::BuiltInType;
 pub use laws::first_is_one;
 pub use refusal::Refusal;
