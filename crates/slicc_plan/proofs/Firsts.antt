@@ -1,10 +1,12 @@
 -- The order of broken rules is one: two of which neither comes before the other are equal in it, and the first is found by
 -- going through them.
-use Rattle.std.proofs.Common.{◌≡◌, ◌<◌, ◌++◌, ℕ, Bool, true, false, cond, Option, None, Some, List, [], ◌∷◌, refl, sym, take, add-one, ◌+◌, subst, arith, lit<, suc, Contains, All, slice_index_or, length}
+use Rattle.std.proofs.Common.{◌≡◌, ◌<◌, ◌++◌, ℕ, Bool, true, false, cond, Option, None, Some, List, [], ◌∷◌, flat_map, refl, sym, take, add-one, ◌+◌, subst, arith, lit<, suc, Contains, All, slice_index_or, length}
 use Rattle.std.proofs.Math.Seq.{take-suc}
+use Rattle.std.proofs.Common.{append-nil, append_assoc}
+use Rattle.std.proofs.lemmas.Grind.{flat_map-append}
 use Rattle.std.proofs.lemmas.List.Elements.{All-push, All-nil, Contains-append_left}
 use Rattle.slicc_plan.specs.declared.broken.Broken.{Broken}
-use Rattle.slicc_plan.specs.Order.{IsFirstBroken, IsFirstOf, comes_before, earlier_of, is_less, rank_of}
+use Rattle.slicc_plan.specs.Order.{IsFirstBroken, IsFirstOf, comes_before, earlier_of, first_after, is_less, rank_of}
 
 pub equal_unless_less : (ms ns : List ℕ) → is_less ms ns ≡ false → is_less ns ms ≡ false → ms ≡ ns
 equal_unless_less [] [] h k = refl
@@ -76,3 +78,26 @@ pub first_of_taken : (xs : List Broken) (i : ℕ) (o : Option Broken) (d r : Bro
 first_of_taken xs i o d r below e first =
     let taken : take (i + 1) xs ≡ take i xs ++ slice_index_or xs i d ∷ [] = rw (add-one, take-suc xs i d below) refl in
     subst (λ ys. IsFirstBroken ys r) (sym taken) (subst (λ b. IsFirstBroken (take i xs ++ slice_index_or xs i d ∷ []) b) (sym e) (first_of_push (take i xs) o (slice_index_or xs i d) first))
+
+-- Going through broken rules by `first_after`.
+
+pub first_after_from : (before all : List Broken) (o : Option Broken) → IsFirstOf before o → IsFirstOf (before ++ all) (first_after o all)
+first_after_from before [] o first = subst (λ bs. IsFirstOf bs o) (sym (append-nil before)) first
+first_after_from before (b ∷ all) o first =
+    subst (λ bs. IsFirstOf bs (first_after (Some (earlier_of o b)) all)) (append_assoc before (b ∷ []) all) (first_after_from (before ++ b ∷ []) all (Some (earlier_of o b)) (first_of_push before o b first))
+
+pub first_after_none : (all : List Broken) → IsFirstOf all (first_after None all)
+first_after_none all = first_after_from [] all None refl
+
+-- two lists one behind the other
+pub first_after-append : (o : Option Broken) (bs cs : List Broken) → first_after o (bs ++ cs) ≡ first_after (first_after o bs) cs
+first_after-append o [] cs = refl
+first_after-append o (b ∷ bs) cs = first_after-append (Some (earlier_of o b)) bs cs
+
+-- one more step of a loop in which each element has a list of broken rules
+pub first_after-flat_map : {X : Type 0} (f : X → List Broken) (xs : List X) (i : ℕ) (d : X) (o : Option Broken) → i < length xs → first_after o (flat_map f (take (i + 1) xs)) ≡ first_after (first_after o (flat_map f (take i xs))) (f (slice_index_or xs i d))
+first_after-flat_map f xs i d o below =
+    let taken : take (i + 1) xs ≡ take i xs ++ slice_index_or xs i d ∷ [] = rw (add-one, take-suc xs i d below) refl in
+    let flat : flat_map f (take (i + 1) xs) ≡ flat_map f (take i xs) ++ f (slice_index_or xs i d) =
+        rw (taken, flat_map-append f (take i xs) (slice_index_or xs i d ∷ []), append-nil (f (slice_index_or xs i d))) refl in
+    rw (flat) (first_after-append o (flat_map f (take i xs)) (f (slice_index_or xs i d)))

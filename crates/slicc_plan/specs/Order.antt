@@ -87,3 +87,8 @@ IsFirstOf broken first = MatchOption first (broken ≡ []) (IsFirstBroken broken
 abbrev pub earlier_of : Option Broken → Broken → Broken
 earlier_of None b = b
 earlier_of (Some f) b = cond (comes_before b f) b f
+
+-- the one that comes first of these, where there may be one already
+abbrev pub first_after : Option Broken → List Broken → Option Broken
+first_after first [] = first
+first_after first (b ∷ bs) = first_after (Some (earlier_of first b)) bs

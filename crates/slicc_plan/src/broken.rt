@@ -1,5 +1,5 @@
-ghost use Rattle.std.specs.Prelude.{◌≡◌};
-ghost use Rattle.slicc_plan.specs.Order.{IsFirstOf, comes_before, earlier_of, is_less, number_of, rank_of, subject_of};
+ghost use Rattle.std.specs.Prelude.{◌≡◌, [], ◌∷◌};
+ghost use Rattle.slicc_plan.specs.Order.{IsFirstOf, comes_before, earlier_of, first_after, is_less, number_of, rank_of, subject_of};
 
 use slicc_ast::tree::Span;
 
@@ -171,6 +171,13 @@ fn earlier(first: Option<Broken>, b: Broken) -> Broken
         None => b,
         Some(f) => { if b.comes_before(f) { b } else { f } }
     }
+}
+
+/// The one of a broken rule and of what was found before it that is told.
+pub fn earlier_broken(first: Option<Broken>, b: Broken) -> Option<Broken>
+    ensures { result ≡ first_after first (b ∷ []) }
+{
+    Some(earlier(first, b))
 }
 
 /// Of broken rules the one that is told, if there are any.

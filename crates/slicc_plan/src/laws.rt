@@ -1,10 +1,15 @@
 //! What is known of the definitions of this crate.
-ghost use Rattle.std.specs.Prelude.{◌≡◌, List};
-ghost use Rattle.slicc_plan.specs.Order.{IsFirstBroken, rank_of};
+ghost use Rattle.std.specs.Prelude.{◌≡◌, List, None};
+ghost use Rattle.slicc_plan.specs.Order.{IsFirstBroken, IsFirstOf, first_after, rank_of};
 ghost use Rattle.slicc_plan.specs.declared.broken.Broken.{Broken as BrokenRecord};
 
 /// Of broken rules one at most is the first: two that are have one number and one place.
 pub fn first_is_one()
     ensures { (all : List BrokenRecord) (b c : BrokenRecord) → IsFirstBroken all b
         → IsFirstBroken all c → rank_of b ≡ rank_of c }
+{}
+
+/// Going through broken rules, of which each is compared with the first before it, ends with the first of all.
+pub fn first_is_found()
+    ensures { (all : List BrokenRecord) → IsFirstOf all (first_after None all) }
 {}
