@@ -1,5 +1,5 @@
 -- What is lent from the trees, as the definitions of a protocol's meaning see it.
-use Rattle.std.specs.Prelude.{List, map}
+use Rattle.std.specs.Prelude.{ℕ, List, map}
 use Rattle.slicc_ast.specs.declared.tree.declaration.State.{State}
 use Rattle.slicc_ast.specs.declared.tree.declaration.Symbol.{Symbol}
 use Rattle.slicc_plan.specs.Declarations as plan
@@ -37,3 +37,19 @@ type_of (EnumerationType scope e) =
 type_of (StatesType scope d) =
     types.enumerated (scope_of scope) d.now.name.text (map (λ (s : State). s.name.text) d.now.members.items)
 type_of (StructureType scope s) = types.structured (scope_of scope) s.now
+
+-- the name that is declared
+abbrev pub text_of : Declared → List ℕ
+text_of (Machine m) = m.now.name.text
+text_of (Enumeration e) = e.now.name.text
+text_of (Structure s) = s.now.name.text
+text_of (States s) = s.now.name.text
+text_of (Parameter p) = p.now.name.text
+text_of (Object o) = o.now.name.text
+text_of (OutPort p) = p.now.name.text
+text_of (InPort p) = p.now.name.text
+text_of (Action a) = a.now.name.text
+text_of (Function f) = (plan.function_name f.now).text
+
+abbrev pub texts_of : List Declared → List (List ℕ)
+texts_of ds = map text_of ds

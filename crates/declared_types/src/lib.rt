@@ -3,5 +3,9 @@
 
 mod lent;
 mod lists;
+mod scopes;
+mod table;
+mod tables;
 
 pub use lent::{Declared, KnownType, Scope};
+pub use scopes::Scopes;
