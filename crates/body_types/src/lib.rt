@@ -8,6 +8,7 @@ mod meaning;
 mod meanings;
 mod names;
 mod same;
+mod typed;
 
 pub use environment::{BodySort, Bound, Environment};
 pub use fitting::{agree, fits, is_built_in, is_line, is_value};
@@ -20,3 +21,4 @@ pub use meanings::{
 };
 pub use names::{meaning_named, type_named, value_named, wrong_type_name, wrong_value_name};
 pub use same::same_type;
+pub use typed::{Given, Typed};
