@@ -1,7 +1,9 @@
+pub mod AllRules
 pub mod Attributes
 pub mod Blocks
 pub mod BodySizes
 pub mod BrokenDeclarations
+pub mod BrokenMachines
 pub mod Buffers
 pub mod BuiltIn
 pub mod BuiltInCalls
