@@ -2,6 +2,7 @@
 //! the broken ones is told.
 #![tactic(auto)]
 
+mod answer;
 mod broken;
 mod built_in;
 mod laws;
@@ -9,6 +10,7 @@ mod plan;
 mod refusal;
 mod row;
 
+pub use answer::{answer_is_one, rules_are_of_their_subjects, told_is_first_of_all};
 pub use broken::{Broken, Rule, Subject, first_broken};
 pub use built_in::BuiltInType;
 pub use laws::first_is_one;

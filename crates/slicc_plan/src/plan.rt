@@ -20,7 +20,6 @@ impl Model for Plan {
     ghost use Rattle.std.specs.Prelude.{List};
     ghost use Rattle.slicc_ast.specs.declared.tree.item.Tree.{Tree as TreeRecord};
     ghost use Rattle.slicc_plan.specs.AllRules.{IsAccepted};
-
     ghost use Rattle.std.specs.Coded.{coded_list};
     ghost use Rattle.slicc_ast.specs.contracts.tree.item.Tree as tree;
 
