@@ -6,11 +6,11 @@ use Rattle.slicc_plan.specs.declared.broken.Subject.{Subject}
 use Rattle.slicc_plan.specs.declared.broken.Subject.TheVariants.{Declarations, Bodies, Machines}
 use Rattle.slicc_plan.specs.declared.refusal.Refusal.{Refusal}
 use Rattle.slicc_plan.specs.AllRules.{Common, rule, nothing, IsAccepted, IsPlanOf, keeps_all, breaks_one, no_memory, IsToldOf, of_declarations, of_bodies, of_machines, common_part}
-use Rattle.slicc_plan.specs.Order.{IsFirstBroken, number_of, rank_in, rank_of, subject_of}
+use Rattle.slicc_plan.specs.Order.{IsFirstBroken, number_of, rank_in, rank_of, second_rank, subject_of}
 use Rattle.slicc_plan.proofs.Firsts.{first_rank}
 
 abbrev rule_at : Broken → Common
-rule_at b = rule (number_of b.rule) b.place.file b.place.start
+rule_at b = rule (number_of b.rule) b.place.file b.place.start (second_rank b.other)
 
 -- where the order looks at the same, the same is told
 rule_of_rank : (s t : Subject) (b c : Broken) → rank_in s b ≡ rank_in t c → rule_at b ≡ rule_at c

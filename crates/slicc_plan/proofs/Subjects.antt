@@ -6,12 +6,11 @@ use Rattle.slicc_ast.specs.declared.tree.item.Tree.{Tree}
 use Rattle.slicc_plan.specs.declared.broken.Broken.{Broken}
 use Rattle.slicc_plan.specs.declared.broken.Subject.{Subject}
 use Rattle.slicc_plan.specs.declared.broken.Subject.TheVariants.{Declarations, Bodies, Machines}
-use Rattle.slicc_plan.specs.AllRules.{AreAbout, IsToldOf, of_declarations, of_bodies, of_machines, broken_in_bodies, broken_rules}
+use Rattle.slicc_plan.specs.AllRules.{AreAbout, IsToldOf, of_declarations, of_bodies, of_machines, broken_rules}
+use Rattle.slicc_plan.specs.BrokenBodies.{broken_bodies}
 use Rattle.slicc_plan.specs.BrokenDeclarations.{broken_declarations}
 use Rattle.slicc_plan.specs.BrokenMachines.{broken_machines}
 use Rattle.slicc_plan.specs.Order.{IsFirstBroken, comes_before, is_less, rank_in, rank_of, subject_of}
-use Rattle.slicc_plan.proofs.AboutDeclarations.{about_declarations}
-use Rattle.slicc_plan.proofs.AboutMachines.{about_machines}
 
 -- what is told first of lists that are put together
 
@@ -63,10 +62,10 @@ told_third [] [] ms b none none_too first = first
 told_third [] (c ∷ bs) ms b none none_too first = cc
 told_third (d ∷ ds) bs ms b none none_too first = cc
 
-pub told_of_all : (trees : List Tree) (b : Broken) → AreAbout Bodies (broken_in_bodies trees) → IsToldOf trees b → IsFirstBroken (broken_rules trees) b
-told_of_all trees b in_bodies (of_declarations first) =
-    told_first (broken_declarations trees) (broken_in_bodies trees) (broken_machines trees) b (about_declarations trees) in_bodies (about_machines trees) first
-told_of_all trees b in_bodies (of_bodies none first) =
-    told_second (broken_declarations trees) (broken_in_bodies trees) (broken_machines trees) b none in_bodies (about_machines trees) first
-told_of_all trees b in_bodies (of_machines none none_too first) =
-    told_third (broken_declarations trees) (broken_in_bodies trees) (broken_machines trees) b none none_too first
+pub told_of_all : (trees : List Tree) (b : Broken) → AreAbout Declarations (broken_declarations trees) → AreAbout Bodies (broken_bodies trees) → AreAbout Machines (broken_machines trees) → IsToldOf trees b → IsFirstBroken (broken_rules trees) b
+told_of_all trees b in_declarations in_bodies in_machines (of_declarations first) =
+    told_first (broken_declarations trees) (broken_bodies trees) (broken_machines trees) b in_declarations in_bodies in_machines first
+told_of_all trees b in_declarations in_bodies in_machines (of_bodies none first) =
+    told_second (broken_declarations trees) (broken_bodies trees) (broken_machines trees) b none in_bodies in_machines first
+told_of_all trees b in_declarations in_bodies in_machines (of_machines none none_too first) =
+    told_third (broken_declarations trees) (broken_bodies trees) (broken_machines trees) b none none_too first

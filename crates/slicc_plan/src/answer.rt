@@ -1,7 +1,8 @@
 //! What is known of the answers for a protocol.
 ghost use Rattle.std.specs.Prelude.{◌≡◌, ◌≢◌, List, Result};
 ghost use Rattle.slicc_ast.specs.declared.tree.item.Tree.{Tree as TreeRecord};
-ghost use Rattle.slicc_plan.specs.AllRules.{AreAbout, IsPlanOf, IsToldOf, broken_in_bodies, broken_rules, common_part, nothing};
+ghost use Rattle.slicc_plan.specs.AllRules.{AreAbout, IsPlanOf, IsToldOf, broken_rules, common_part, nothing};
+ghost use Rattle.slicc_plan.specs.BrokenBodies.{broken_bodies};
 ghost use Rattle.slicc_plan.specs.BrokenDeclarations.{broken_declarations};
 ghost use Rattle.slicc_plan.specs.BrokenMachines.{broken_machines};
 ghost use Rattle.slicc_plan.specs.Order.{IsFirstBroken};
@@ -10,21 +11,17 @@ ghost use Rattle.slicc_plan.specs.declared.broken.Subject.TheVariants.{Declarati
 ghost use Rattle.slicc_plan.specs.declared.refusal.Refusal.{Refusal as RefusalData};
 
 /// Where memory suffices, a protocol is always answered by its plan, or always by a rule of one number with a place that begins
-/// at one byte.
+/// at one byte, and a second place, if any, that begins at one byte.
 pub fn answer_is_one()
     ensures { (trees : List TreeRecord) (a b : Result (List TreeRecord) RefusalData) → IsPlanOf trees a → IsPlanOf trees b
         → common_part a ≢ nothing → common_part b ≢ nothing → common_part a ≡ common_part b }
 {}
 
-/// What is told phase by phase is the first of all broken rules, where those of bodies are rules of bodies.
+/// What is told phase by phase is the first of all broken rules in their order, as long as what is broken in declarations, in
+/// bodies and in machines is by rules that are about them.
 pub fn told_is_first_of_all()
-    ensures { (trees : List TreeRecord) (b : BrokenRecord) → AreAbout Bodies (broken_in_bodies trees)
+    ensures { (trees : List TreeRecord) (b : BrokenRecord)
+        → AreAbout Declarations (broken_declarations trees) → AreAbout Bodies (broken_bodies trees)
+        → AreAbout Machines (broken_machines trees)
         → IsToldOf trees b → IsFirstBroken (broken_rules trees) b }
-{}
-
-/// The rules that declarations break are rules of declarations, and those that machines break are rules of machines.
-pub fn rules_are_of_their_subjects()
-    ensures declarations { (trees : List TreeRecord) → AreAbout Declarations (broken_declarations trees) }
-    ensures bodies { (trees : List TreeRecord) → AreAbout Bodies (broken_in_bodies trees) }
-    ensures machines { (trees : List TreeRecord) → AreAbout Machines (broken_machines trees) }
 {}

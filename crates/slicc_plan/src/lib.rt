@@ -10,17 +10,11 @@ mod plan;
 mod refusal;
 mod row;
 
-<<<<<<< HEAD
+pub use answer::{answer_is_one, told_is_first_of_all};
 pub use broken::{Broken, Rule, Subject, earlier_broken, earlier_of_two, first_broken};
 pub use built_in::BuiltInType;
 pub use laws::{first_is_found, first_is_one};
-=======
-pub use answer::{answer_is_one, rules_are_of_their_subjects, told_is_first_of_all};
-pub use broken::{Broken, Rule, Subject, first_broken};
-pub use built_in::BuiltInType;
-pub use laws::first_is_one;
 pub use plan::{Plan, copy_plan, same_plan};
->>>>>>> 77b706284f8206a748d73f1127146f9eb3232ce1
 pub use refusal::Refusal;
 pub use row::{Counts, Row};
 pub use ruby_base::{NoMemory, Seq, Text};
