@@ -1,2 +1,4 @@
-pub mod Places
-pub mod Repeats
+mod BlockScopes
+mod Places
+mod Repeats
+mod Steps

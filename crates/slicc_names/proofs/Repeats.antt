@@ -10,7 +10,7 @@ use Rattle.slicc_plan.proofs.Firsts.{first_after-append}
 use Rattle.slicc_plan.specs.declared.broken.Broken.{Broken}
 use Rattle.slicc_plan.specs.Declarations.{Declaration, name_of}
 use Rattle.slicc_plan.specs.Order.{first_after}
-use Rattle.slicc_plan.specs.TwiceDeclared.{first_with, listed, names_of, repeated_after, told_after, told_with}
+use Rattle.slicc_plan.specs.TwiceDeclared.{first_with, listed, names_of, repeated, repeated_after, told_after, told_with}
 use Rattle.slicc_names.specs.Lookups.{FindSame}
 
 pub same_behind : (bs cs xs : List Name) → FindSame bs cs → FindSame (bs ++ xs) (cs ++ xs)
@@ -68,3 +68,11 @@ one_step f xs i d bs cs ds at_start first next below is told found more later =
       told = told_behind bs cs (names_of (flat_map f (take i xs))) (names_of (f d)) at_start first next told found more ∙ ap (λ ns. first_after at_start (repeated_after bs ns)) (sym all);
       names = λ text. found_behind bs cs ds (names_of (flat_map f (take i xs))) (names_of (f d)) found later text ∙ ap (λ ns. first_with text (bs ++ ns)) (sym all);
     }
+
+-- a scope whose names are declared from two lists
+pub two_lists : (ds es : List Declaration) (bs cs : List Name) (f g h : Option Broken) → bs ≡ [] → g ≡ first_after f (repeated_after bs (names_of ds)) → FindSame cs (bs ++ names_of ds)
+    → h ≡ first_after g (repeated_after cs (names_of es)) → h ≡ first_after f (repeated (ds ++ es))
+two_lists ds es bs cs f g h empty p same q =
+    told_behind bs cs (names_of ds) (names_of es) f g h p same q
+    ∙ ap (λ ns. first_after f (repeated_after ns (names_of ds ++ names_of es))) empty
+    ∙ ap (λ ns. first_after f (repeated_after [] ns)) (sym (names_of-append ds es))
