@@ -1,7 +1,8 @@
 -- Going through parts of a tree, of which each has scopes.
-use Rattle.std.proofs.Common.{◌≡◌, ◌<◌, ◌+◌, ℕ, List, [], ◌∷◌, ◌++◌, flat_map, take, Option, None, Some, refl, sym, ap, ◌∙◌, append-nil, add-one, slice_index_or, length}
+use Rattle.std.proofs.Common.{◌≡◌, ◌<◌, ◌≤◌, ◌+◌, ℕ, List, [], ◌∷◌, ◌++◌, flat_map, take, Option, None, Some, refl, sym, ap, ◌∙◌, append-nil, add-one, slice_index_or, length}
 use Rattle.std.proofs.Math.Seq.{take-suc}
 use Rattle.std.proofs.lemmas.Grind.{flat_map-append}
+use Rattle.std.proofs.lemmas.List.{take_all}
 use Rattle.slicc_plan.proofs.Firsts.{first_after-append}
 use Rattle.slicc_plan.specs.declared.broken.Broken.{Broken}
 use Rattle.slicc_plan.specs.Declarations.{Declaration}
@@ -31,3 +32,7 @@ told_in_three xs ys zs f g h k p q r = told_in_both (xs ++ ys) zs f h k (told_in
 pub told_in_body : (own : List Declaration) (xs : List (List Declaration)) (f g h : Option Broken) → g ≡ first_after f (repeated own) → h ≡ first_after g (flat_map repeated xs) → h ≡ first_after f (flat_map repeated (own ∷ xs))
 told_in_body own xs f g h p q =
     q ∙ ap (λ o. first_after o (flat_map repeated xs)) p ∙ sym (first_after-append f (repeated own) (flat_map repeated xs))
+
+-- at the end of the loop
+pub told_in_all : {X : Type 0} (k : X → List (List Declaration)) (xs : List X) (i : ℕ) (f g : Option Broken) → length xs ≤ i → g ≡ first_after f (flat_map repeated (flat_map k (take i xs))) → g ≡ first_after f (flat_map repeated (flat_map k xs))
+told_in_all k xs i f g past told = told ∙ ap (λ ys. first_after f (flat_map repeated (flat_map k ys))) (take_all i xs past)

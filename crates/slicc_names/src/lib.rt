@@ -4,5 +4,7 @@
 mod blocks;
 mod declared;
 mod declares;
+mod external;
+mod scopes;
 
 pub use slicc_plan::{NoMemory, Refusal};
