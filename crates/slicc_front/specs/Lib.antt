@@ -1,3 +1,4 @@
+pub mod Front
 pub mod Gathering
 pub mod Names
 pub mod Reads
