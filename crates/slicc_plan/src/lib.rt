@@ -6,6 +6,7 @@ mod answer;
 mod broken;
 mod built_in;
 mod laws;
+mod machine;
 mod plan;
 mod refusal;
 mod row;
@@ -14,6 +15,7 @@ pub use answer::{answer_is_one, rules_are_of_their_subjects, told_is_first_of_al
 pub use broken::{Broken, Rule, Subject, first_broken};
 pub use built_in::BuiltInType;
 pub use laws::first_is_one;
+pub use machine::machine_at;
 pub use plan::{Plan, copy_plan, same_plan};
 pub use refusal::Refusal;
 pub use row::{Counts, Row};
