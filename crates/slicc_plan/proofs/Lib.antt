@@ -4,5 +4,6 @@ mod AboutDeclarations
 mod AboutMachines
 mod Accepted
 mod Firsts
+mod MachinesFound
 mod OneAnswer
 mod Subjects
