@@ -5,5 +5,8 @@ mod AboutMachines
 mod Accepted
 mod Firsts
 mod MachinesFound
+mod NoReferences
 mod OneAnswer
+mod SetupFields
+mod SetupParts
 mod Subjects

@@ -52,7 +52,7 @@ abbrev pub table_sort : Option KnownType → Pairs → Option TableSort
 table_sort t pairs =
     cond (is_built_in Cache t) (Some cache)
     (cond (is_built_in Directory t) (Some directory)
-     (cond (is_built_in TbeTable t) (Some (tbes (written_entries pairs))) None))
+    (cond (is_built_in TbeTable t) (Some (tbes (written_entries pairs))) None))
 
 abbrev pub table_in : List Tree → Machine → Declaration → Option TableSort
 table_in trees m (parameter p) = table_sort (type_in trees (within m) p.kind.text) p.pairs
@@ -140,8 +140,8 @@ literal_value k literal = default_value k
 
 abbrev pub written_value : Kind → Bool → Option Literal → Value
 written_value k counts_cycles (Some literal) = literal_value k literal
-written_value k true None = value.Int (pos 1)
-written_value k false None = default_value k
+written_value kind.Int true None = value.Int (pos 1)
+written_value k counts_cycles None = default_value k
 
 -- a topology sets numbers alone
 abbrev pub set_value : Kind → Value → Option (ℕ × ℤ) → Value

@@ -10,6 +10,7 @@ mod machine;
 mod plan;
 mod refusal;
 mod row;
+mod setup;
 
 pub use answer::{answer_is_one, rules_are_of_their_subjects, told_is_first_of_all};
 pub use broken::{Broken, Rule, Subject, first_broken};
@@ -20,4 +21,5 @@ pub use plan::{Plan, copy_plan, same_plan};
 pub use refusal::Refusal;
 pub use row::{Counts, Row};
 pub use ruby_base::{NoMemory, Seq, Text};
+pub use setup::{initial_fields_have_their_kinds, no_field_is_a_reference, setup_has_its_parts};
 pub use slicc_ast::tree::Span;

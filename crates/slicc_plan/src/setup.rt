@@ -1,0 +1,35 @@
+//! What is known of what a machine of a protocol is to its controllers.
+ghost use Rattle.std.specs.Prelude.{◌≡◌, ◌+◌, ℕ, All, IsTrue, List, false, length};
+ghost use Rattle.ruby_value.specs.HasKinds.{has_kinds};
+ghost use Rattle.ruby_value.specs.IsReference.{is_reference};
+ghost use Rattle.ruby_value.specs.declared.kind.Kind.{Kind};
+ghost use Rattle.ruby_value.specs.declared.setup.BufferSetup.{BufferSetup};
+ghost use Rattle.ruby_value.specs.declared.setup.Sizes.{Sizes};
+ghost use Rattle.ruby_value.specs.declared.setup.TableSetup.{TableSetup};
+ghost use Rattle.slicc_ast.specs.declared.tree.item.Tree.{Tree as TreeRecord};
+ghost use Rattle.slicc_ast.specs.declared.tree.machine.Machine.{Machine as MachineRecord};
+ghost use Rattle.slicc_plan.specs.Buffers.{buffers_of};
+ghost use Rattle.slicc_plan.specs.Setups.{setup_in, tables_of};
+
+/// A machine has its tables and that of its parameters, and its buffers.
+pub fn setup_has_its_parts()
+    ensures tables { (trees : List TreeRecord) (number : ℕ) (sizes : Sizes) (m : MachineRecord)
+        → length (setup_in trees number sizes m).tables ≡ length (tables_of trees m) + 1 }
+    ensures buffers { (trees : List TreeRecord) (number : ℕ) (sizes : Sizes) (m : MachineRecord)
+        → length (setup_in trees number sizes m).buffers ≡ length (buffers_of trees m) }
+{}
+
+/// The fields that a line has from the start are of the kinds that its table's lines have.
+pub fn initial_fields_have_their_kinds()
+    ensures { (trees : List TreeRecord) (number : ℕ) (sizes : Sizes) (m : MachineRecord)
+        → All (λ (s : TableSetup). IsTrue (has_kinds s.kinds s.initial)) (setup_in trees number sizes m).tables }
+{}
+
+/// No field of a line, no parameter and no field of a message is a reference.
+pub fn no_field_is_a_reference()
+    ensures tables { (trees : List TreeRecord) (number : ℕ) (sizes : Sizes) (m : MachineRecord)
+        → All (λ (s : TableSetup). All (λ (k : Kind). is_reference k ≡ false) s.kinds) (setup_in trees number sizes m).tables }
+    ensures buffers { (trees : List TreeRecord) (number : ℕ) (sizes : Sizes) (m : MachineRecord)
+        → All (λ (b : BufferSetup). All (λ (k : Kind). is_reference k ≡ false) b.kinds)
+        (setup_in trees number sizes m).buffers }
+{}
