@@ -7,6 +7,8 @@ mod Firsts
 mod MachinesFound
 mod NoReferences
 mod OneAnswer
+mod Receivers
+mod Room
 mod SetupFields
 mod SetupParts
 mod Subjects

@@ -2,7 +2,7 @@
 -- caches, directories and TBE tables, and its buffers those of type `MessageBuffer`, each numbered from 0 in the order of the
 -- text; after its tables comes that of its parameters. Without a size that is set a cache has 64 sets of 4 ways and a TBE table
 -- the entries that its declaration writes, else 16. A parameter without a literal is 1 where it is of type `Cycles`.
-use Rattle.std.specs.Prelude.{ℕ, ◌≡◌, ◌≤◌, ◌*◌, ◌+◌, ◌==◌, All, length, Bool, true, false, cond, ℤ, pos, neg_ℤ, Option, None, Some, List, [], ◌∷◌, ◌++◌, filter_map, find, flat_map, is_none, map, slice_get, unwrap_or, codes}
+use Rattle.std.specs.Prelude.{ℕ, ◌≡◌, ◌≤◌, ◌*◌, ◌+◌, ◌==◌, All, IfSome, length, Bool, true, false, cond, ℤ, pos, neg_ℤ, Option, None, Some, List, [], ◌∷◌, ◌++◌, filter_map, find, flat_map, is_none, map, slice_get, unwrap_or, codes}
 use Rattle.std.specs.Option.{option_map}
 use Rattle.std.specs.Str.{bytes_eq}
 use Rattle.ruby_value.specs.declared.kind.Kind.{Kind}
@@ -193,6 +193,15 @@ abbrev pub buffer_place : List Tree → Place → Option KnownType → BufferPla
 buffer_place trees own t = place.Local
 buffer_place trees (to_network v) t = place.To v (receivers_field trees t)
 buffer_place trees (from_network v) t = place.From v
+
+-- the field that is said to name the receivers is a set of controllers
+abbrev pub NamesReceivers : BufferSetup → Type 0
+NamesReceivers b = is_set b.place
+  where
+    is_set : BufferPlace → Type 0
+    is_set place.Local = Unit {0}
+    is_set (place.To network receivers) = IfSome receivers (λ field. slice_get b.kinds field ≡ Some kind.Dest)
+    is_set (place.From network) = Unit {0}
 
 abbrev pub kinds_on : List Tree → Option KnownType → List Kind
 kinds_on trees None = []

@@ -1,5 +1,5 @@
 //! What is known of what a machine of a protocol is to its controllers.
-ghost use Rattle.std.specs.Prelude.{◌≡◌, ◌+◌, ℕ, All, IsTrue, List, false, length};
+ghost use Rattle.std.specs.Prelude.{◌≡◌, ◌+◌, ℕ, All, IsTrue, List, Some, false, length, slice_get};
 ghost use Rattle.ruby_value.specs.HasKinds.{has_kinds};
 ghost use Rattle.ruby_value.specs.IsReference.{is_reference};
 ghost use Rattle.ruby_value.specs.declared.kind.Kind.{Kind};
@@ -8,8 +8,10 @@ ghost use Rattle.ruby_value.specs.declared.setup.Sizes.{Sizes};
 ghost use Rattle.ruby_value.specs.declared.setup.TableSetup.{TableSetup};
 ghost use Rattle.slicc_ast.specs.declared.tree.item.Tree.{Tree as TreeRecord};
 ghost use Rattle.slicc_ast.specs.declared.tree.machine.Machine.{Machine as MachineRecord};
+ghost use Rattle.slicc_plan.specs.AllRules.{IsAccepted};
 ghost use Rattle.slicc_plan.specs.Buffers.{buffers_of};
-ghost use Rattle.slicc_plan.specs.Setups.{setup_in, tables_of};
+ghost use Rattle.slicc_plan.specs.Declarations.{machines_of};
+ghost use Rattle.slicc_plan.specs.Setups.{AreSizesOf, HasRoom, NamesReceivers, setup_in, tables_of};
 
 /// A machine has its tables and that of its parameters, and its buffers.
 pub fn setup_has_its_parts()
@@ -32,4 +34,18 @@ pub fn no_field_is_a_reference()
     ensures buffers { (trees : List TreeRecord) (number : ℕ) (sizes : Sizes) (m : MachineRecord)
         → All (λ (b : BufferSetup). All (λ (k : Kind). is_reference k ≡ false) b.kinds)
         (setup_in trees number sizes m).buffers }
+{}
+
+/// The field of a message that names its receivers is a set of controllers.
+pub fn receivers_are_sets()
+    ensures { (trees : List TreeRecord) (number : ℕ) (sizes : Sizes) (m : MachineRecord)
+        → All (λ (b : BufferSetup). NamesReceivers b) (setup_in trees number sizes m).buffers }
+{}
+
+/// In an accepted protocol, with sizes that a topology may set, each table has room for a line, and for no more than the
+/// limits.
+pub fn tables_have_room()
+    ensures { (trees : List TreeRecord) (number : ℕ) (sizes : Sizes) (m : MachineRecord) → IsAccepted trees
+        → AreSizesOf trees sizes → slice_get (machines_of trees) number ≡ Some m
+        → All (λ (s : TableSetup). HasRoom s.size) (setup_in trees number sizes m).tables }
 {}
