@@ -10,5 +10,6 @@ mod OneAnswer
 mod Receivers
 mod Room
 mod SetupFields
+mod SetupNetworks
 mod SetupParts
 mod Subjects

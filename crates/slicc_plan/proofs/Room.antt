@@ -30,22 +30,22 @@ use Rattle.slicc_plan.specs.Values.{bad_attributes, bad_buffer_attributes, bad_e
 
 -- what is in no list that is empty
 
-left_none : {X : Type 0} (xs ys : List X) → xs ++ ys ≡ [] → xs ≡ []
+pub left_none : {X : Type 0} (xs ys : List X) → xs ++ ys ≡ [] → xs ≡ []
 left_none [] ys e = refl
 left_none (x ∷ xs) ys e = cc
 
-right_none : {X : Type 0} (xs ys : List X) → xs ++ ys ≡ [] → ys ≡ []
+pub right_none : {X : Type 0} (xs ys : List X) → xs ++ ys ≡ [] → ys ≡ []
 right_none [] ys e = e
 right_none (x ∷ xs) ys e = cc
 
-none_at : {X Y : Type 0} (f : X → List Y) (xs : List X) (n : ℕ) (x : X) → flat_map f xs ≡ [] → slice_get xs n ≡ Some x → f x ≡ []
+pub none_at : {X Y : Type 0} (f : X → List Y) (xs : List X) (n : ℕ) (x : X) → flat_map f xs ≡ [] → slice_get xs n ≡ Some x → f x ≡ []
 none_at f [] n x e at = cc
 none_at f (y ∷ ys) zero x e at =
     let same : y ≡ x = cc in
     subst (λ z. f z ≡ []) same (left_none (f y) (flat_map f ys) e)
 none_at f (y ∷ ys) (suc n) x e at = none_at f ys n x (right_none (f y) (flat_map f ys) e) at
 
-mapped_at : {X Y : Type 0} (f : X → Y) (xs : List X) (n : ℕ) (x : X) → slice_get xs n ≡ Some x → slice_get (map f xs) n ≡ Some (f x)
+pub mapped_at : {X Y : Type 0} (f : X → Y) (xs : List X) (n : ℕ) (x : X) → slice_get xs n ≡ Some x → slice_get (map f xs) n ≡ Some (f x)
 mapped_at f [] n x at = cc
 mapped_at f (y ∷ ys) zero x at = let same : y ≡ x = cc in subst (λ z. Some (f y) ≡ Some (f z)) same refl
 mapped_at f (y ∷ ys) (suc n) x at = mapped_at f ys n x at
@@ -64,20 +64,25 @@ first_passes p (b ∷ all) a e at =
 abbrev InLimits : ℕ → Type 0
 InLimits n = (1 ≤ n) × (n ≤ 256)
 
-between : (n : ℕ) → is_between 1 256 n ≡ true → InLimits n
-between n e = grind arith
+lower : (low high n : ℕ) → is_between low high n ≡ true → low ≤ n
+lower low high n e = grind arith
 
-number_within : (v : Option ℕ) → is_within 1 256 v ≡ true → InLimits (unwrap_or v 16)
-number_within None e = cc
-number_within (Some n) e = between n e
+upper : (low high n : ℕ) → is_between low high n ≡ true → n ≤ high
+upper low high n e = grind arith
 
-first_within : (all : List Attribute) (o : Option Attribute) → slice_get all 0 ≡ o → map (λ (b : Attribute). bad_value b.place) (filter (λ (b : Attribute). not (is_number_within 1 256 b.value)) all) ≡ [] → InLimits (unwrap_or (attribute_number o) 16)
-first_within all None at e = (omega arith, omega arith)
-first_within all (Some a) at e =
-    number_within (number_value a.value) (first_passes (λ (b : Attribute). is_number_within 1 256 b.value) all a e at)
+pub number_within : (low high d : ℕ) (v : Option ℕ) → is_within low high v ≡ true → (low ≤ unwrap_or v d) × (unwrap_or v d ≤ high)
+number_within low high d None e = cc
+number_within low high d (Some n) e = (lower low high n e, upper low high n e)
+
+-- what an attribute gives whose values are all within limits, if what is there without it is within them too
+pub first_within : (low high d : ℕ) (all : List Attribute) (o : Option Attribute) → low ≤ d → d ≤ high → slice_get all 0 ≡ o → map (λ (b : Attribute). bad_value b.place) (filter (λ (b : Attribute). not (is_number_within low high b.value)) all) ≡ [] → (low ≤ unwrap_or (attribute_number o) d) × (unwrap_or (attribute_number o) d ≤ high)
+first_within low high d all None h k at e = (h, k)
+first_within low high d all (Some a) h k at e =
+    number_within low high d (number_value a.value) (first_passes (λ (b : Attribute). is_number_within low high b.value) all a e at)
 
 entries_within : (pairs : Pairs) → bad_entries pairs ≡ [] → InLimits (written_entries pairs)
-entries_within pairs e = first_within (attributes (codes "entries") pairs) _ refl e
+entries_within pairs e =
+    first_within 1 256 16 (attributes (codes "entries") pairs) _ (omega arith) (omega arith) refl e
 
 -- what sort a table is
 
@@ -127,15 +132,19 @@ sorts_within trees m [] e = All-nil SortInLimits
 sorts_within trees m (d ∷ ds) e =
     joined (filter_map (table_in trees m) ds) (table_in trees m d) (declared_within trees m d (left_none (bad_values_of trees (within m) d) (flat_map (bad_values_of trees (within m)) ds) e)) (sorts_within trees m ds (right_none (bad_values_of trees (within m) d) (flat_map (bad_values_of trees (within m)) ds) e))
 
-accepted_values : (trees : List Tree) → IsAccepted trees → bad_values trees ≡ []
+pub accepted_values : (trees : List Tree) → IsAccepted trees → bad_values trees ≡ []
 accepted_values trees h =
     right_none (names_twice_declared trees ++ unknown_types trees ++ limits_passed trees ++ refused_field_types trees) (bad_values trees)
     (left_none (names_twice_declared trees ++ unknown_types trees ++ limits_passed trees ++ refused_field_types trees ++ bad_values trees) (unknown_built_ins trees) h.of_declarations)
 
+-- what is declared in a machine breaks no rule of values
+pub values_kept : (trees : List Tree) (number : ℕ) (m : Machine) → IsAccepted trees → slice_get (machines_of trees) number ≡ Some m → flat_map (bad_values_of trees (within m)) (machine_declarations m) ≡ []
+values_kept trees number m h at =
+    none_at (bad_values_in trees) (wide_scopes trees) (suc number) (within m) (left_none (flat_map (bad_values_in trees) (wide_scopes trees)) (bad_field_defaults trees) (accepted_values trees h)) (mapped_at within (machines_of trees) number m at)
+
 tables_within : (trees : List Tree) (number : ℕ) (m : Machine) → IsAccepted trees → slice_get (machines_of trees) number ≡ Some m → All SortInLimits (tables_of trees m)
 tables_within trees number m h at =
-    sorts_within trees m (machine_declarations m)
-    (none_at (bad_values_in trees) (wide_scopes trees) (suc number) (within m) (left_none (flat_map (bad_values_in trees) (wide_scopes trees)) (bad_field_defaults trees) (accepted_values trees h)) (mapped_at within (machines_of trees) number m at))
+    sorts_within trees m (machine_declarations m) (values_kept trees number m h at)
 
 -- sizes that are set
 

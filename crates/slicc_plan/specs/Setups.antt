@@ -32,7 +32,7 @@ use Rattle.slicc_plan.specs.Declarations.{Declaration, parameter, object, within
 use Rattle.slicc_plan.specs.InitialFields.{field_kinds, initial_fields, message_kinds}
 use Rattle.slicc_plan.specs.Limits.{is_states}
 use Rattle.slicc_plan.specs.Machines.{directory_structure, entry_structure, function_named, tbe_structure}
-use Rattle.slicc_plan.specs.MessageTypes.{message_type, receivers_field}
+use Rattle.slicc_plan.specs.MessageTypes.{message_type, network_type, receivers_field}
 use Rattle.slicc_plan.specs.Networks.{has_sequencer}
 use Rattle.slicc_plan.specs.TypeNumbers.{no_structure, own_default, parameters_number, plain_kind, structure_number}
 use Rattle.slicc_plan.specs.Types.{KnownType, structured, is_built_in, type_in}
@@ -102,6 +102,10 @@ table_of_lines trees m places (Some s) =
 
 abbrev pub table_setup : List Tree → Machine → Sizes → ℕ → TableSort → TableSetup
 table_setup trees m sizes number sort = table_of_lines trees m (table_size sizes number sort) (line_structure m sort)
+
+abbrev pub is_parameters : TableSize → Bool
+is_parameters size.Parameters = true
+is_parameters _ = false
 
 -- of these tables, which are numbered from here on
 abbrev pub tables_from : List Tree → Machine → Sizes → ℕ → List TableSort → List TableSetup
@@ -206,6 +210,21 @@ NamesReceivers b = is_set b.place
 abbrev pub kinds_on : List Tree → Option KnownType → List Kind
 kinds_on trees None = []
 kinds_on trees (Some t) = message_kinds trees t
+
+-- on a network it has the kinds of that network's messages, and their receivers' field
+abbrev pub HasTypeOf : List Tree → BufferSetup → Type 0
+HasTypeOf trees b = has_type b.place
+  where
+    has_type : BufferPlace → Type 0
+    has_type place.Local = Unit {0}
+    has_type (place.To network receivers) =
+        (b.kinds ≡ kinds_on trees (network_type trees network)) × (receivers ≡ receivers_field trees (network_type trees network))
+    has_type (place.From network) = b.kinds ≡ kinds_on trees (network_type trees network)
+
+abbrev pub network_of : BufferPlace → Option ℕ
+network_of place.Local = None
+network_of (place.To network receivers) = Some network
+network_of (place.From network) = Some network
 
 abbrev pub buffer_by : List Tree → ℕ → Option Pairs → Option BufferIn → List BufferSetup
 buffer_by trees number pairs None = []

@@ -21,5 +21,9 @@ pub use plan::{Plan, copy_plan, same_plan};
 pub use refusal::Refusal;
 pub use row::{Counts, Row};
 pub use ruby_base::{NoMemory, Seq, Text};
-pub use setup::{initial_fields_have_their_kinds, no_field_is_a_reference, receivers_are_sets, setup_has_its_parts, tables_have_room};
+pub use setup::{
+    initial_fields_have_their_kinds, network_has_one_type, networks_are_numbered,
+    no_field_is_a_reference, parameters_are_last, receivers_are_sets, setup_has_its_parts,
+    tables_have_room,
+};
 pub use slicc_ast::tree::Span;
