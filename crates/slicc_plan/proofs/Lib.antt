@@ -7,6 +7,7 @@ mod Firsts
 mod MachinesFound
 mod NoReferences
 mod OneAnswer
+mod Phases
 mod Receivers
 mod Room
 mod SetupFields

@@ -171,7 +171,9 @@ parameter_table trees number m sizes =
     record {
       size = size.Parameters;
       structure = parameters_number trees number;
-      kinds = map (λ (p : ValueParameter). p.kind) (value_parameters trees m) ++ map (λ (v : Value). kind.Int) (range_values sizes);
+      kinds =
+          map (λ (p : ValueParameter). p.kind) (value_parameters trees m)
+          ++ map (λ (v : Value). kind.Int) (range_values sizes);
       initial = values_from sizes 0 (value_parameters trees m) ++ range_values sizes;
     }
 

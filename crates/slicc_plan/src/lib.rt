@@ -12,7 +12,7 @@ mod refusal;
 mod row;
 mod setup;
 
-pub use answer::{answer_is_one, rules_are_of_their_subjects, told_is_first_of_all};
+pub use answer::{answer_is_one, phases_answer, rules_are_of_their_subjects, told_is_first_of_all};
 pub use broken::{Broken, Rule, Subject, first_broken};
 pub use built_in::BuiltInType;
 pub use laws::first_is_one;
