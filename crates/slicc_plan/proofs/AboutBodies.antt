@@ -1,5 +1,5 @@
 -- The rules that are broken in bodies are rules of bodies.
-use Rattle.std.proofs.Common.{◌++◌, ◌&&◌, Bool, false, cond, not, Option, None, Some, List, [], ◌∷◌, map, filter, flat_map, refl}
+use Rattle.std.proofs.Common.{◌++◌, ◌&&◌, Bool, false, cond, not, Option, None, Some, List, filter, flat_map, refl}
 use Rattle.std.specs.Prelude.{is_none}
 use Rattle.slicc_ast.specs.declared.tree.item.Tree.{Tree}
 use Rattle.slicc_ast.specs.declared.tree.machine.Machine.{Machine}

@@ -1,5 +1,5 @@
 -- The rules that are broken in declarations are rules of declarations.
-use Rattle.std.proofs.Common.{◌++◌, ◌-◌, Bool, true, false, cond, not, Option, None, Some, List, [], ◌∷◌, ℕ, map, filter, flat_map, refl}
+use Rattle.std.proofs.Common.{◌++◌, ◌-◌, Bool, true, false, not, Option, None, Some, List, [], ◌∷◌, ℕ, filter, flat_map, refl}
 use Rattle.std.specs.Prelude.{is_some, codes}
 use Rattle.std.specs.List.{slice_get}
 use Rattle.slicc_ast.specs.declared.tree.item.Tree.{Tree}
@@ -7,7 +7,6 @@ use Rattle.slicc_ast.specs.declared.tree.machine.Machine.{Machine}
 use Rattle.slicc_ast.specs.declared.tree.machine.Literal.{Literal}
 use Rattle.slicc_ast.specs.declared.tree.name.Name.{Name}
 use Rattle.slicc_ast.specs.declared.tree.span.Span.{Span}
-use Rattle.slicc_ast.specs.declared.tree.statement.Block.{Block}
 use Rattle.slicc_ast.specs.declared.tree.declaration.Function.{Function}
 use Rattle.slicc_ast.specs.declared.tree.declaration.Function.TheVariants.{Plain, Skipped}
 use Rattle.slicc_ast.specs.declared.tree.declaration.Member.{Member}
@@ -15,7 +14,6 @@ use Rattle.slicc_ast.specs.declared.tree.declaration.Member.TheVariants.{Field, 
 use Rattle.slicc_ast.specs.declared.tree.declaration.Pairs.{Pairs}
 use Rattle.slicc_ast.specs.declared.tree.declaration.PairValue.{PairValue}
 use Rattle.slicc_ast.specs.declared.tree.declaration.Structure.{Structure}
-use Rattle.slicc_plan.specs.declared.broken.Broken.{Broken}
 use Rattle.slicc_plan.specs.declared.broken.Subject.TheVariants.{Declarations}
 use Rattle.slicc_plan.specs.declared.built_in.BuiltInType.TheVariants.{TbeTable, Buffer}
 use Rattle.slicc_plan.specs.AllRules.{AreAbout}
@@ -23,15 +21,15 @@ use Rattle.slicc_plan.specs.Attributes.{Attribute, attributes}
 use Rattle.slicc_plan.specs.Blocks.{body_locals}
 use Rattle.slicc_plan.specs.BrokenDeclarations.{broken_declarations}
 use Rattle.slicc_plan.specs.BuiltInCalls.{is_call}
-use Rattle.slicc_plan.specs.Declarations.{Declaration, machine, enumeration, structure, states, parameter, object, out_port, in_port, action, function, symbol, state, member, formal, local, Scope, within, declared_in, first_named, global_declarations, is_external, machine_declarations, machine_names, machines_of, name_of, place_of, wide_scopes}
+use Rattle.slicc_plan.specs.Declarations.{Declaration, machine, enumeration, structure, states, parameter, object, out_port, in_port, action, function, symbol, state, member, formal, local, Scope, declared_in, first_named, global_declarations, is_external, machine_declarations, machine_names, machines_of, name_of, wide_scopes}
 use Rattle.slicc_plan.specs.FieldTypes.{FieldIn, all_fields, field_type, may_be_field, no_field_type, refused_field, refused_field_types, refused_for}
 use Rattle.slicc_plan.specs.Limits.{all_declarations, beyond, beyond_in_body, beyond_in_declaration, beyond_in_machine, built_in_enumerations, event_members, fields_in, is_action, is_counted_function, is_counted_structure, is_enumeration, is_machine, is_object, is_port, is_sequencer, limit_passed, limits_passed, members_in, most_enumerations, most_fields, most_locals, most_machines, most_members, most_objects, most_of_each, most_ports, most_sequencers, most_structures, state_members}
 use Rattle.slicc_plan.specs.Prototypes.{not_built_in, told_unless, unknown_built_in, unknown_built_ins, unknown_built_ins_in, unknown_method, unknown_prototype, unknown_structure}
 use Rattle.slicc_plan.specs.Scopes.{machine_bodies, scopes_within}
-use Rattle.slicc_plan.specs.TwiceDeclared.{globally_repeated_after, name_place, named_before, names_twice_declared, place_before, repeated, repeated_after, takes_built_in_name, told_alone, told_globally, told_with, twice_declared}
+use Rattle.slicc_plan.specs.TwiceDeclared.{globally_repeated_after, named_before, names_twice_declared, place_before, repeated, repeated_after, takes_built_in_name, told_alone, told_globally, told_with, twice_declared}
 use Rattle.slicc_plan.specs.Types.{KnownType, declared_type, is_built_in, nature_in, table_named, type_in}
 use Rattle.slicc_plan.specs.UnknownTypes.{TypeUse, is_unknown, unknown_in, unknown_type, unknown_types, unknown_use, uses_in}
-use Rattle.slicc_plan.specs.Values.{bad_attributes, bad_buffer_attributes, bad_entries, bad_field_default, bad_field_defaults, bad_literal, bad_literal_of, bad_object_attributes, bad_own_default, bad_value, bad_values, bad_values_in, bad_values_of, is_either, is_number_within, is_right_default, is_right_literal, literal_span}
+use Rattle.slicc_plan.specs.Values.{bad_attributes, bad_buffer_attributes, bad_field_default, bad_literal, bad_object_attributes, bad_own_default, bad_value, bad_values, bad_values_in, bad_values_of, is_either, is_number_within, is_right_default, is_right_literal, literal_span}
 use Rattle.slicc_plan.proofs.About.{about_all, about_both, about_either, about_mapped, about_none, about_one}
 
 -- names declared twice

@@ -1,5 +1,5 @@
 -- The rules that are broken in machines are rules of machines.
-use Rattle.std.proofs.Common.{◌++◌, ◌&&◌, ◌||◌, ℕ, ◌+◌, Bool, true, false, cond, Option, None, Some, List, [], ◌∷◌, find, refl}
+use Rattle.std.proofs.Common.{◌++◌, ◌&&◌, ◌||◌, ℕ, Bool, Option, None, Some, List, [], ◌∷◌, find, refl}
 use Rattle.std.specs.Prelude.{codes, nat_lt}
 use Rattle.std.specs.List.{list_any}
 use Rattle.slicc_ast.specs.declared.tree.item.Tree.{Tree}
@@ -9,7 +9,6 @@ use Rattle.slicc_ast.specs.declared.tree.span.Span.{Span}
 use Rattle.slicc_ast.specs.declared.tree.statement.Block.{Block}
 use Rattle.slicc_ast.specs.declared.tree.declaration.Function.{Function}
 use Rattle.slicc_ast.specs.declared.tree.declaration.Function.TheVariants.{Plain, Skipped}
-use Rattle.slicc_plan.specs.declared.broken.Broken.{Broken}
 use Rattle.slicc_plan.specs.declared.broken.Rule.TheVariants.{NoStates}
 use Rattle.slicc_plan.specs.declared.broken.Subject.TheVariants.{Machines}
 use Rattle.slicc_plan.specs.declared.built_in.BuiltInType.TheVariants.{Void}
@@ -21,7 +20,7 @@ use Rattle.slicc_plan.specs.CallsBetween.{call_circles, circle_at, circles_in, i
 use Rattle.slicc_plan.specs.Declarations.{Declaration, machine, enumeration, structure, states, parameter, object, out_port, in_port, action, function, symbol, state, member, formal, local, within, machine_declarations, machines_of}
 use Rattle.slicc_plan.specs.Limits.{event_members, state_members}
 use Rattle.slicc_plan.specs.MachineParts.{at_end_of_first, is_empty, missing_machine, missing_parts, missing_parts_in}
-use Rattle.slicc_plan.specs.Machines.{function_named, in_each, transitions_of}
+use Rattle.slicc_plan.specs.Machines.{function_named, transitions_of}
 use Rattle.slicc_plan.specs.Networks.{all_ports, are_from_one, differ, differing_after, doubled_after, doubled_in, is_no_request, is_sent_nowhere, is_wrong_way, networks_broken, port_broken, wrong_networks, wrong_ports_in}
 use Rattle.slicc_plan.specs.StateFunctions.{Wanted, alone, are_wanted, built_in_type, is_wanted, own_state, state_functions_in, taken_to_permit, taken_to_read, taken_to_write, told_at, unlike, wrong_state_functions}
 use Rattle.slicc_plan.specs.TwoTransitions.{share_pair, shared_after, shared_pairs, shared_pairs_in, told_with}

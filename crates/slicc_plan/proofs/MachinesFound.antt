@@ -1,5 +1,5 @@
 -- The machine of a number, by the machines of each file.
-use Rattle.std.proofs.Common.{◌≡◌, ◌++◌, ◌+◌, ◌-◌, ◌≤◌, ◌<◌, ℕ, zero, suc, Option, None, Some, List, [], ◌∷◌, refl, sym, subst, ap, ◌∙◌, arith, drop, take, length, slice_get, slice_index_or, flat_map}
+use Rattle.std.proofs.Common.{◌≡◌, ◌++◌, ◌+◌, ◌-◌, ◌≤◌, ◌<◌, ℕ, zero, suc, Option, Some, List, [], ◌∷◌, refl, sym, subst, ap, ◌∙◌, arith, drop, take, length, slice_get, slice_index_or, flat_map}
 use Rattle.std.proofs.lemmas.Grind.{flat_map-append}
 use Rattle.std.proofs.lemmas.List.{take_all}
 use Rattle.slicc_ast.specs.declared.tree.item.Item.{Item}

@@ -1,5 +1,5 @@
 -- No field of a machine's tables or of its messages is a reference.
-use Rattle.std.proofs.Common.{◌≡◌, ◌++◌, ◌+◌, ℕ, Bool, true, false, cond, Option, None, Some, List, [], ◌∷◌, All, map, flat_map, refl}
+use Rattle.std.proofs.Common.{◌≡◌, ◌+◌, ℕ, Bool, true, false, cond, Option, None, Some, List, [], ◌∷◌, All, map, flat_map, refl}
 use Rattle.std.specs.Option.{option_map}
 use Rattle.std.specs.Prelude.{option_and_then}
 use Rattle.std.proofs.lemmas.List.Elements.{All-append, All-cons, All-nil, All-map, All-push}
@@ -21,10 +21,10 @@ use Rattle.slicc_plan.specs.declared.built_in.BuiltInType.TheVariants.{Int, Cycl
 use Rattle.slicc_plan.specs.Buffers.{BufferIn, buffer_in}
 use Rattle.slicc_plan.specs.BuiltIn.{NamedType, is_same_type, request_fields}
 use Rattle.slicc_plan.specs.Declarations.{Declaration, Scope, within, machine_declarations}
-use Rattle.slicc_plan.specs.FieldTypes.{FieldIn, field_type}
+use Rattle.slicc_plan.specs.FieldTypes.{field_type}
 use Rattle.slicc_plan.specs.InitialFields.{field_kind, field_kinds, message_kinds, request_kinds, structure_fields}
 use Rattle.slicc_plan.specs.MessageTypes.{message_type}
-use Rattle.slicc_plan.specs.Setups.{TableSort, ValueParameter, attributes_of, buffer_by, buffer_setups, kinds_on, known_parameter, line_structure, parameter_of, parameter_table, range_values, setup_in, table_of_lines, table_size, tables_from, tables_of, value_parameters}
+use Rattle.slicc_plan.specs.Setups.{TableSort, ValueParameter, attributes_of, buffer_by, kinds_on, known_parameter, line_structure, parameter_of, parameter_table, range_values, setup_in, table_of_lines, table_size, tables_from, tables_of, value_parameters}
 use Rattle.slicc_plan.specs.TypeNumbers.{built_in_kind, declared_number, default_member, kind_or_bool, plain_kind}
 use Rattle.slicc_plan.specs.Types.{KnownType, built_in, enumerated, structured, type_in}
 

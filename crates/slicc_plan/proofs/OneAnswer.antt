@@ -1,12 +1,12 @@
 -- All answers for a protocol have one common part.
-use Rattle.std.proofs.Common.{◌≡◌, ◌≢◌, ◌<◌, ℕ, Contains, Result, Ok, Err, List, [], ◌∷◌, refl, sym, subst, arith}
+use Rattle.std.proofs.Common.{◌≡◌, ◌≢◌, Result, List, [], ◌∷◌, refl, arith}
 use Rattle.slicc_ast.specs.declared.tree.item.Tree.{Tree}
 use Rattle.slicc_plan.specs.declared.broken.Broken.{Broken}
 use Rattle.slicc_plan.specs.declared.broken.Subject.{Subject}
 use Rattle.slicc_plan.specs.declared.broken.Subject.TheVariants.{Declarations, Bodies, Machines}
 use Rattle.slicc_plan.specs.declared.refusal.Refusal.{Refusal}
 use Rattle.slicc_plan.specs.AllRules.{Common, rule, nothing, IsAccepted, IsPlanOf, keeps_all, breaks_one, no_memory, IsToldOf, of_declarations, of_bodies, of_machines, common_part}
-use Rattle.slicc_plan.specs.Order.{IsFirstBroken, number_of, rank_in, rank_of, subject_of}
+use Rattle.slicc_plan.specs.Order.{IsFirstBroken, number_of, rank_in, subject_of}
 use Rattle.slicc_plan.proofs.Firsts.{first_rank}
 
 abbrev rule_at : Broken → Common

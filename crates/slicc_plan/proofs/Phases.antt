@@ -3,7 +3,7 @@ use Rattle.std.proofs.Common.{◌≡◌, Ok, Err, Some, None, List, []}
 use Rattle.slicc_ast.specs.declared.tree.item.Tree.{Tree}
 use Rattle.slicc_plan.specs.declared.broken.Broken.{Broken}
 use Rattle.slicc_plan.specs.declared.refusal.Refusal.{Refusal}
-use Rattle.slicc_plan.specs.AllRules.{IsAccepted, IsPlanOf, keeps_all, breaks_one, no_memory, IsToldOf, of_declarations, of_bodies, of_machines, broken_in_bodies}
+use Rattle.slicc_plan.specs.AllRules.{IsPlanOf, keeps_all, breaks_one, no_memory, of_declarations, of_bodies, of_machines, broken_in_bodies}
 use Rattle.slicc_plan.specs.BrokenDeclarations.{IsAnswered, keeps_all as phase_keeps, breaks_one as phase_breaks, no_memory as phase_stops, broken_declarations}
 use Rattle.slicc_plan.specs.BrokenMachines.{broken_machines}
 

@@ -1,5 +1,5 @@
 -- The field that names the receivers of a message is a set of controllers.
-use Rattle.std.proofs.Common.{◌≡◌, ◌&&◌, ◌<◌, ℕ, zero, suc, Bool, true, false, Option, None, Some, IfSome, List, [], ◌∷◌, All, map, filter, flat_map, length, slice_get, refl, subst, sym, ◌∙◌, get_or}
+use Rattle.std.proofs.Common.{◌≡◌, ◌&&◌, ℕ, zero, suc, Bool, true, false, Option, None, Some, IfSome, List, [], ◌∷◌, All, map, filter, flat_map, slice_get, refl, subst, get_or}
 use Rattle.std.specs.Prelude.{option_and_then, position, codes}
 use Rattle.std.specs.Str.{bytes_eq}
 use Rattle.std.proofs.lemmas.List.Elements.{All-append, All-cons, All-nil}
@@ -14,12 +14,11 @@ use Rattle.slicc_ast.specs.declared.tree.declaration.Member.TheVariants.{Field, 
 use Rattle.slicc_ast.specs.declared.tree.declaration.Pairs.{Pairs}
 use Rattle.slicc_ast.specs.declared.tree.item.Tree.{Tree}
 use Rattle.slicc_ast.specs.declared.tree.machine.Machine.{Machine}
-use Rattle.slicc_plan.specs.declared.built_in.BuiltInType.{BuiltInType}
 use Rattle.slicc_plan.specs.declared.built_in.BuiltInType.TheVariants.{Int, Cycles, Tick, Bool as Boolean, Address, MachineId, MachineType, NetDest, DataBlock, AccessPermission, RequestType, MessageSize, Request, AbstractEntry, Void, Cache, Directory, TbeTable, Sequencer, Buffer}
 use Rattle.slicc_plan.specs.Buffers.{BufferIn, Place, own, to_network, from_network, buffer_in}
 use Rattle.slicc_plan.specs.Declarations.{Declaration, member, Scope, machine_declarations}
 use Rattle.slicc_plan.specs.FieldTypes.{field_of}
-use Rattle.slicc_plan.specs.InitialFields.{field_kind, structure_fields}
+use Rattle.slicc_plan.specs.InitialFields.{field_kind}
 use Rattle.slicc_plan.specs.Limits.{is_field}
 use Rattle.slicc_plan.specs.MessageTypes.{message_type, receivers_field}
 use Rattle.slicc_plan.specs.Networks.{is_destination}

@@ -1,5 +1,5 @@
 -- In an accepted protocol each cache and each TBE table has room within the limits, with the sizes that a topology may set.
-use Rattle.std.proofs.Common.{◌≡◌, ◌++◌, ◌+◌, ◌*◌, ◌≤◌, ◌<◌, ◌&&◌, ◌==◌, ℕ, zero, suc, Bool, true, false, not, cond, Option, None, Some, List, [], ◌∷◌, All, map, filter, flat_map, slice_get, nat_le, refl, subst, sym, arith}
+use Rattle.std.proofs.Common.{◌≡◌, ◌++◌, ◌+◌, ◌≤◌, ◌==◌, ℕ, zero, suc, Bool, true, false, not, cond, Option, None, Some, List, [], ◌∷◌, All, map, filter, flat_map, slice_get, refl, subst, arith}
 use Rattle.std.specs.List.{cons_option}
 use Rattle.std.specs.Prelude.{codes, find, filter_map, unwrap_or}
 use Rattle.std.proofs.lemmas.List.Elements.{All-head, All-tail, All-cons, All-nil, All-push}
@@ -8,17 +8,14 @@ use Rattle.ruby_value.specs.declared.setup.Sizes.{Sizes}
 use Rattle.ruby_value.specs.declared.setup.TableSetup.{TableSetup}
 use Rattle.ruby_value.specs.declared.setup.TableSize.{TableSize}
 use Rattle.slicc_ast.specs.declared.tree.declaration.Pairs.{Pairs}
-use Rattle.slicc_ast.specs.declared.tree.declaration.PairValue.{PairValue}
 use Rattle.slicc_ast.specs.declared.tree.declaration.Structure.{Structure}
 use Rattle.slicc_ast.specs.declared.tree.item.Tree.{Tree}
 use Rattle.slicc_ast.specs.declared.tree.machine.Machine.{Machine}
-use Rattle.slicc_plan.specs.declared.broken.Broken.{Broken}
 use Rattle.slicc_plan.specs.declared.built_in.BuiltInType.TheVariants.{Buffer, Cache, Directory, TbeTable}
 use Rattle.slicc_plan.specs.AllRules.{IsAccepted}
-use Rattle.slicc_plan.specs.Attributes.{Attribute, attributes, first_attribute, is_within, number_value}
-use Rattle.slicc_plan.specs.BrokenDeclarations.{broken_declarations}
+use Rattle.slicc_plan.specs.Attributes.{Attribute, attributes, is_within, number_value}
 use Rattle.slicc_plan.specs.Buffers.{attribute_number}
-use Rattle.slicc_plan.specs.Declarations.{Declaration, machine, enumeration, structure, states, parameter, object, out_port, in_port, action, function, symbol, state, member, formal, local, Scope, everywhere, within, declared_in, machine_declarations, machines_of, wide_scopes}
+use Rattle.slicc_plan.specs.Declarations.{Declaration, machine, enumeration, structure, states, parameter, object, out_port, in_port, action, function, symbol, state, member, formal, local, within, machine_declarations, machines_of, wide_scopes}
 use Rattle.slicc_plan.specs.FieldTypes.{refused_field_types}
 use Rattle.slicc_plan.specs.Limits.{limits_passed}
 use Rattle.slicc_plan.specs.Prototypes.{unknown_built_ins}
@@ -26,7 +23,7 @@ use Rattle.slicc_plan.specs.Setups.{AreSizesOf, HasRoom, TableSort, cache, direc
 use Rattle.slicc_plan.specs.TwiceDeclared.{names_twice_declared}
 use Rattle.slicc_plan.specs.Types.{KnownType, is_built_in, type_in}
 use Rattle.slicc_plan.specs.UnknownTypes.{unknown_types}
-use Rattle.slicc_plan.specs.Values.{bad_attributes, bad_buffer_attributes, bad_entries, bad_field_defaults, bad_literal, bad_object_attributes, bad_value, bad_values, bad_values_in, bad_values_of, is_number_within}
+use Rattle.slicc_plan.specs.Values.{bad_buffer_attributes, bad_entries, bad_field_defaults, bad_literal, bad_object_attributes, bad_value, bad_values, bad_values_in, bad_values_of, is_number_within}
 
 -- what is in no list that is empty
 

@@ -1,11 +1,9 @@
 -- The fields of a machine's tables begin as their kinds are, and none of them nor of its messages is a reference.
-use Rattle.std.proofs.Common.{◌≡◌, ◌++◌, ◌+◌, ◌&&◌, ◌==◌, ℕ, Bool, true, false, cond, Option, None, Some, IsTrue, List, [], ◌∷◌, All, map, flat_map, refl, arith, rules}
+use Rattle.std.proofs.Common.{◌≡◌, ◌++◌, ◌+◌, ◌&&◌, ◌==◌, ℕ, Bool, true, false, Option, None, Some, IsTrue, List, [], ◌∷◌, All, map, flat_map, refl, arith, rules}
 use Rattle.std.specs.Prelude.{ℤ, pos, codes, find}
-use Rattle.std.specs.Option.{option_map}
-use Rattle.std.proofs.lemmas.List.Elements.{All-append, All-cons, All-map, All-nil, All-push}
+use Rattle.std.proofs.lemmas.List.Elements.{All-cons, All-nil, All-push}
 use Rattle.ruby_value.specs.declared.kind.Kind.{Kind}
 use Rattle.ruby_value.specs.declared.kind.Kind.TheVariants as kind
-use Rattle.ruby_value.specs.declared.setup.BufferSetup.{BufferSetup}
 use Rattle.ruby_value.specs.declared.setup.Sizes.{Sizes}
 use Rattle.ruby_value.specs.declared.setup.TableSetup.{TableSetup}
 use Rattle.ruby_value.specs.declared.setup.TableSize.{TableSize}
@@ -14,27 +12,18 @@ use Rattle.ruby_value.specs.declared.value.Value.TheVariants as value
 use Rattle.ruby_value.specs.DefaultValue.{default_value}
 use Rattle.ruby_value.specs.HasKind.{has_kind}
 use Rattle.ruby_value.specs.HasKinds.{has_kinds}
-use Rattle.ruby_value.specs.IsReference.{is_reference}
 use Rattle.slicc_ast.specs.declared.tree.declaration.PairValue.{PairValue}
-use Rattle.slicc_ast.specs.declared.tree.declaration.Pairs.{Pairs}
 use Rattle.slicc_ast.specs.declared.tree.declaration.Structure.{Structure}
 use Rattle.slicc_ast.specs.declared.tree.item.Tree.{Tree}
 use Rattle.slicc_ast.specs.declared.tree.machine.Literal.{Literal}
 use Rattle.slicc_ast.specs.declared.tree.machine.Literal.TheVariants.{Number, Minus, Quoted, True, False}
 use Rattle.slicc_ast.specs.declared.tree.machine.Machine.{Machine}
-use Rattle.slicc_ast.specs.declared.tree.machine.Parameter.{Parameter}
-use Rattle.slicc_plan.specs.declared.built_in.BuiltInType.{BuiltInType}
-use Rattle.slicc_plan.specs.declared.built_in.BuiltInType.TheVariants.{Int, Cycles, Tick, Bool as Boolean, Address, MachineId, MachineType, NetDest, DataBlock, AccessPermission, RequestType, MessageSize, Request, AbstractEntry, Void, Cache, Directory, TbeTable, Sequencer, Buffer}
 use Rattle.slicc_plan.specs.Attributes.{Attribute, first_attribute}
-use Rattle.slicc_plan.specs.Buffers.{BufferIn, buffer_in}
-use Rattle.slicc_plan.specs.BuiltIn.{is_same_type}
-use Rattle.slicc_plan.specs.Declarations.{Declaration, Scope, within, machine_declarations}
+use Rattle.slicc_plan.specs.Declarations.{within}
 use Rattle.slicc_plan.specs.FieldTypes.{FieldIn, field_type}
-use Rattle.slicc_plan.specs.InitialFields.{field_kind, field_kinds, initial_fields, initial_of, initial_value, message_kinds, request_kinds, structure_fields, value_by, value_written}
-use Rattle.slicc_plan.specs.MessageTypes.{message_type}
-use Rattle.slicc_plan.specs.Setups.{TableSort, ValueParameter, attributes_of, buffer_by, buffer_setups, kinds_on, known_parameter, line_structure, literal_value, parameter_of, parameter_table, parameter_value, range_values, set_value, setup_in, table_of_lines, table_size, tables_from, tables_of, value_parameters, values_from, written_value}
-use Rattle.slicc_plan.specs.TypeNumbers.{built_in_kind, declared_number, default_member, kind_or_bool, plain_kind}
-use Rattle.slicc_plan.specs.Types.{KnownType, built_in, enumerated, structured, type_in}
+use Rattle.slicc_plan.specs.InitialFields.{field_kind, initial_of, initial_value, structure_fields, value_by, value_written}
+use Rattle.slicc_plan.specs.Setups.{TableSort, ValueParameter, line_structure, literal_value, parameter_table, range_values, set_value, setup_in, table_of_lines, table_size, tables_from, tables_of, value_parameters, values_from, written_value}
+use Rattle.slicc_plan.specs.Types.{KnownType}
 
 -- kinds of values
 

@@ -1,5 +1,5 @@
 -- The buffers of a network have one type, and the networks of an accepted protocol are those from 0 to 15.
-use Rattle.std.proofs.Common.{◌≡◌, ◌++◌, ◌≤◌, ◌&&◌, ◌==◌, ℕ, Bool, true, false, cond, Option, None, Some, IfSome, List, [], ◌∷◌, All, flat_map, slice_get, refl, arith}
+use Rattle.std.proofs.Common.{◌≡◌, ◌++◌, ◌≤◌, ℕ, Bool, true, false, cond, Option, None, Some, IfSome, List, [], ◌∷◌, All, flat_map, slice_get, refl, arith}
 use Rattle.std.specs.Prelude.{codes}
 use Rattle.std.proofs.lemmas.List.Elements.{All-append, All-cons, All-nil}
 use Rattle.ruby_value.specs.declared.setup.BufferSetup.{BufferSetup}
@@ -12,7 +12,7 @@ use Rattle.slicc_ast.specs.declared.tree.span.Span.{Span}
 use Rattle.slicc_plan.specs.declared.built_in.BuiltInType.TheVariants.{Buffer, TbeTable}
 use Rattle.slicc_plan.specs.AllRules.{IsAccepted}
 use Rattle.slicc_plan.specs.Attributes.{attributes, has_attribute}
-use Rattle.slicc_plan.specs.Buffers.{BufferIn, Place, own, to_network, from_network, buffer_in, buffer_of, place_by, virtual_network}
+use Rattle.slicc_plan.specs.Buffers.{BufferIn, Place, own, to_network, from_network, buffer_in, buffer_of, virtual_network}
 use Rattle.slicc_plan.specs.Declarations.{Declaration, machine, enumeration, structure, states, parameter, object, out_port, in_port, action, function, symbol, state, member, formal, local, within, machine_declarations, machines_of}
 use Rattle.slicc_plan.specs.MessageTypes.{message_type, type_at}
 use Rattle.slicc_plan.specs.Setups.{HasTypeOf, attributes_of, buffer_by, buffer_place, is_ordered, kinds_on, network_of, setup_in}

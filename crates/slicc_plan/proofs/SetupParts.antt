@@ -9,7 +9,7 @@ use Rattle.slicc_ast.specs.declared.tree.item.Tree.{Tree}
 use Rattle.slicc_ast.specs.declared.tree.machine.Machine.{Machine}
 use Rattle.slicc_plan.specs.Buffers.{BufferIn, buffer_in, buffers_of, listed}
 use Rattle.slicc_plan.specs.Declarations.{Declaration, machine_declarations}
-use Rattle.slicc_plan.specs.Setups.{TableSort, cache, directory, tbes, attributes_of, buffer_by, buffer_setups, cache_size, is_parameters, line_structure, parameter_table, setup_in, table_of_lines, table_size, tables_from, tables_of, tbe_size}
+use Rattle.slicc_plan.specs.Setups.{TableSort, cache, directory, tbes, attributes_of, buffer_by, cache_size, is_parameters, line_structure, parameter_table, setup_in, table_of_lines, table_size, tables_from, tables_of, tbe_size}
 
 tables_as_many : (trees : List Tree) (m : Machine) (sizes : Sizes) (number : ℕ) (ts : List TableSort) → length (tables_from trees m sizes number ts) ≡ length ts
 tables_as_many trees m sizes number [] = refl

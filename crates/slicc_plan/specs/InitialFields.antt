@@ -1,7 +1,7 @@
 -- The fields of structures: their kinds, and the values that they have before anything is written to them. A field has the
 -- default that its declaration writes; else a number is 0, and so on, and a member of an enumeration the default of that. These
 -- are the rules of SLICC in gem5.
-use Rattle.std.specs.Prelude.{ℕ, Bool, cond, pos, Option, None, Some, List, [], flat_map, map, unwrap_or, option_and_then, codes}
+use Rattle.std.specs.Prelude.{ℕ, cond, pos, Option, None, Some, List, [], flat_map, map, unwrap_or, option_and_then, codes}
 use Rattle.ruby_value.specs.declared.kind.Kind.{Kind}
 use Rattle.ruby_value.specs.declared.kind.Kind.TheVariants as kind
 use Rattle.ruby_value.specs.declared.value.Value.{Value}
@@ -10,7 +10,6 @@ use Rattle.ruby_value.specs.DefaultValue.{default_value}
 use Rattle.slicc_ast.specs.declared.tree.declaration.PairValue.{PairValue}
 use Rattle.slicc_ast.specs.declared.tree.declaration.Structure.{Structure}
 use Rattle.slicc_ast.specs.declared.tree.item.Tree.{Tree}
-use Rattle.slicc_plan.specs.declared.built_in.BuiltInType.{BuiltInType}
 use Rattle.slicc_plan.specs.declared.built_in.BuiltInType.TheVariants.{Request}
 use Rattle.slicc_plan.specs.Attributes.{Attribute, first_attribute, is_word, number_value}
 use Rattle.slicc_plan.specs.BuiltIn.{NamedType, is_same_type, members_of, request_fields}

@@ -1,7 +1,7 @@
 -- The type of the messages of a buffer. All ports on one virtual network have one type, which is this project's own, and it is
 -- that of each buffer on the network, whether there is a port on it or not. A machine's own buffer has the type of the ports on
 -- it; without one `mandatoryQueue` has `RubyRequest`. Other buffers have no type, and carry no message.
-use Rattle.std.specs.Prelude.{ℕ, ◌&&◌, ◌==◌, Bool, true, false, cond, Option, None, Some, List, find, filter, position}
+use Rattle.std.specs.Prelude.{ℕ, ◌&&◌, ◌==◌, Bool, false, cond, Option, None, Some, List, find, filter, position}
 use Rattle.std.specs.Option.{option_map, option_or}
 use Rattle.std.specs.Str.{bytes_eq}
 use Rattle.slicc_ast.specs.declared.tree.declaration.Member.{Member}
@@ -11,7 +11,7 @@ use Rattle.slicc_plan.specs.Buffers.{BufferIn, Place, own, to_network, from_netw
 use Rattle.slicc_plan.specs.Declarations.{member}
 use Rattle.slicc_plan.specs.Limits.{is_field}
 use Rattle.slicc_plan.specs.Networks.{all_ports, is_destination, is_mandatory}
-use Rattle.slicc_plan.specs.Types.{KnownType, built_in, enumerated, structured}
+use Rattle.slicc_plan.specs.Types.{KnownType, built_in, structured}
 
 abbrev pub is_on_network : ℕ → Place → Bool
 is_on_network network own = false

@@ -22,7 +22,7 @@ use Rattle.slicc_ast.specs.declared.tree.declaration.Pairs.{Pairs}
 use Rattle.slicc_ast.specs.declared.tree.declaration.Structure.{Structure}
 use Rattle.slicc_ast.specs.declared.tree.item.Tree.{Tree}
 use Rattle.slicc_ast.specs.declared.tree.machine.Literal.{Literal}
-use Rattle.slicc_ast.specs.declared.tree.machine.Literal.TheVariants.{Number, Minus, Quoted, True, False}
+use Rattle.slicc_ast.specs.declared.tree.machine.Literal.TheVariants.{Number, Minus, Quoted, True}
 use Rattle.slicc_ast.specs.declared.tree.machine.Machine.{Machine}
 use Rattle.slicc_ast.specs.declared.tree.machine.Parameter.{Parameter}
 use Rattle.slicc_plan.specs.declared.built_in.BuiltInType.TheVariants.{Cycles, Cache, Directory, TbeTable}

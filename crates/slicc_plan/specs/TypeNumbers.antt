@@ -2,7 +2,7 @@
 -- first; then those that are declared, state declarations among them, in the order of reading and of the text. Structures are
 -- numbered in that order too, then comes `RubyRequest`, and then, machine by machine, what the parameters of a machine are kept
 -- in. External structures have no number. All these numbers are this project's own.
-use Rattle.std.specs.Prelude.{ℕ, ◌+◌, ◌||◌, Bool, true, false, cond, Option, None, Some, List, [], ◌∷◌, filter, find, flat_map, length, map, option_and_then, position, unwrap_or, codes}
+use Rattle.std.specs.Prelude.{ℕ, ◌+◌, ◌||◌, Bool, false, cond, Option, None, Some, List, [], ◌∷◌, filter, find, flat_map, length, map, option_and_then, position, unwrap_or, codes}
 use Rattle.std.specs.List.{list_any}
 use Rattle.std.specs.Option.{option_map}
 use Rattle.ruby_value.specs.declared.kind.Kind.{Kind}
