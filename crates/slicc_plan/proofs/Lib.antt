@@ -1,4 +1,12 @@
 mod Accepted
 pub mod Firsts
+mod MachinesFound
+mod NoReferences
 mod OneAnswer
+mod Phases
+mod Receivers
+mod Room
+mod SetupFields
+mod SetupNetworks
+mod SetupParts
 mod Subjects

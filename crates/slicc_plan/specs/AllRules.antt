@@ -24,7 +24,8 @@ pub record IsAccepted (trees : List Tree) : Type 0 where
 pub data IsToldOf (trees : List Tree) (b : Broken) : Type 0 where
   of_declarations : IsFirstBroken (broken_declarations trees) b → IsToldOf trees b
   of_bodies : broken_declarations trees ≡ [] → IsFirstBroken (broken_bodies trees) b → IsToldOf trees b
-  of_machines : broken_declarations trees ≡ [] → broken_bodies trees ≡ [] → IsFirstBroken (broken_machines trees) b → IsToldOf trees b
+  of_machines :
+      broken_declarations trees ≡ [] → broken_bodies trees ≡ [] → IsFirstBroken (broken_machines trees) b → IsToldOf trees b
 
 -- What may be answered for these trees.
 pub data IsPlanOf (trees : List Tree) : Result (List Tree) Refusal → Type 0 where

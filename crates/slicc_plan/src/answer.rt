@@ -1,9 +1,9 @@
 //! What is known of the answers for a protocol.
-ghost use Rattle.std.specs.Prelude.{◌≡◌, ◌≢◌, List, Result};
+ghost use Rattle.std.specs.Prelude.{◌≡◌, ◌≢◌, List, Result, Ok, Err, Some, None};
 ghost use Rattle.slicc_ast.specs.declared.tree.item.Tree.{Tree as TreeRecord};
 ghost use Rattle.slicc_plan.specs.AllRules.{AreAbout, IsPlanOf, IsToldOf, broken_rules, common_part, nothing};
 ghost use Rattle.slicc_plan.specs.BrokenBodies.{broken_bodies};
-ghost use Rattle.slicc_plan.specs.BrokenDeclarations.{broken_declarations};
+ghost use Rattle.slicc_plan.specs.BrokenDeclarations.{IsAnswered, broken_declarations};
 ghost use Rattle.slicc_plan.specs.BrokenMachines.{broken_machines};
 ghost use Rattle.slicc_plan.specs.Order.{IsFirstBroken};
 ghost use Rattle.slicc_plan.specs.declared.broken.Broken.{Broken as BrokenRecord};
@@ -24,4 +24,17 @@ pub fn told_is_first_of_all()
         → AreAbout Declarations (broken_declarations trees) → AreAbout Bodies (broken_bodies trees)
         → AreAbout Machines (broken_machines trees)
         → IsToldOf trees b → IsFirstBroken (broken_rules trees) b }
+{}
+
+/// The phases' answers, one after another, are that for the protocol: a checker may stop after a phase in which a rule is
+/// broken.
+pub fn phases_answer()
+    ensures declarations { (trees : List TreeRecord) (r : RefusalData)
+        → IsAnswered (broken_declarations trees) (Some r) → IsPlanOf trees (Err r) }
+    ensures bodies { (trees : List TreeRecord) (r : RefusalData) → IsAnswered (broken_declarations trees) None
+        → IsAnswered (broken_bodies trees) (Some r) → IsPlanOf trees (Err r) }
+    ensures machines { (trees : List TreeRecord) (r : RefusalData) → IsAnswered (broken_declarations trees) None
+        → IsAnswered (broken_bodies trees) None → IsAnswered (broken_machines trees) (Some r) → IsPlanOf trees (Err r) }
+    ensures plan { (trees : List TreeRecord) → IsAnswered (broken_declarations trees) None
+        → IsAnswered (broken_bodies trees) None → IsAnswered (broken_machines trees) None → IsPlanOf trees (Ok trees) }
 {}

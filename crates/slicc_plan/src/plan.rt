@@ -1,9 +1,12 @@
-ghost use Rattle.std.specs.Prelude.{◌≡◌, ◌↔◌, true, IfOk};
+ghost use Rattle.std.specs.Prelude.{◌≡◌, ◌↔◌, true, IfOk, slice_get};
+ghost use Rattle.std.specs.Option.{option_copied};
 ghost use Rattle.slicc_plan.specs.AllRules.{IsAccepted, shapes_of};
+ghost use Rattle.slicc_plan.specs.Declarations.{machines_of};
 
 use crate::NoMemory;
+use crate::machine::machine_at;
 use ruby_base::Seq;
-use slicc_ast::tree::Tree;
+use slicc_ast::tree::{Machine, Tree};
 use slicc_same::same;
 use std::alloc::Global;
 use std::marker::Model;
@@ -49,6 +52,14 @@ impl Plan {
         ensures accepted { IsAccepted self.now }
     {
         self.trees.as_slice()
+    }
+
+    /// The machine of this number, which counts from 0 in the order of reading and of the text, or `None` where there are
+    /// fewer.
+    pub fn machine(&self, number: u16) -> Option<&Machine>
+        ensures { option_copied result ≡ slice_get (machines_of self.now) number }
+    {
+        machine_at(self.trees(), number)
     }
 }
 
