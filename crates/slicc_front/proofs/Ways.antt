@@ -12,7 +12,7 @@ use Rattle.slicc_front.specs.declared.gathered.Gathered.TheVariants.{Files, Refu
 use Rattle.slicc_front.specs.declared.gathered.Source.{Source}
 use Rattle.slicc_front.specs.declared.reading.Broken.{Broken}
 use Rattle.slicc_front.specs.declared.state.Wanted.{Wanted}
-use Rattle.slicc_front.specs.Gathering.{AreAllowed, AreShort, IsAllowed, IsGathered, IsGatheredFrom, IsShort, source_of}
+use Rattle.slicc_front.specs.Gathering.{AreAllowed, IsAllowed, IsGathered, IsGatheredFrom}
 use Rattle.slicc_front.specs.Gathering.IsGathered.{finished, passed_by, one_too_many, went_on, refused, absent, too_large, too_long, failed, no_memory, no_memory_for}
 use Rattle.slicc_front.specs.Reads.{Read, AreGiven, MayBeGiven, given}
 use Rattle.slicc_front.specs.Texts.{IsReadText, IsReadTokens}
@@ -99,21 +99,6 @@ all_allowed (too_long next long) all = tt
 all_allowed (failed next) all = tt
 all_allowed no_memory all = tt
 all_allowed (no_memory_for next) all = tt
-
-pub all_short : {folder : List ℕ} {seen : List Source} {trees : List Tree} {left : List Wanted} {reads : List Read} {g : Gathered}
-    → IsGathered folder seen trees left reads g → All IsShort seen → AreShort g
-all_short finished all = all
-all_short (passed_by is leads) all = all_short leads all
-all_short (one_too_many unseen many at) all = tt
-all_short (went_on {seen = seen} {w = w} {bytes = bytes} next short read leads) all =
-    all_short leads (All-push IsShort seen (source_of w bytes) all short)
-all_short (refused next short read) all = tt
-all_short (absent next) all = tt
-all_short (too_large next) all = tt
-all_short (too_long next long) all = tt
-all_short (failed next) all = tt
-all_short no_memory all = tt
-all_short (no_memory_for next) all = tt
 
 pub gathered_allowed : (name : List ℕ) (reads : List Read) (g : Gathered) → IsGatheredFrom name reads g → AreAllowed g
 gathered_allowed name reads g is = all_allowed is (All-nil IsAllowed)

@@ -116,11 +116,3 @@ IsAllowed t = IsTrue (is_allowed (tree t))
 abbrev pub AreAllowed : Gathered → Type 0
 AreAllowed (Files seen trees) = All IsAllowed trees
 AreAllowed other = Unit {0}
-
--- a file is no longer than it may be
-abbrev pub IsShort : Source → Type 0
-IsShort s = length s.bytes ≤ file_limit
-
-abbrev pub AreShort : Gathered → Type 0
-AreShort (Files seen trees) = All IsShort seen
-AreShort other = Unit {0}

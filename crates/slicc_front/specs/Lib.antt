@@ -1,4 +1,3 @@
-pub mod Front
 pub mod Gathering
 pub mod Names
 pub mod Reads

@@ -54,6 +54,10 @@ pub record IsSound (files : ℕ) (w : Wanted) : Type 0 where
   pub name : IsUtf8 w.name
   pub file : w.file ≤ files - 1
 
+-- a file is no longer than it may be
+abbrev pub IsShort : Source → Type 0
+IsShort s = length s.bytes ≤ file_limit
+
 pub record AreSound (s : State) : Type 0 where
   pub left : All (IsSound (length s.sources)) s.left.items
   pub sources : All IsShort s.sources

@@ -46,8 +46,8 @@ pub enum Gathered {
     NoMemory,
 }
 
-/// The place of a byte, or of the end of the bytes where the offset is beyond it.
-pub fn place(bytes: &[u8], offset: u32) -> Place
+// The place of a byte, or of the end of the bytes where the offset is beyond it.
+fn place(bytes: &[u8], offset: u32) -> Place
     requires { length bytes.now ≤ 1048576 }
     ensures line { result.line ≡ line_number bytes.now offset }
     ensures column { result.column ≡ column_number bytes.now offset }

@@ -1,9 +1,9 @@
 //! Gathering a protocol's files, one after the other.
 ghost use Rattle.std.specs.Prelude.{◌≡◌, ◌<◌, ◌≤◌, ◌∷◌, length, All, IfNone, IfOk, IsSomeAnd, IsUtf8, MatchOption, codes};
 ghost use Rattle.std.specs.List.{slice_get};
-ghost use Rattle.slicc_front.specs.Gathering.{AreAllowed, AreShort, IsGatheredBy, IsNext, IsShort};
+ghost use Rattle.slicc_front.specs.Gathering.{AreAllowed, IsGatheredBy, IsNext};
 ghost use Rattle.slicc_front.specs.Names.{folder_of};
-ghost use Rattle.slicc_front.specs.Steps.{AreSound, EndsBy, GoesOnBy, IsBegun, IsRefusalOf, IsRefusedFor, IsSound, IsTakenIn, in_order, steps_left};
+ghost use Rattle.slicc_front.specs.Steps.{AreSound, EndsBy, GoesOnBy, IsBegun, IsRefusalOf, IsRefusedFor, IsShort, IsSound, IsTakenIn, in_order, steps_left};
 
 use crate::gathered::{Gathered, Source, refuse};
 use crate::names::folder;
@@ -157,7 +157,6 @@ pub fn gather<L: Library>(alloc: Global, library: &mut L, name: &Text) -> Gather
     requires { IsUtf8 name.now }
     ensures reads { IsGatheredBy L.reads name.now library.old library.new result }
     ensures allowed { AreAllowed result }
-    ensures short { AreShort result }
 {
     match begun(alloc, name.as_slice()) {
         Ok(state) => follow(alloc, library, folder(name.as_slice()), state),

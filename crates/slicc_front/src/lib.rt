@@ -2,18 +2,14 @@
 //! lines want them, and each is read as a tree. Or there is the first of them that can't be.
 #![tactic(auto)]
 
-mod fronting;
 mod gathered;
 mod gathering;
 mod laws;
 mod names;
-mod outcome;
 mod reading;
 mod state;
 
-pub use fronting::front;
 pub use gathered::{Gathered, Refused, Source};
 pub use gathering::gather;
 pub use laws::{files_are_gathered_in_one_way, texts_are_read_in_one_way};
-pub use outcome::Front;
 pub use reading::{Broken, TextFault, TextRule, read_text};
