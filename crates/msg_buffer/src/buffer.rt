@@ -1,4 +1,4 @@
-ghost use Rattle.std.specs.Prelude.{◌≡◌, ◌<◌, ◌≤◌, ◌+◌, ◌↔◌, [], None, Some, length, count_by, IfOk, IfErr, IfSome, IsOk, IsSome, OnOk, OnErr, insert};
+ghost use Rattle.std.specs.Prelude.{◌≡◌, ◌<◌, ◌≤◌, ◌+◌, ◌↔◌, [], None, Some, length, count_by, IfOk, IfErr, IfSome, IsOk, IsSome, IsTrue, OnOk, OnErr, insert};
 ghost use Rattle.std.specs.Option.{option_copied};
 ghost use Rattle.std.specs.VecDeque.{deque_len, deque_capacity};
 ghost use Rattle.ruby_value.specs.declared.message.Message.{Message as MessageRecord};
@@ -54,6 +54,13 @@ impl Buffer {
         ensures order { IsQueue self.now.kept }
     {
         self.queue.len()
+    }
+
+    /// Whether no message has this number.
+    pub fn is_new(&self, number: MsgNo) -> bool
+        ensures { IsTrue result ↔ IsNew self.now.kept number }
+    {
+        !self.queue.iter().any(|m| m.number == number)
     }
 
     /// Makes room for so many more messages, or answers that there is no memory for them. The messages stay as they are.

@@ -1,4 +1,4 @@
-ghost use Rattle.std.specs.Prelude.{◌≡◌, ◌<◌, ◌≤◌, ◌+◌, [], None, Some, length, IfOk, IfErr, IsOk, OnOk, OnErr};
+ghost use Rattle.std.specs.Prelude.{◌≡◌, ◌<◌, ◌≤◌, ◌+◌, ◌↔◌, [], None, Some, length, IfOk, IfErr, IsOk, IsTrue, OnOk, OnErr};
 ghost use Rattle.std.specs.Option.{option_map};
 ghost use Rattle.stall_map.specs.Stalls.{Ascends, IsNew, messages_of, messages_under, next_after, with_stalled, without_line};
 
@@ -62,6 +62,13 @@ impl StallMap {
         ensures order { Ascends self.now.kept }
     {
         self.stalled.len()
+    }
+
+    /// Whether no message has this number.
+    pub fn is_new(&self, number: MsgNo) -> bool
+        ensures { IsTrue result ↔ IsNew self.now.kept number }
+    {
+        !self.stalled.iter().any(|s| s.message.number == number)
     }
 
     /// Makes room for so many more messages, under whatever lines, or answers that there is no memory for them. The messages stay
