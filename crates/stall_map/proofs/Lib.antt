@@ -1,0 +1,4 @@
+mod Lanes
+mod Numbered
+mod Parted
+mod Placed
