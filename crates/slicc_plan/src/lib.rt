@@ -12,6 +12,6 @@ pub use broken::{Broken, Rule, Subject, earlier_broken, first_broken};
 pub use built_in::BuiltInType;
 pub use laws::{first_is_found, first_is_one};
 pub use refusal::Refusal;
-pub use row::{Counts, Row};
+pub use row::{Counts, Row, Written};
 pub use ruby_base::{NoMemory, Seq, Text};
 pub use slicc_ast::tree::Span;
