@@ -1,0 +1,37 @@
+-- What the tables of a protocol's machines answer: for a machine, a state and an event, by their numbers, the one row that is
+-- written for them, or none. There are tables where no state and event of a machine have two written transitions.
+use Rattle.std.specs.Prelude.{ℕ, ◌≡◌, ◌<◌, ◌+◌, ◌*◌, Option, None, Some, Result, Ok, Err, List, [], cond, nat_lt, slice_get}
+use Rattle.slicc_ast.specs.declared.tree.item.Tree.{Tree}
+use Rattle.slicc_ast.specs.declared.tree.machine.Machine.{Machine}
+use Rattle.slicc_ast.specs.declared.tree.span.Span.{Span}
+use Rattle.slicc_plan.specs.declared.broken.Broken.{Broken}
+use Rattle.slicc_plan.specs.declared.row.Row.{Row}
+use Rattle.slicc_plan.specs.Buffers.{listed}
+use Rattle.slicc_plan.specs.Declarations.{machines_of}
+use Rattle.slicc_plan.specs.Machines.{rows}
+
+-- what tables answer
+abbrev pub Answering : Type 0
+Answering = ℕ → ℕ → ℕ → Option Row
+
+abbrev pub rows_of_found : Option Machine → ℕ → ℕ → List Row
+rows_of_found None state event = []
+rows_of_found (Some m) state event = rows m state event
+
+-- the written rows of the machine of this number
+abbrev pub rows_in : List Tree → ℕ → ℕ → ℕ → List Row
+rows_in trees number state event = rows_of_found (slice_get (machines_of trees) number) state event
+
+-- what is written is what is answered, and nothing else is
+abbrev pub AreTablesOf : List Tree → Answering → Type 0
+AreTablesOf trees tables =
+    (number state event : ℕ) → rows_in trees number state event ≡ listed (tables number state event)
+
+-- A table has a place for each pair of its machine, with a row there or none.
+
+abbrev pub inner : {X : Type 0} → Option (Option X) → Option X
+inner None = None
+inner (Some o) = o
+
+abbrev pub answer_at : ℕ → List (Option Row) → ℕ → ℕ → Option Row
+answer_at events rows state event = cond (nat_lt event events) (inner (slice_get rows (state * events + event))) None
