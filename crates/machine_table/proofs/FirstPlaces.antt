@@ -10,7 +10,7 @@ use Rattle.std.proofs.lemmas.List.{get_or-set_same, get_or-set_other}
 use Rattle.slicc_plan.specs.declared.row.Written.{Written}
 use Rattle.slicc_plan.specs.Machines.{includes, is_for}
 use Rattle.slicc_plan.specs.TwoTransitions.{share_pair}
-use Rattle.machine_table.specs.Places.{IsAmong, first_at, is_at, least_at, marked, places_of}
+use Rattle.machine_table.specs.PairPlaces.{IsAmong, first_at, is_at, least_at, marked, places_of}
 use Rattle.machine_table.proofs.Lists.{any_congr, any_fixed, any_flat, any_mapped, any_with, first_in_front, first_of_either}
 
 pub marked_length : (n : ℕ) (ps fs : List ℕ) → length (marked n ps fs) ≡ length fs
@@ -110,3 +110,12 @@ pub first_step : (events k : ℕ) (w : Written) (ws : List Written) (fs : List �
 first_step events k w ws fs c under is below e =
     let front : drop k ws ≡ w ∷ drop (suc k) ws = drop-cons ws k w under ∙ ap (λ v. v ∷ drop (suc k) ws) is in
     first_marked events w (drop (suc k) ws) k fs c below e ∙ ap (λ vs. k + first_at events vs c) (sym front)
+
+pub first_down : (events n : ℕ) (w : Written) (ws : List Written) (fs : List ℕ) (c : ℕ) → 0 < n → n ≤ length ws → w ≡ slice_index_or ws (n - 1) w → c < length fs → slice_index fs c ≡ n + first_at events (drop n ws) c → slice_index (marked (n - 1) (places_of events w) fs) c ≡ n - 1 + first_at events (drop (n - 1) ws) c
+first_down events n w ws fs c above le is below e =
+    let same : n ≡ suc (n - 1) = omega arith in
+    first_step events (n - 1) w ws fs c (omega arith) (sym is) below (subst (λ m. slice_index fs c ≡ m + first_at events (drop m ws) c) same e)
+
+-- one of the transitions is among what all of them are among
+pub among_at : (states events k : ℕ) (w : Written) (ws : List Written) → All (IsAmong states events) ws → k < length ws → w ≡ slice_index_or ws k w → IsAmong states events w
+among_at states events k w ws all below is = subst (IsAmong states events) (sym is) (all k w below)

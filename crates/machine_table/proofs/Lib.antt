@@ -1,3 +1,4 @@
-mod Lists
 mod FirstPlaces
+mod Lists
+mod Behind
 mod RowsOfPlaces

@@ -1,2 +1,3 @@
-pub mod Places
+pub mod Found
+pub mod PairPlaces
 pub mod Tables

@@ -1,9 +1,13 @@
 //! What a machine does on an event in a state, as a table.
 #![tactic(auto)]
 
+mod by_name;
 mod machine_list;
+mod numbers;
+mod parts;
 mod places;
 mod rows;
+mod written;
 
 pub use machine_list::machines;
 pub use ruby_base::{NoMemory, Seq};

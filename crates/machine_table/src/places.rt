@@ -1,6 +1,6 @@
 //! The places of pairs in a machine's table, and the first transition that is written for each of them.
 ghost use Rattle.std.specs.Prelude.{◌≡◌, ◌<◌, ◌≤◌, ◌^◌, ◌+◌, ◌*◌, ◌++◌, ℕ, All, length, map, slice_index, IfOk, OnOk};
-ghost use Rattle.machine_table.specs.Places.{IsAmong, first_at, least_at, marked, places_of};
+ghost use Rattle.machine_table.specs.PairPlaces.{IsAmong, first_at, least_at, marked, places_of};
 
 use ruby_base::{NoMemory, Seq};
 use slicc_plan::Written;

@@ -1,5 +1,5 @@
 use Rattle.std.proofs.Common.{◌≡◌, take}
-use Rattle.machine_table.specs.Places.{marked}
+use Rattle.machine_table.specs.PairPlaces.{marked}
 use Rattle.machine_table.proofs.places.mark.Given as goal
 
 abbrev pub invariant-loop-place : goal.invariant-loop-place

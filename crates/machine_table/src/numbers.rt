@@ -1,0 +1,82 @@
+//! The numbers of a machine's states, events and actions by their names.
+ghost use Rattle.std.specs.Prelude.{◌≡◌, ℕ, List, Some, map, position, IfOk};
+ghost use Rattle.slicc_plan.specs.Declarations.{Declaration, is_named, machine_declarations, name_of, named_declarations, state, symbol};
+ghost use Rattle.slicc_plan.specs.Limits.{event_members, state_members};
+ghost use Rattle.slicc_plan.specs.Machines.{actions_of};
+ghost use Rattle.machine_table.specs.Found.{found_by};
+
+use crate::by_name::Numbers;
+use crate::parts::{events, states};
+use ruby_base::NoMemory;
+use slicc_ast::tree::{Decl, Machine, Name, State, Symbol};
+use std::alloc::Global;
+
+/// A member of an enumeration or of a state declaration.
+pub trait Member {
+    ghost declared: { Self → Declaration };
+
+    fn name(&self) -> &Name
+        ensures { name_of (declared self.now) ≡ Some result.now };
+}
+
+impl Member for State {
+    ghost declared = { state };
+
+    fn name(&self) -> &Name {
+        &self.name
+    }
+}
+
+impl Member for Symbol {
+    ghost declared = { symbol };
+
+    fn name(&self) -> &Name {
+        &self.name
+    }
+}
+
+fn member_numbers<T: Member>(alloc: Global, members: &[T]) -> Result<Numbers, NoMemory>
+    ensures { IfOk result (λ numbers. (text : List ℕ) → found_by numbers text ≡ position (is_named text) (map T.declared members.now)) }
+{
+    let mut numbers = Numbers::new(alloc);
+    for (number, member) in members.iter().enumerate() {
+        numbers.add(member.name().text.as_slice(), number)?;
+    }
+    Ok(numbers)
+}
+
+/// The numbers of a machine's states.
+pub fn state_numbers(alloc: Global, m: &Machine) -> Result<Numbers, NoMemory>
+    ensures { IfOk result (λ numbers. (text : List ℕ) → found_by numbers text ≡ position (is_named text) (state_members m.now)) }
+{
+    match states(m) {
+        None => Ok(Numbers::new(alloc)),
+        Some(s) => member_numbers(alloc, &s.members),
+    }
+}
+
+/// The numbers of a machine's events.
+pub fn event_numbers(alloc: Global, m: &Machine) -> Result<Numbers, NoMemory>
+    ensures { IfOk result (λ numbers. (text : List ℕ) → found_by numbers text ≡ position (is_named text) (event_members m.now)) }
+{
+    match events(m) {
+        None => Ok(Numbers::new(alloc)),
+        Some(e) => member_numbers(alloc, &e.members),
+    }
+}
+
+/// The numbers of a machine's actions.
+pub fn action_numbers(alloc: Global, m: &Machine) -> Result<Numbers, NoMemory>
+    ensures { IfOk result (λ numbers. (text : List ℕ) → found_by numbers text ≡ position (is_named text) (actions_of m.now)) }
+{
+    let mut numbers = Numbers::new(alloc);
+    let mut number = 0;
+    let declarations = m.declarations.as_slice();
+    for d in declarations {
+        if let Decl::Action(a) = d {
+            numbers.add(a.name.text.as_slice(), number)?;
+            number += 1;
+        }
+    }
+    Ok(numbers)
+}
