@@ -2,3 +2,5 @@ mod FirstPlaces
 mod Lists
 mod Behind
 mod RowsOfPlaces
+mod NumbersOfNames
+mod Sharing

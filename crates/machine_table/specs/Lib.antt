@@ -1,3 +1,4 @@
+pub mod Answers
 pub mod Found
 pub mod PairPlaces
-pub mod Tables
+pub mod TablesOf

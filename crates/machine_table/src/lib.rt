@@ -6,8 +6,11 @@ mod machine_list;
 mod numbers;
 mod parts;
 mod places;
+mod shared;
+mod table;
 mod rows;
 mod written;
 
+pub use table::Tables;
 pub use machine_list::machines;
 pub use ruby_base::{NoMemory, Seq};

@@ -1,14 +1,14 @@
 //! The numbers of a machine's states, events and actions by their names.
-ghost use Rattle.std.specs.Prelude.{◌≡◌, ℕ, List, Some, map, position, IfOk};
-ghost use Rattle.slicc_plan.specs.Declarations.{Declaration, is_named, machine_declarations, name_of, named_declarations, state, symbol};
-ghost use Rattle.slicc_plan.specs.Limits.{event_members, state_members};
+ghost use Rattle.std.specs.Prelude.{◌≡◌, ◌++◌, ℕ, List, Some, filter, flat_map, map, position, IfOk, OnOk};
+ghost use Rattle.slicc_plan.specs.Declarations.{Declaration, action, is_named, name_of, named_declarations, state, symbol};
+ghost use Rattle.slicc_plan.specs.Limits.{event_members, is_action, state_members};
 ghost use Rattle.slicc_plan.specs.Machines.{actions_of};
 ghost use Rattle.machine_table.specs.Found.{found_by};
 
 use crate::by_name::Numbers;
 use crate::parts::{events, states};
-use ruby_base::NoMemory;
-use slicc_ast::tree::{Decl, Machine, Name, State, Symbol};
+use ruby_base::{NoMemory, Seq};
+use slicc_ast::tree::{Action, Decl, Machine, Name, State, Symbol};
 use std::alloc::Global;
 
 /// A member of an enumeration or of a state declaration.
@@ -65,18 +65,40 @@ pub fn event_numbers(alloc: Global, m: &Machine) -> Result<Numbers, NoMemory>
     }
 }
 
+fn add_actions<'a>(found: &mut Seq<&'a Action>, declarations: &'a [Decl]) -> Result<(), NoMemory>
+    ensures { OnOk result (map (λ a. action a.now) found.new ≡ map (λ a. action a.now) found.old ++ filter is_action (flat_map named_declarations declarations.now)) }
+{
+    for d in declarations {
+        if let Decl::Action(a) = d {
+            found.push(a)?;
+        }
+    }
+    Ok(())
+}
+
+#[tactic(auto, using(crate::proofs::Behind::actions_behind))]
+fn actions<'a>(alloc: Global, m: &'a Machine) -> Result<Seq<&'a Action>, NoMemory>
+    ensures { IfOk result (λ found. map (λ a. action a.now) found ≡ actions_of m.now) }
+{
+    let mut found = Seq::new(alloc);
+    add_actions(&mut found, m.declarations.as_slice())?;
+    Ok(found)
+}
+
+fn numbers_of_actions(alloc: Global, actions: &[&Action]) -> Result<Numbers, NoMemory>
+    ensures { IfOk result (λ numbers. (text : List ℕ) → found_by numbers text ≡ position (is_named text) (map (λ a. action a.now) actions.now)) }
+{
+    let mut numbers = Numbers::new(alloc);
+    for (number, a) in actions.iter().enumerate() {
+        numbers.add(a.name.text.as_slice(), number)?;
+    }
+    Ok(numbers)
+}
+
 /// The numbers of a machine's actions.
 pub fn action_numbers(alloc: Global, m: &Machine) -> Result<Numbers, NoMemory>
     ensures { IfOk result (λ numbers. (text : List ℕ) → found_by numbers text ≡ position (is_named text) (actions_of m.now)) }
 {
-    let mut numbers = Numbers::new(alloc);
-    let mut number = 0;
-    let declarations = m.declarations.as_slice();
-    for d in declarations {
-        if let Decl::Action(a) = d {
-            numbers.add(a.name.text.as_slice(), number)?;
-            number += 1;
-        }
-    }
-    Ok(numbers)
+    let actions = actions(alloc, m)?;
+    numbers_of_actions(alloc, &actions)
 }

@@ -1,5 +1,6 @@
 //! The written transitions of a machine, their names as numbers.
-ghost use Rattle.std.specs.Prelude.{◌≡◌, filter_map, map, IfOk};
+ghost use Rattle.std.specs.Prelude.{◌≡◌, ◌++◌, filter_map, map, IfOk, OnOk};
+ghost use Rattle.slicc_plan.specs.Buffers.{listed};
 ghost use Rattle.slicc_plan.specs.Machines.{names_in, transitions_of, written_of};
 ghost use Rattle.machine_table.specs.Found.{found_by, found_name, found_next, written_with};
 
@@ -10,15 +11,23 @@ use slicc_ast::tree::{Decl, Machine, Name, Names, Transition};
 use slicc_plan::Written;
 use std::alloc::Global;
 
-// What is found by names, in their order.
+// Adds the number of a name, where it has one.
+fn add_number(found: &mut Seq<u16>, name: &Name, numbers: &Numbers) -> Result<(), NoMemory>
+    ensures { OnOk result (found.new ≡ found.old ++ listed (found_name (found_by numbers.now) name.now)) }
+{
+    match numbers.find(name.text.as_slice()) {
+        None => Ok(()),
+        Some(number) => found.push(number),
+    }
+}
+
+// The numbers of names, in their order.
 fn numbers_of(alloc: Global, names: &[Name], numbers: &Numbers) -> Result<Seq<u16>, NoMemory>
     ensures { IfOk result (λ found. found ≡ filter_map (found_name (found_by numbers.now)) names.now) }
 {
     let mut found = Seq::new(alloc);
     for name in names {
-        if let Some(number) = numbers.find(name.text.as_slice()) {
-            found.push(number)?;
-        }
+        add_number(&mut found, name, numbers)?;
     }
     Ok(found)
 }
@@ -29,9 +38,7 @@ fn numbers_in(alloc: Global, names: &Names, numbers: &Numbers) -> Result<Seq<u16
     match names {
         Names::One(name) => {
             let mut found = Seq::new(alloc);
-            if let Some(number) = numbers.find(name.text.as_slice()) {
-                found.push(number)?;
-            }
+            add_number(&mut found, name, numbers)?;
             Ok(found)
         }
         Names::Several(names, _) => numbers_of(alloc, names, numbers),
