@@ -4,4 +4,4 @@ use Rattle.slicc_plan.specs.TwoTransitions.{shared_after}
 use Rattle.machine_table.proofs.shared.first_shared.Given as goal
 
 abbrev pub invariant-loop-k : goal.invariant-loop-k
-invariant-loop-k l = l.found ≡ first_after l.first (shared_after l.number [] (take l.k l.ws))
+invariant-loop-k l = l.found ≡ first_after l.fn.first (shared_after l.number [] (take l.k l.ws))

@@ -1,0 +1,4 @@
+mod BlockScopes
+mod Places
+mod Repeats
+mod Steps
