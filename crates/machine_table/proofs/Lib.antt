@@ -4,3 +4,5 @@ mod Behind
 mod RowsOfPlaces
 mod NumbersOfNames
 mod Sharing
+mod OneRow
+mod TablesOfMachines

@@ -2,20 +2,32 @@
 ghost use Rattle.std.specs.Prelude.{◌≡◌, ◌≤◌, ◌^◌};
 
 use ruby_base::Seq;
-use slicc_plan::Row;
+use slicc_plan::{Row, Span};
 
 /// The rows of a machine, at the places of their pairs.
 #[derive(Drop)]
 pub struct Table {
-    events: usize,
-    rows: Seq<Option<Row>>,
+    pub(crate) events: usize,
+    pub(crate) rows: Seq<Option<Row>>,
     ghost few: { events ≤ 2 ^ 16 },
 }
 
 /// The tables of a protocol's machines.
 #[derive(Drop)]
 pub struct Tables {
-    machines: Seq<Table>,
+    pub(crate) machines: Seq<Table>,
+}
+
+/// Why there are no tables.
+#[derive(Clone, Copy)]
+pub enum TableFault {
+    /// A state and an event of a machine have two written transitions.
+    Duplicate {
+        /// The earliest that has a pair with the second.
+        first: Span,
+        second: Span,
+    },
+    NoMemory,
 }
 
 impl Table {
