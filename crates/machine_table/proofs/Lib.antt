@@ -5,4 +5,4 @@ mod RowsOfPlaces
 mod NumbersOfNames
 mod Sharing
 mod OneRow
-mod TablesOfMachines
+pub mod TablesOfMachines

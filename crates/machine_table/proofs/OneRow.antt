@@ -208,3 +208,7 @@ among_written m = each (transitions_of m)
     each (t ∷ ts) =
         All-cons (IsAmong (length (state_members m)) (length (event_members m))) (written m t) (map (written m) ts)
         (numbers_below (state_members m) (names_in t.states), numbers_below (event_members m) (names_in t.events)) (each ts)
+
+pub among_as : (m : Machine) (ws : List Written) (states events : ℕ) → ws ≡ written_of m → states ≡ length (state_members m) → events ≡ length (event_members m) → All (IsAmong states events) ws
+among_as m ws states events same s e =
+    subst (λ ws. All (IsAmong states events) ws) (sym same) (subst (λ n. All (IsAmong states n) (written_of m)) (sym e) (subst (λ n. All (IsAmong n (length (event_members m))) (written_of m)) (sym s) (among_written m)))
