@@ -70,7 +70,11 @@ fn missing_in_each(first: Option<Broken>, machines: &[&Machine]) -> Result<Optio
 
 /// Of a protocol without a machine, of the machines without a state or an event, and of what was found before, the one that is
 /// told.
-pub fn machine_parts(alloc: Global, first: Option<Broken>, trees: &[Tree]) -> Result<Option<Broken>, NoMemory>
+pub fn machine_parts(
+    alloc: Global,
+    first: Option<Broken>,
+    trees: &[Tree],
+) -> Result<Option<Broken>, NoMemory>
     ensures { IfOk result (λ found. found ≡ first_after first (missing_machine trees.now ++ missing_parts trees.now)) }
 {
     let machines = machines(alloc, trees)?;
@@ -79,7 +83,11 @@ pub fn machine_parts(alloc: Global, first: Option<Broken>, trees: &[Tree]) -> Re
 }
 
 /// Of the transitions that share a pair with an earlier one of their machine, and of what was found before, the one that is told.
-pub fn shared_pairs(alloc: Global, first: Option<Broken>, trees: &[Tree]) -> Result<Option<Broken>, NoMemory>
+pub fn shared_pairs(
+    alloc: Global,
+    first: Option<Broken>,
+    trees: &[Tree],
+) -> Result<Option<Broken>, NoMemory>
     ensures { IfOk result (λ found. found ≡ first_after first (shared_pairs trees.now)) }
 {
     let (found, _) = tabulate(alloc, first, trees)?;

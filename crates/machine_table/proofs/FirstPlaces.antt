@@ -98,6 +98,7 @@ places_below states events w among = each w.states among.0
   where
     below : ℕ → Type 0
     below c = c < states * events
+
     each : (ss : List ℕ) → All (λ s. s < states) ss → All below (flat_map (λ s. map (λ e. s * events + e) w.events) ss)
     each [] h = All-nil below
     each (s ∷ ss) h =

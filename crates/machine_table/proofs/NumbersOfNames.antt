@@ -14,7 +14,7 @@ use Rattle.slicc_ast.specs.declared.tree.name.Name.{Name}
 use Rattle.slicc_ast.specs.declared.tree.machine.Machine.{Machine}
 use Rattle.slicc_ast.specs.declared.tree.machine.Transition.{Transition}
 use Rattle.slicc_plan.specs.Limits.{event_members, state_members}
-use Rattle.slicc_plan.specs.Machines.{actions_of, names_in, next_number, transitions_of, written, written_of}
+use Rattle.slicc_plan.specs.Machines.{actions_of, each_once, names_in, next_number, transitions_of, written, written_of}
 use Rattle.machine_table.specs.declared.written.PartNumbers.{PartNumbers}
 use Rattle.slicc_plan.specs.Buffers.{listed}
 use Rattle.slicc_plan.specs.Declarations.{Declaration, is_named, is_text, name_of}
@@ -90,6 +90,7 @@ found_there names numbers name k text len there = by (bytes_eq name text) refl
         let below = position-Some (is_name name) names i [] (sym e) in
         let inside : i < length numbers = omega (arith, below.0) in
         get_kept numbers i p inside
+
     by : (b : Bool) → b ≡ bytes_eq name text → found_in names numbers text ≡ option_or (found_in names numbers text) (cond b (Some k) None)
     by true e =
         let same : name ≡ text = (bytes_eq-Decides name text).0 (sym e) in
@@ -135,8 +136,8 @@ written_same parts m states events actions = λ i. map (λ t. one t i) (transiti
   where
     one : (t : Transition) → written_with parts t ≡ written m t
     one t = λ i. record {
-      states = filter_map (λ (n : Name). states n.text i) (names_in t.states);
-      events = filter_map (λ (n : Name). events n.text i) (names_in t.events);
+      states = each_once (filter_map (λ (n : Name). states n.text i) (names_in t.states));
+      events = each_once (filter_map (λ (n : Name). events n.text i) (names_in t.events));
       next = next_same (found_by parts.states) m states t.next i;
       actions = filter_map (λ (n : Name). actions n.text i) t.actions.items;
       span = t.span;

@@ -1,10 +1,10 @@
 -- Where no transitions share a pair, what is at a pair's place is the one row that is written for it.
-use Rattle.std.proofs.Common.{◌≡◌, ℕ, zero, suc, ◌+◌, ◌*◌, ◌/◌, ◌%◌, ◌<◌, ◌≤◌, ◌==◌, Bool, true, false, cond, not, ◌||◌, ◌&&◌, Option, None, Some, List, [], ◌∷◌, ◌++◌, All, find, filter_map, length, map, position, slice_get, slice_index, slice_index_or, nat_lt, refl, sym, ap, subst, ◌∙◌, arith, add-zero, zero-add}
+use Rattle.std.proofs.Common.{◌≡◌, ℕ, zero, suc, ◌+◌, ◌*◌, ◌/◌, ◌%◌, ◌<◌, ◌≤◌, ◌==◌, Bool, true, false, cond, not, ◌||◌, ◌&&◌, Option, None, Some, List, [], ◌∷◌, ◌++◌, All, find, filter_map, fold, length, map, position, slice_get, slice_index, slice_index_or, nat_lt, refl, sym, ap, subst, ◌∙◌, arith, add-zero, zero-add}
 use Rattle.std.specs.List.{cons_option, list_any, position_or_len}
 use Rattle.std.specs.Option.{option_map}
 use Rattle.std.proofs.lemmas.List.Folds.{list_any-append}
 use Rattle.std.proofs.lemmas.List.Quantifiers.{position-Some}
-use Rattle.std.proofs.lemmas.List.Elements.{All-cons, All-nil}
+use Rattle.std.proofs.lemmas.List.Elements.{All-cons, All-nil, All-push}
 use Rattle.std.proofs.lemmas.Nat.{div-mul-add, mod-mul-add, mul-add-lt}
 use Rattle.std.proofs.Math.Nat.{mul_comm, mul-le-mul_right}
 use Rattle.std.proofs.lemmas.Grind.{common_steps}
@@ -17,7 +17,7 @@ use Rattle.slicc_plan.specs.declared.row.Written.{Written}
 use Rattle.slicc_plan.specs.Buffers.{listed}
 use Rattle.slicc_plan.specs.Declarations.{Declaration, is_named}
 use Rattle.slicc_plan.specs.Limits.{event_members, state_members}
-use Rattle.slicc_plan.specs.Machines.{from_states, includes, is_for, names_in, number_among, numbers_among, on_events, row_of, rows_from, transitions_of, written, written_of}
+use Rattle.slicc_plan.specs.Machines.{each_once, from_states, includes, is_for, names_in, number_among, numbers_among, on_events, row_of, rows_from, transitions_of, with_number, written, written_of}
 use Rattle.slicc_plan.specs.TwoTransitions.{share_pair, shared_after, told_with}
 use Rattle.machine_table.specs.PairPlaces.{IsAmong, first_at, is_at, row_at, rows_at}
 use Rattle.machine_table.specs.TablesOf.{answer_at, inner}
@@ -130,10 +130,11 @@ one_row number before (t ∷ ts) s e n h =
         let step : 1 + p ≡ suc p = omega arith in
         let sum : n + 1 + p ≡ n + suc p = omega arith in
         ap (λ k. listed (option_map (row_of s e k) (slice_get ts p))) sum ∙ ap (λ k. listed (option_map (row_of s e (n + k)) (slice_get (t ∷ ts) k))) (sym step)
+
     by : rows_from s e (n + 1) ts ≡ listed (option_map (row_of s e (n + 1 + position_or_len (is_for s e) ts)) (slice_get ts (position_or_len (is_for s e) ts))) → (b : Bool) → b ≡ is_for s e t → shared_after number (before ++ t ∷ []) ts ≡ [] → cond b (row_of s e n t ∷ []) [] ++ rows_from s e (n + 1) ts ≡ listed (option_map (row_of s e (n + cond (not b) (1 + position_or_len (is_for s e) ts) 0)) (slice_get (t ∷ ts) (cond (not b) (1 + position_or_len (is_for s e) ts) 0)))
     by rest true is more =
         let here : list_any (is_for s e) (before ++ t ∷ []) ≡ true =
-            list_any-append (is_for s e) before (t ∷ []) ∙ ap (λ b. list_any (is_for s e) before || (b || false)) (sym is) ∙ or_true (list_any (is_for s e) before) in
+        list_any-append (is_for s e) before (t ∷ []) ∙ ap (λ b. list_any (is_for s e) before || (b || false)) (sym is) ∙ or_true (list_any (is_for s e) before) in
         let none = rows_none s e (n + 1) ts (unshared number (before ++ t ∷ []) ts s e more here) in
         ap (λ rows. row_of s e n t ∷ rows) none ∙ ap (λ k. row_of s e k t ∷ []) (sym (add-zero n))
     by rest false is more = rest ∙ onward (position_or_len (is_for s e) ts)
@@ -155,21 +156,24 @@ row_in_table states events number ws fs all len firsts unshared s e = by (nat_lt
     beyond_events : events ≤ e → All (λ w. is_for s e w ≡ false) ws
     beyond_events above = λ k d under. let w = slice_index_or ws k d in
         ap (λ b. includes w.states s && b) (not_in events e w.events (all k d under).1 above) ∙ and_false (includes w.states s)
+
     beyond_states : states ≤ s → All (λ w. is_for s e w ≡ false) ws
     beyond_states above = λ k d under. let w = slice_index_or ws k d in
         ap (λ b. b && includes w.events e) (not_in states s w.states (all k d under).0 above)
+
     found : s < states → e < events → inner (slice_get (rows_at ws events 0 fs) (s * events + e)) ≡ option_map (row_of s e (position_or_len (is_for s e) ws)) (slice_get ws (position_or_len (is_for s e) ws))
     found below under =
         let place : s * events + e < states * events = rw (mul_comm states events) (mul-add-lt s events e states below under) in
         let state : (0 + (s * events + e)) / events ≡ s = ap (λ c. c / events) (zero-add (s * events + e)) ∙ div-mul-add s events e under in
         let event : (0 + (s * events + e)) % events ≡ e = ap (λ c. c % events) (zero-add (s * events + e)) ∙ mod-mul-add s events e under in
         let first : slice_get fs (s * events + e) ≡ Some (first_at events ws (s * events + e)) =
-            get_some fs (s * events + e) 0 (subst (λ n. s * events + e < n) (sym len) place) ∙ ap (λ k. Some k) (firsts (s * events + e) place) in
+        get_some fs (s * events + e) 0 (subst (λ n. s * events + e < n) (sym len) place) ∙ ap (λ k. Some k) (firsts (s * events + e) place) in
         let same : first_at events ws (s * events + e) ≡ position_or_len (is_for s e) ws =
-            first_congr (is_at events (s * events + e)) (is_for s e) ws (λ k d inside. at_pair states events (slice_index_or ws k d) s e (all k d inside) under) in
+        first_congr (is_at events (s * events + e)) (is_for s e) ws (λ k d inside. at_pair states events (slice_index_or ws k d) s e (all k d inside) under) in
         ap inner (rows_at-get ws events 0 fs (s * events + e))
         ∙ ap (λ o. inner (option_map (row_at ws ((0 + (s * events + e)) / events) ((0 + (s * events + e)) % events)) o)) first
         ∙ (λ i. row_at ws (state i) (event i) (same i))
+
     by : (b : Bool) → b ≡ nat_lt e events → (d : Bool) → d ≡ nat_lt s states → rows_from s e 0 ws ≡ listed (cond b (inner (slice_get (rows_at ws events 0 fs) (s * events + e))) None)
     by false is d at =
         let above : events ≤ e = grind arith in
@@ -196,9 +200,21 @@ numbers_below ds (n ∷ ns) = by (numbers_below ds ns) (number_among ds n) refl
     below : (ds : List Declaration) (i : ℕ) → position (is_named n.text) ds ≡ Some i → i < length ds
     below [] i e = cc
     below (d ∷ ds) i e = (position-Some (is_named n.text) (d ∷ ds) i d e).0
+
     by : All (λ k. k < length ds) (numbers_among ds ns) → (o : Option ℕ) → o ≡ number_among ds n → All (λ k. k < length ds) (cons_option o (numbers_among ds ns))
     by more None e = more
     by more (Some i) e = All-cons (λ k. k < length ds) i (numbers_among ds ns) (below ds i (sym e)) more
+
+all_once : (P : ℕ → Type 0) (kept ns : List ℕ) → All P kept → All P ns → All P (fold with_number kept ns)
+all_once P kept [] h g = h
+all_once P kept (n ∷ ns) h g = all_once P (with_number kept n) ns (by (includes kept n)) (λ k d below. g (suc k) d (omega arith))
+  where
+    by : (b : Bool) → All P (cond b kept (kept ++ n ∷ []))
+    by true = h
+    by false = All-push P kept n h (g 0 n (omega arith))
+
+once_below : (ds : List Declaration) (ns : List Name) → All (λ k. k < length ds) (each_once (numbers_among ds ns))
+once_below ds ns = all_once (λ k. k < length ds) [] (numbers_among ds ns) (All-nil (λ k. k < length ds)) (numbers_below ds ns)
 
 pub among_written : (m : Machine) → All (IsAmong (length (state_members m)) (length (event_members m))) (written_of m)
 among_written m = each (transitions_of m)
@@ -207,7 +223,7 @@ among_written m = each (transitions_of m)
     each [] = All-nil (IsAmong (length (state_members m)) (length (event_members m)))
     each (t ∷ ts) =
         All-cons (IsAmong (length (state_members m)) (length (event_members m))) (written m t) (map (written m) ts)
-        (numbers_below (state_members m) (names_in t.states), numbers_below (event_members m) (names_in t.events)) (each ts)
+        (once_below (state_members m) (names_in t.states), once_below (event_members m) (names_in t.events)) (each ts)
 
 pub among_as : (m : Machine) (ws : List Written) (states events : ℕ) → ws ≡ written_of m → states ≡ length (state_members m) → events ≡ length (event_members m) → All (IsAmong states events) ws
 among_as m ws states events same s e =

@@ -6,7 +6,7 @@ use Rattle.slicc_ast.specs.declared.tree.name.Name.{Name}
 use Rattle.slicc_ast.specs.declared.tree.machine.Transition.{Transition}
 use Rattle.name_index.specs.Numbering.{number_among}
 use Rattle.slicc_plan.specs.declared.row.Written.{Written}
-use Rattle.slicc_plan.specs.Machines.{names_in}
+use Rattle.slicc_plan.specs.Machines.{each_once, names_in}
 use Rattle.machine_table.specs.declared.by_name.Numbers.{Numbers}
 use Rattle.machine_table.specs.declared.written.PartNumbers.{PartNumbers}
 
@@ -35,7 +35,7 @@ found_next found (Some n) = found n.text
 -- the transition with what is found by its names in place of them
 abbrev pub written_by : Finding → Finding → Finding → Transition → Written
 written_by states events actions t =
-    record { states = filter_map (found_name states) (names_in t.states); events = filter_map (found_name events) (names_in t.events); next = found_next states t.next; actions = filter_map (found_name actions) t.actions.items; span = t.span }
+    record { states = each_once (filter_map (found_name states) (names_in t.states)); events = each_once (filter_map (found_name events) (names_in t.events)); next = found_next states t.next; actions = filter_map (found_name actions) t.actions.items; span = t.span }
 
 abbrev pub written_with : PartNumbers → Transition → Written
 written_with n t = written_by (found_by n.states) (found_by n.events) (found_by n.actions) t

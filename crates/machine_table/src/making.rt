@@ -22,7 +22,14 @@ use slicc_ast::tree::{Machine, Tree};
 use slicc_plan::{Broken, Written};
 use std::alloc::Global;
 
-fn table_of(alloc: Global, first: Option<Broken>, number: u16, ws: &[Written], states: usize, events: usize) -> Result<(Option<Broken>, Table), NoMemory>
+fn table_of(
+    alloc: Global,
+    first: Option<Broken>,
+    number: u16,
+    ws: &[Written],
+    states: usize,
+    events: usize,
+) -> Result<(Option<Broken>, Table), NoMemory>
     requires few { (states ≤ 2 ^ 16) × (events ≤ 2 ^ 16) × (length ws.now < 2 ^ 32) }
     requires among { All (IsAmong states events) ws.now }
     ensures first { IfOk result (λ r. r.0 ≡ first_after first (shared_after number [] ws.now)) }
@@ -35,7 +42,12 @@ fn table_of(alloc: Global, first: Option<Broken>, number: u16, ws: &[Written], s
 }
 
 // The table of the machine of this number.
-fn machine_table(alloc: Global, first: Option<Broken>, number: u16, m: &Machine) -> Result<(Option<Broken>, Table), NoMemory>
+fn machine_table(
+    alloc: Global,
+    first: Option<Broken>,
+    number: u16,
+    m: &Machine,
+) -> Result<(Option<Broken>, Table), NoMemory>
     ensures first { IfOk result (λ r. r.0 ≡ first_after first (shared_pairs_in number m.now)) }
     ensures rows { IfOk result (λ r. shared_pairs_in number m.now ≡ [] → (state event : ℕ) → rows m.now state event ≡ listed (answer_of state event r.1)) }
 {
@@ -48,7 +60,11 @@ fn machine_table(alloc: Global, first: Option<Broken>, number: u16, m: &Machine)
     table_of(alloc, first, number, &ws, states, events)
 }
 
-fn tables_of(alloc: Global, first: Option<Broken>, machines: &[&Machine]) -> Result<(Option<Broken>, Tables), NoMemory>
+fn tables_of(
+    alloc: Global,
+    first: Option<Broken>,
+    machines: &[&Machine],
+) -> Result<(Option<Broken>, Tables), NoMemory>
     ensures first { IfOk result (λ r. r.0 ≡ first_after first (in_each_from 0 shared_pairs_in (map (λ m. m.now) machines.now))) }
     ensures tables { IfOk result (λ r. in_each_from 0 shared_pairs_in (map (λ m. m.now) machines.now) ≡ [] → (number state event : ℕ) → rows_of_found (slice_get (map (λ m. m.now) machines.now) number) state event ≡ listed (answer r.1 number state event)) }
 {
@@ -65,7 +81,11 @@ fn tables_of(alloc: Global, first: Option<Broken>, machines: &[&Machine]) -> Res
 
 /// The tables of a protocol's machines, and of the pairs that have two written transitions and of what was found before the one
 /// that is told. The tables are right where no pair has two.
-pub fn tabulate(alloc: Global, first: Option<Broken>, trees: &[Tree]) -> Result<(Option<Broken>, Tables), NoMemory>
+pub fn tabulate(
+    alloc: Global,
+    first: Option<Broken>,
+    trees: &[Tree],
+) -> Result<(Option<Broken>, Tables), NoMemory>
     ensures first { IfOk result (λ r. r.0 ≡ first_after first (shared_pairs trees.now)) }
     ensures tables { IfOk result (λ r. shared_pairs trees.now ≡ [] → AreTablesOf trees.now (answer r.1)) }
 {

@@ -40,7 +40,13 @@ fn mark(firsts: &mut Vec<u32>, places: &[usize], number: u32)
 }
 
 // Writes the transition's number at the places of all its pairs.
-fn mark_written(alloc: Global, firsts: &mut Vec<u32>, w: &Written, events: usize, number: u32) -> Result<(), NoMemory>
+fn mark_written(
+    alloc: Global,
+    firsts: &mut Vec<u32>,
+    w: &Written,
+    events: usize,
+    number: u32,
+) -> Result<(), NoMemory>
     requires few { events ≤ 2 ^ 16 }
     requires there { All (λ place. place < length firsts.old.items) (places_of events w.now) }
     ensures { OnOk result (firsts.new.items ≡ marked number (places_of events w.now) firsts.old.items) }
@@ -51,7 +57,12 @@ fn mark_written(alloc: Global, firsts: &mut Vec<u32>, w: &Written, events: usize
 }
 
 /// The number of the first transition for each place of a table, and that of all transitions where none is.
-pub fn first_numbers(alloc: Global, ws: &[Written], states: usize, events: usize) -> Result<Vec<u32>, NoMemory>
+pub fn first_numbers(
+    alloc: Global,
+    ws: &[Written],
+    states: usize,
+    events: usize,
+) -> Result<Vec<u32>, NoMemory>
     requires few { (states ≤ 2 ^ 16) × (events ≤ 2 ^ 16) × (length ws.now < 2 ^ 32) }
     requires among { All (IsAmong states events) ws.now }
     ensures length { IfOk result (λ found. length found.items ≡ states * events) }
@@ -78,7 +89,13 @@ fn least(firsts: &[u32], places: &[usize], most: u32) -> u32
 }
 
 /// The least number at the places of a transition's pairs, but no more than the last argument.
-pub fn earliest(alloc: Global, firsts: &[u32], w: &Written, events: usize, most: u32) -> Result<u32, NoMemory>
+pub fn earliest(
+    alloc: Global,
+    firsts: &[u32],
+    w: &Written,
+    events: usize,
+    most: u32,
+) -> Result<u32, NoMemory>
     requires few { events ≤ 2 ^ 16 }
     requires there { All (λ place. place < length firsts.now) (places_of events w.now) }
     ensures { IfOk result (λ number. number ≡ least_at firsts.now (places_of events w.now) most) }

@@ -10,7 +10,13 @@ use slicc_plan::{Broken, Rule, Written, earlier_broken};
 use std::alloc::Global;
 
 // A transition that shares a pair with the one of this number, where that is one of those before it.
-fn judged(first: Option<Broken>, number: u16, w: &Written, before: &[Written], earliest: u32) -> Option<Broken>
+fn judged(
+    first: Option<Broken>,
+    number: u16,
+    w: &Written,
+    before: &[Written],
+    earliest: u32,
+) -> Option<Broken>
     ensures { result ≡ first_after first (told_with number w.now (slice_get before.now earliest)) }
 {
     match before.get(earliest as usize) {
@@ -29,7 +35,15 @@ fn judged(first: Option<Broken>, number: u16, w: &Written, before: &[Written], e
 
 /// Of the transitions of the machine of this number that share a pair with an earlier one, and of what was found before, the one
 /// that is told.
-pub fn first_shared(alloc: Global, first: Option<Broken>, number: u16, ws: &[Written], firsts: &[u32], states: usize, events: usize) -> Result<Option<Broken>, NoMemory>
+pub fn first_shared(
+    alloc: Global,
+    first: Option<Broken>,
+    number: u16,
+    ws: &[Written],
+    firsts: &[u32],
+    states: usize,
+    events: usize,
+) -> Result<Option<Broken>, NoMemory>
     requires few { (states ≤ 2 ^ 16) × (events ≤ 2 ^ 16) × (length ws.now < 2 ^ 32) }
     requires among { All (IsAmong states events) ws.now }
     requires length { length firsts.now ≡ states * events }

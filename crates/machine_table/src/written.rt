@@ -1,7 +1,7 @@
 //! The written transitions of a machine, their names as numbers.
 ghost use Rattle.std.specs.Prelude.{◌≡◌, ◌++◌, filter_map, map, IfOk, OnOk};
 ghost use Rattle.slicc_plan.specs.Buffers.{listed};
-ghost use Rattle.slicc_plan.specs.Machines.{names_in, transitions_of, written_of};
+ghost use Rattle.slicc_plan.specs.Machines.{each_once, includes, names_in, transitions_of, with_number, written_of};
 ghost use Rattle.machine_table.specs.Found.{found_by, found_name, found_next, written_with};
 
 use crate::by_name::Numbers;
@@ -45,6 +45,40 @@ fn numbers_in(alloc: Global, names: &Names, numbers: &Numbers) -> Result<Seq<u16
     }
 }
 
+fn is_among(numbers: &[u16], number: u16) -> bool
+    ensures { result ≡ includes numbers.now number }
+{
+    numbers.iter().any(|k| *k == number)
+}
+
+fn add_once(kept: &mut Seq<u16>, number: u16) -> Result<(), NoMemory>
+    ensures { OnOk result (kept.new ≡ with_number kept.old number) }
+{
+    let is_there = is_among(kept.as_slice(), number);
+    if is_there {
+        return Ok(());
+    }
+    kept.push(number)
+}
+
+// Each of the numbers once. A machine has few, and a transition may repeat their names at will.
+fn once(alloc: Global, numbers: &[u16]) -> Result<Seq<u16>, NoMemory>
+    ensures { IfOk result (λ kept. kept ≡ each_once numbers.now) }
+{
+    let mut kept = Seq::new(alloc);
+    for number in numbers {
+        add_once(&mut kept, *number)?;
+    }
+    Ok(kept)
+}
+
+fn numbers_once(alloc: Global, names: &Names, numbers: &Numbers) -> Result<Seq<u16>, NoMemory>
+    ensures { IfOk result (λ kept. kept ≡ each_once (filter_map (found_name (found_by numbers.now)) (names_in names.now))) }
+{
+    let all = numbers_in(alloc, names, numbers)?;
+    once(alloc, &all)
+}
+
 fn next_number(next: &Option<Name>, numbers: &Numbers) -> Option<u16>
     ensures { result ≡ found_next (found_by numbers.now) next.now }
 {
@@ -65,8 +99,8 @@ struct PartNumbers {
 fn written(alloc: Global, t: &Transition, parts: &PartNumbers) -> Result<Written, NoMemory>
     ensures { IfOk result (λ w. w ≡ written_with parts.now t.now) }
 {
-    let states = numbers_in(alloc, &t.states, &parts.states)?;
-    let events = numbers_in(alloc, &t.events, &parts.events)?;
+    let states = numbers_once(alloc, &t.states, &parts.states)?;
+    let events = numbers_once(alloc, &t.events, &parts.events)?;
     let actions = numbers_of(alloc, &t.actions, &parts.actions)?;
     Ok(Written {
         states,
@@ -77,7 +111,11 @@ fn written(alloc: Global, t: &Transition, parts: &PartNumbers) -> Result<Written
     })
 }
 
-fn written_by_parts(alloc: Global, m: &Machine, parts: &PartNumbers) -> Result<Seq<Written>, NoMemory>
+fn written_by_parts(
+    alloc: Global,
+    m: &Machine,
+    parts: &PartNumbers,
+) -> Result<Seq<Written>, NoMemory>
     ensures { IfOk result (λ ws. ws ≡ map (written_with parts.now) (transitions_of m.now)) }
 {
     let mut ws = Seq::new(alloc);

@@ -1,6 +1,6 @@
 -- What the parts of a machine are to its run: its states and events with their numbers, its actions, its written transitions,
 -- and the structures of its tables' lines. Numbers count from 0 in the order of the text.
-use Rattle.std.specs.Prelude.{ℕ, ◌+◌, ◌==◌, ◌&&◌, Bool, true, not, cond, Option, None, Some, List, [], ◌∷◌, ◌++◌, map, flat_map, filter, filter_map, find, position, unwrap_or, codes}
+use Rattle.std.specs.Prelude.{ℕ, ◌+◌, ◌==◌, ◌&&◌, Bool, true, not, cond, Option, None, Some, List, [], ◌∷◌, ◌++◌, map, flat_map, filter, filter_map, fold, find, position, unwrap_or, codes}
 use Rattle.std.specs.List.{list_any}
 use Rattle.std.specs.Str.{bytes_eq}
 use Rattle.slicc_ast.specs.declared.tree.name.Name.{Name}
@@ -85,14 +85,22 @@ number_among declarations n = position (is_named n.text) declarations
 abbrev pub numbers_among : List Declaration → List Name → List ℕ
 numbers_among declarations names = filter_map (number_among declarations) names
 
-abbrev pub from_states : Machine → Transition → List ℕ
-from_states m t = numbers_among (state_members m) (names_in t.states)
-
-abbrev pub on_events : Machine → Transition → List ℕ
-on_events m t = numbers_among (event_members m) (names_in t.events)
-
 abbrev pub includes : List ℕ → ℕ → Bool
 includes numbers n = list_any (λ k. k == n) numbers
+
+-- with one more number, unless it is there
+abbrev pub with_number : List ℕ → ℕ → List ℕ
+with_number numbers n = cond (includes numbers n) numbers (numbers ++ n ∷ [])
+
+-- each of the numbers once
+abbrev pub each_once : List ℕ → List ℕ
+each_once numbers = fold with_number [] numbers
+
+abbrev pub from_states : Machine → Transition → List ℕ
+from_states m t = each_once (numbers_among (state_members m) (names_in t.states))
+
+abbrev pub on_events : Machine → Transition → List ℕ
+on_events m t = each_once (numbers_among (event_members m) (names_in t.events))
 
 abbrev pub next_number : Machine → Option Name → Option ℕ
 next_number m None = None

@@ -9,6 +9,6 @@ pub returns-clause-rows : goal.returns-clause-rows
 returns-clause-rows c =
     let firsts = c.in_ok-firsts.firsts.items in
     λ unshared state event.
-      row_in_table c.args.states c.args.events c.args.number c.args.ws.now firsts c.requires.among c.in_ok-firsts.ensures.length c.in_ok-firsts.ensures.firsts unshared state event
-      ∙ ap (λ fs. listed (answer_at c.args.events (rows_at c.args.ws.now c.args.events 0 fs) state event)) (sym c.deref-2.ensures.value)
-      ∙ ap (λ rows. listed (answer_at c.args.events rows state event)) (sym c.in_ok-rows.ensures)
+    row_in_table c.args.states c.args.events c.args.number c.args.ws.now firsts c.requires.among c.in_ok-firsts.ensures.length c.in_ok-firsts.ensures.firsts unshared state event
+    ∙ ap (λ fs. listed (answer_at c.args.events (rows_at c.args.ws.now c.args.events 0 fs) state event)) (sym c.deref-2.ensures.value)
+    ∙ ap (λ rows. listed (answer_at c.args.events rows state event)) (sym c.in_ok-rows.ensures)

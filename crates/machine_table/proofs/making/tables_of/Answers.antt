@@ -27,6 +27,6 @@ returns c =
     record {
       first = c.loop-place.invariant.found ∙ ap (λ ms. first_after c.args.first (in_each_from 0 shared_pairs_in (map (λ m. m.now) ms))) all;
       tables = λ none n s e.
-        ap (λ ms. rows_of_found (slice_get (map (λ m. m.now) ms) n) s e) (sym all)
-        ∙ c.loop-place.invariant.agree (ap (λ ms. in_each_from 0 shared_pairs_in (map (λ m. m.now) ms)) all ∙ none) n s e;
+          ap (λ ms. rows_of_found (slice_get (map (λ m. m.now) ms) n) s e) (sym all)
+          ∙ c.loop-place.invariant.agree (ap (λ ms. in_each_from 0 shared_pairs_in (map (λ m. m.now) ms)) all ∙ none) n s e;
     }

@@ -21,7 +21,7 @@ loop-number-preserved c =
       within = omega arith;
       room = ap length is_marked ∙ marked_length (n - 1) (places_of c.args.events w) old ∙ c.loop-number.invariant.room;
       firsts = λ place below.
-        ap (λ fs. slice_index fs place) is_marked
-        ∙ first_down c.args.events n w c.args.ws.now old place above c.loop-number.invariant.within c.index-ws-number.is
+          ap (λ fs. slice_index fs place) is_marked
+          ∙ first_down c.args.events n w c.args.ws.now old place above c.loop-number.invariant.within c.index-ws-number.is
           (subst (λ m. place < m) (sym c.loop-number.invariant.room) below) (c.loop-number.invariant.firsts place below);
     }

@@ -12,4 +12,4 @@ pub returns-in-Ok : goal.returns-in-Ok
 returns-in-Ok c =
     let new : is_some (number_among c.args.self.now.names c.args.name.now) ≡ false = cc in
     λ text. found_added c.args.self.now.names c.add.new.self c.args.self.now.numbers c.push.new.self c.args.name.now c.in_ok-number.number c.args.number text
-      c.args.self.now.same_length new c.in-Ok.ensures.ok c.in_ok-push.ensures.ok c.in_ok-number.ensures
+    c.args.self.now.same_length new c.in-Ok.ensures.ok c.in_ok-push.ensures.ok c.in_ok-number.ensures
