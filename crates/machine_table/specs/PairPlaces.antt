@@ -1,5 +1,6 @@
 -- The places of a machine's pairs in its table: state by state, and in each event by event.
-use Rattle.std.specs.Prelude.{ℕ, ◌<◌, ◌≤◌, ◌+◌, ◌*◌, ◌/◌, ◌%◌, Bool, Option, List, [], ◌∷◌, All, flat_map, fold, map, min, slice_get, slice_index, slice_set}
+use Rattle.std.specs.Prelude.{ℕ, ◌≡◌, ◌<◌, ◌+◌, ◌*◌, ◌/◌, ◌%◌, Bool, Option, List, [], ◌∷◌, All}
+use Rattle.std.specs.Prelude.{flat_map, fold, map, min, slice_get, slice_index, slice_set}
 use Rattle.std.specs.List.{position_or_len}
 use Rattle.std.specs.Option.{option_map}
 use Rattle.slicc_plan.specs.declared.row.Row.{Row}
@@ -21,6 +22,11 @@ IsAmong states events w = All (λ s. s < states) w.states × All (λ e. e < even
 -- the first transition that is written for the pair at this place, or the count of all where none is
 abbrev pub first_at : ℕ → List Written → ℕ → ℕ
 first_at events ws place = position_or_len (is_at events place) ws
+
+-- these are the first ones' numbers, place by place
+abbrev pub AreFirsts : ℕ → ℕ → List Written → List ℕ → Type 0
+AreFirsts states events ws firsts =
+    (place : ℕ) → place < states * events → slice_index firsts place ≡ first_at events ws place
 
 -- the numbers with this one at these places
 abbrev pub marked : ℕ → List ℕ → List ℕ → List ℕ

@@ -1,13 +1,11 @@
 -- What the tables of a protocol's machines answer: for a machine, a state and an event, by their numbers, the one row that is
 -- written for them, or none. There are tables where no state and event of a machine have two written transitions.
-use Rattle.std.specs.Prelude.{ℕ, ◌≡◌, ◌<◌, ◌+◌, ◌*◌, Option, None, Some, Result, Ok, Err, List, [], cond, nat_lt, slice_get}
+use Rattle.std.specs.Prelude.{ℕ, ◌≡◌, ◌+◌, ◌*◌, Option, None, Some, List, [], cond, flat_map, nat_lt, slice_get}
 use Rattle.slicc_ast.specs.declared.tree.item.Tree.{Tree}
 use Rattle.slicc_ast.specs.declared.tree.machine.Machine.{Machine}
-use Rattle.slicc_ast.specs.declared.tree.span.Span.{Span}
-use Rattle.slicc_plan.specs.declared.broken.Broken.{Broken}
 use Rattle.slicc_plan.specs.declared.row.Row.{Row}
 use Rattle.slicc_plan.specs.Buffers.{listed}
-use Rattle.slicc_plan.specs.Declarations.{machines_of}
+use Rattle.slicc_plan.specs.Declarations.{item_declarations, machine_in, machines_of}
 use Rattle.slicc_plan.specs.Machines.{rows}
 
 -- what tables answer
@@ -26,6 +24,10 @@ rows_in trees number state event = rows_of_found (slice_get (machines_of trees) 
 abbrev pub AreTablesOf : List Tree → Answering → Type 0
 AreTablesOf trees tables =
     (number state event : ℕ) → rows_in trees number state event ≡ listed (tables number state event)
+
+-- the machines of a file
+abbrev pub machines_in : Tree → List Machine
+machines_in t = flat_map machine_in (flat_map item_declarations t.items.items)
 
 -- A table has a place for each pair of its machine, with a row there or none.
 

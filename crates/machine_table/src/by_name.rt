@@ -27,7 +27,7 @@ pub fn kept_number(number: usize) -> Result<u16, NoMemory>
 
 impl Numbers {
     ghost use Rattle.std.specs.Prelude.{ℕ, List, None, OnOk};
-    ghost use Rattle.machine_table.specs.Found.{found_by, found_with};
+    ghost use Rattle.machine_table.specs.Found.{IsFoundWith, found_by};
 
     /// Nothing is found by any name. It takes no memory.
     pub fn new(alloc: Global) -> Numbers
@@ -50,7 +50,7 @@ impl Numbers {
 
     /// Gives a name its number, if it has none yet.
     pub fn add(&mut self, name: &[u8], number: usize) -> Result<(), NoMemory>
-        ensures { OnOk result ((text : List ℕ) → found_by self.new text ≡ found_with (found_by self.old) name.now number text) }
+        ensures { OnOk result (IsFoundWith self.old name.now number self.new) }
     {
         let number = kept_number(number)?;
         if self.names.find(name).is_some() {

@@ -1,6 +1,7 @@
 //! The machines of a protocol.
-ghost use Rattle.std.specs.Prelude.{◌≡◌, ◌++◌, flat_map, map, IfOk, OnOk};
-ghost use Rattle.slicc_plan.specs.Declarations.{item_declarations, machine_in, machines_of};
+ghost use Rattle.std.specs.Prelude.{◌≡◌, ◌++◌, map, IfOk, OnOk};
+ghost use Rattle.slicc_plan.specs.Declarations.{machines_of};
+ghost use Rattle.machine_table.specs.TablesOf.{machines_in};
 
 use ruby_base::{NoMemory, Seq};
 use slicc_ast::tree::{Item, Machine, Tree};
@@ -8,7 +9,7 @@ use std::alloc::Global;
 
 // Adds the machines of one file.
 fn add_machines<'a>(found: &mut Seq<&'a Machine>, t: &'a Tree) -> Result<(), NoMemory>
-    ensures { OnOk result (map (λ m. m.now) found.new ≡ map (λ m. m.now) found.old ++ flat_map machine_in (flat_map item_declarations t.now.items.items)) }
+    ensures { OnOk result (map (λ m. m.now) found.new ≡ map (λ m. m.now) found.old ++ machines_in t.now) }
 {
     for item in &t.items {
         if let Item::Machine(m) = item {

@@ -1,12 +1,11 @@
 //! The tables of a protocol, made from its trees.
-ghost use Rattle.std.specs.Prelude.{◌≡◌, ◌<◌, ◌≤◌, ◌^◌, [], None, ℕ, All, length, map, slice_get, IfOk};
-ghost use Rattle.slicc_plan.specs.Buffers.{listed};
-ghost use Rattle.slicc_plan.specs.Machines.{in_each_from, rows, rows_from};
+ghost use Rattle.std.specs.Prelude.{◌≡◌, ◌<◌, ◌≤◌, ◌^◌, [], None, All, length, map, IfOk};
+ghost use Rattle.slicc_plan.specs.Machines.{in_each_from, written_of};
 ghost use Rattle.slicc_plan.specs.Order.{first_after};
 ghost use Rattle.slicc_plan.specs.TwoTransitions.{shared_after, shared_pairs, shared_pairs_in};
 ghost use Rattle.machine_table.specs.PairPlaces.{IsAmong};
-ghost use Rattle.machine_table.specs.Answers.{answer, answer_of};
-ghost use Rattle.machine_table.specs.TablesOf.{AreTablesOf, rows_of_found};
+ghost use Rattle.machine_table.specs.Answers.{AreRightUnlessShared, IsTableOf, answer};
+ghost use Rattle.machine_table.specs.TablesOf.{AreTablesOf};
 ghost use Rattle.machine_table.specs.Built.{IsBuilt};
 
 use crate::by_name::kept_number;
@@ -33,7 +32,7 @@ fn table_of(
     requires few { (states ≤ 2 ^ 16) × (events ≤ 2 ^ 16) × (length ws.now < 2 ^ 32) }
     requires among { All (IsAmong states events) ws.now }
     ensures first { IfOk result (λ r. r.0 ≡ first_after first (shared_after number [] ws.now)) }
-    ensures rows { IfOk result (λ r. shared_after number [] ws.now ≡ [] → (state event : ℕ) → rows_from state event 0 ws.now ≡ listed (answer_of state event r.1)) }
+    ensures rows { IfOk result (λ r. shared_after number [] ws.now ≡ [] → IsTableOf ws.now r.1) }
 {
     let firsts = first_numbers(alloc, ws, states, events)?;
     let found = first_shared(alloc, first, number, ws, &firsts, states, events)?;
@@ -49,7 +48,7 @@ fn machine_table(
     m: &Machine,
 ) -> Result<(Option<Broken>, Table), NoMemory>
     ensures first { IfOk result (λ r. r.0 ≡ first_after first (shared_pairs_in number m.now)) }
-    ensures rows { IfOk result (λ r. shared_pairs_in number m.now ≡ [] → (state event : ℕ) → rows m.now state event ≡ listed (answer_of state event r.1)) }
+    ensures rows { IfOk result (λ r. shared_pairs_in number m.now ≡ [] → IsTableOf (written_of m.now) r.1) }
 {
     let ws = written_transitions(alloc, m)?;
     let states = state_count(m);
@@ -66,7 +65,7 @@ fn tables_of(
     machines: &[&Machine],
 ) -> Result<(Option<Broken>, Tables), NoMemory>
     ensures first { IfOk result (λ r. r.0 ≡ first_after first (in_each_from 0 shared_pairs_in (map (λ m. m.now) machines.now))) }
-    ensures tables { IfOk result (λ r. in_each_from 0 shared_pairs_in (map (λ m. m.now) machines.now) ≡ [] → (number state event : ℕ) → rows_of_found (slice_get (map (λ m. m.now) machines.now) number) state event ≡ listed (answer r.1 number state event)) }
+    ensures tables { IfOk result (λ r. AreRightUnlessShared (map (λ m. m.now) machines.now) r.1) }
 {
     let mut found = first;
     let mut tables = Seq::new(alloc);

@@ -1,9 +1,9 @@
 //! The numbers of a machine's states, events and actions by their names.
-ghost use Rattle.std.specs.Prelude.{◌≡◌, ◌++◌, ℕ, List, Some, filter, flat_map, map, position, IfOk, OnOk};
-ghost use Rattle.slicc_plan.specs.Declarations.{Declaration, action, is_named, name_of, named_declarations, state, symbol};
-ghost use Rattle.slicc_plan.specs.Limits.{event_members, is_action, state_members};
+ghost use Rattle.std.specs.Prelude.{◌≡◌, ◌++◌, Some, map, IfOk, OnOk};
+ghost use Rattle.slicc_plan.specs.Declarations.{Declaration, action, name_of, state, symbol};
+ghost use Rattle.slicc_plan.specs.Limits.{event_members, state_members};
 ghost use Rattle.slicc_plan.specs.Machines.{actions_of};
-ghost use Rattle.machine_table.specs.Found.{found_by};
+ghost use Rattle.machine_table.specs.Found.{AreNumbersOf, actions_among};
 
 use crate::by_name::Numbers;
 use crate::parts::{events, states};
@@ -36,7 +36,7 @@ impl Member for Symbol {
 }
 
 fn member_numbers<T: Member>(alloc: Global, members: &[T]) -> Result<Numbers, NoMemory>
-    ensures { IfOk result (λ numbers. (text : List ℕ) → found_by numbers text ≡ position (is_named text) (map T.declared members.now)) }
+    ensures { IfOk result (AreNumbersOf (map T.declared members.now)) }
 {
     let mut numbers = Numbers::new(alloc);
     for (number, member) in members.iter().enumerate() {
@@ -47,7 +47,7 @@ fn member_numbers<T: Member>(alloc: Global, members: &[T]) -> Result<Numbers, No
 
 /// The numbers of a machine's states.
 pub fn state_numbers(alloc: Global, m: &Machine) -> Result<Numbers, NoMemory>
-    ensures { IfOk result (λ numbers. (text : List ℕ) → found_by numbers text ≡ position (is_named text) (state_members m.now)) }
+    ensures { IfOk result (AreNumbersOf (state_members m.now)) }
 {
     match states(m) {
         None => Ok(Numbers::new(alloc)),
@@ -57,7 +57,7 @@ pub fn state_numbers(alloc: Global, m: &Machine) -> Result<Numbers, NoMemory>
 
 /// The numbers of a machine's events.
 pub fn event_numbers(alloc: Global, m: &Machine) -> Result<Numbers, NoMemory>
-    ensures { IfOk result (λ numbers. (text : List ℕ) → found_by numbers text ≡ position (is_named text) (event_members m.now)) }
+    ensures { IfOk result (AreNumbersOf (event_members m.now)) }
 {
     match events(m) {
         None => Ok(Numbers::new(alloc)),
@@ -66,7 +66,7 @@ pub fn event_numbers(alloc: Global, m: &Machine) -> Result<Numbers, NoMemory>
 }
 
 fn add_actions<'a>(found: &mut Seq<&'a Action>, declarations: &'a [Decl]) -> Result<(), NoMemory>
-    ensures { OnOk result (map (λ a. action a.now) found.new ≡ map (λ a. action a.now) found.old ++ filter is_action (flat_map named_declarations declarations.now)) }
+    ensures { OnOk result (map (λ a. action a.now) found.new ≡ map (λ a. action a.now) found.old ++ actions_among declarations.now) }
 {
     for d in declarations {
         if let Decl::Action(a) = d {
@@ -86,7 +86,7 @@ fn actions<'a>(alloc: Global, m: &'a Machine) -> Result<Seq<&'a Action>, NoMemor
 }
 
 fn numbers_of_actions(alloc: Global, actions: &[&Action]) -> Result<Numbers, NoMemory>
-    ensures { IfOk result (λ numbers. (text : List ℕ) → found_by numbers text ≡ position (is_named text) (map (λ a. action a.now) actions.now)) }
+    ensures { IfOk result (AreNumbersOf (map (λ a. action a.now) actions.now)) }
 {
     let mut numbers = Numbers::new(alloc);
     for (number, a) in actions.iter().enumerate() {
@@ -97,7 +97,7 @@ fn numbers_of_actions(alloc: Global, actions: &[&Action]) -> Result<Numbers, NoM
 
 /// The numbers of a machine's actions.
 pub fn action_numbers(alloc: Global, m: &Machine) -> Result<Numbers, NoMemory>
-    ensures { IfOk result (λ numbers. (text : List ℕ) → found_by numbers text ≡ position (is_named text) (actions_of m.now)) }
+    ensures { IfOk result (AreNumbersOf (actions_of m.now)) }
 {
     let actions = actions(alloc, m)?;
     numbers_of_actions(alloc, &actions)

@@ -1,6 +1,6 @@
 //! The places of pairs in a machine's table, and the first transition that is written for each of them.
-ghost use Rattle.std.specs.Prelude.{◌≡◌, ◌<◌, ◌≤◌, ◌^◌, ◌+◌, ◌*◌, ◌++◌, ℕ, All, length, map, slice_index, IfOk, OnOk};
-ghost use Rattle.machine_table.specs.PairPlaces.{IsAmong, first_at, least_at, marked, places_of};
+ghost use Rattle.std.specs.Prelude.{◌≡◌, ◌<◌, ◌≤◌, ◌^◌, ◌+◌, ◌*◌, ◌++◌, All, length, map, IfOk, OnOk};
+ghost use Rattle.machine_table.specs.PairPlaces.{AreFirsts, IsAmong, least_at, marked, places_of};
 
 use ruby_base::{NoMemory, Seq};
 use slicc_plan::Written;
@@ -66,7 +66,7 @@ pub fn first_numbers(
     requires few { (states ≤ 2 ^ 16) × (events ≤ 2 ^ 16) × (length ws.now < 2 ^ 32) }
     requires among { All (IsAmong states events) ws.now }
     ensures length { IfOk result (λ found. length found.items ≡ states * events) }
-    ensures firsts { IfOk result (λ found. (place : ℕ) → place < states * events → slice_index found.items place ≡ first_at events ws.now place) }
+    ensures firsts { IfOk result (λ found. AreFirsts states events ws.now found.items) }
 {
     let mut firsts = vec![in alloc; ws.len() as u32; states * events]?;
     let mut number = ws.len();

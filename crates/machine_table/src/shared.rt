@@ -1,8 +1,8 @@
 //! Transitions that are written for one pair.
-ghost use Rattle.std.specs.Prelude.{◌≡◌, ◌<◌, ◌≤◌, ◌^◌, ◌*◌, [], ℕ, All, length, slice_get, slice_index, IfOk};
+ghost use Rattle.std.specs.Prelude.{◌≡◌, ◌<◌, ◌≤◌, ◌^◌, ◌*◌, [], All, length, slice_get, IfOk};
 ghost use Rattle.slicc_plan.specs.Order.{first_after};
 ghost use Rattle.slicc_plan.specs.TwoTransitions.{shared_after, told_with};
-ghost use Rattle.machine_table.specs.PairPlaces.{IsAmong, first_at};
+ghost use Rattle.machine_table.specs.PairPlaces.{AreFirsts, IsAmong};
 
 use crate::places::earliest;
 use ruby_base::NoMemory;
@@ -47,7 +47,7 @@ pub fn first_shared(
     requires few { (states ≤ 2 ^ 16) × (events ≤ 2 ^ 16) × (length ws.now < 2 ^ 32) }
     requires among { All (IsAmong states events) ws.now }
     requires length { length firsts.now ≡ states * events }
-    requires firsts { (place : ℕ) → place < states * events → slice_index firsts.now place ≡ first_at events ws.now place }
+    requires firsts { AreFirsts states events ws.now firsts.now }
     ensures { IfOk result (λ found. found ≡ first_after first (shared_after number [] ws.now)) }
 {
     let mut found = first;
