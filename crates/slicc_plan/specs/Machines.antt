@@ -1,6 +1,6 @@
 -- What the parts of a machine are to its run: its states and events with their numbers, its actions, its written transitions,
 -- and the structures of its tables' lines. Numbers count from 0 in the order of the text.
-use Rattle.std.specs.Prelude.{ℕ, ◌+◌, ◌==◌, ◌&&◌, Bool, true, not, cond, Option, None, Some, List, [], ◌∷◌, ◌++◌, flat_map, filter, filter_map, find, position, unwrap_or, codes}
+use Rattle.std.specs.Prelude.{ℕ, ◌+◌, ◌==◌, ◌&&◌, Bool, true, not, cond, Option, None, Some, List, [], ◌∷◌, ◌++◌, map, flat_map, filter, filter_map, fold, find, position, unwrap_or, codes}
 use Rattle.std.specs.List.{list_any}
 use Rattle.std.specs.Str.{bytes_eq}
 use Rattle.slicc_ast.specs.declared.tree.name.Name.{Name}
@@ -16,6 +16,7 @@ use Rattle.slicc_ast.specs.declared.tree.declaration.Function.TheVariants.{Plain
 use Rattle.slicc_ast.specs.declared.tree.declaration.Structure.{Structure}
 use Rattle.slicc_plan.specs.declared.broken.Broken.{Broken}
 use Rattle.slicc_plan.specs.declared.row.Row.{Row}
+use Rattle.slicc_plan.specs.declared.row.Written.{Written}
 use Rattle.slicc_plan.specs.Attributes.{has_attribute}
 use Rattle.slicc_plan.specs.Declarations.{Declaration, first_named, function, structure, is_external, is_named, machine_declarations, machines_of}
 use Rattle.slicc_plan.specs.Limits.{event_members, is_action, state_members}
@@ -84,37 +85,53 @@ number_among declarations n = position (is_named n.text) declarations
 abbrev pub numbers_among : List Declaration → List Name → List ℕ
 numbers_among declarations names = filter_map (number_among declarations) names
 
-abbrev pub from_states : Machine → Transition → List ℕ
-from_states m t = numbers_among (state_members m) (names_in t.states)
-
-abbrev pub on_events : Machine → Transition → List ℕ
-on_events m t = numbers_among (event_members m) (names_in t.events)
-
 abbrev pub includes : List ℕ → ℕ → Bool
 includes numbers n = list_any (λ k. k == n) numbers
 
--- the state that is left is this one where the transition names none
-abbrev pub next_state : Machine → ℕ → Option Name → ℕ
-next_state m state None = state
-next_state m state (Some n) = unwrap_or (number_among (state_members m) n) state
+-- with one more number, unless it is there
+abbrev pub with_number : List ℕ → ℕ → List ℕ
+with_number numbers n = cond (includes numbers n) numbers (numbers ++ n ∷ [])
 
-abbrev pub row_of : Machine → ℕ → ℕ → ℕ → Transition → Row
-row_of m state event number t =
-    record { state = state; event = event; next = next_state m state t.next; actions = numbers_among (actions_of m) t.actions.items; transition = number }
+-- each of the numbers once
+abbrev pub each_once : List ℕ → List ℕ
+each_once numbers = fold with_number [] numbers
+
+abbrev pub from_states : Machine → Transition → List ℕ
+from_states m t = each_once (numbers_among (state_members m) (names_in t.states))
+
+abbrev pub on_events : Machine → Transition → List ℕ
+on_events m t = each_once (numbers_among (event_members m) (names_in t.events))
+
+abbrev pub next_number : Machine → Option Name → Option ℕ
+next_number m None = None
+next_number m (Some n) = number_among (state_members m) n
+
+-- the transition with its names as numbers
+abbrev pub written : Machine → Transition → Written
+written m t =
+    record { states = from_states m t; events = on_events m t; next = next_number m t.next; actions = numbers_among (actions_of m) t.actions.items; span = t.span }
+
+abbrev pub written_of : Machine → List Written
+written_of m = map (written m) (transitions_of m)
+
+-- the state that is left is this one where the transition names none
+abbrev pub row_of : ℕ → ℕ → ℕ → Written → Row
+row_of state event number t =
+    record { state = state; event = event; next = unwrap_or t.next state; actions = t.actions; transition = number }
 
 -- the transition is written for this state and this event
-abbrev pub is_for : Machine → ℕ → ℕ → Transition → Bool
-is_for m state event t = includes (from_states m t) state && includes (on_events m t) event
+abbrev pub is_for : ℕ → ℕ → Written → Bool
+is_for state event t = includes t.states state && includes t.events event
 
 -- of these transitions, which are numbered from here on
-abbrev pub rows_from : Machine → ℕ → ℕ → ℕ → List Transition → List Row
-rows_from m state event number [] = []
-rows_from m state event number (t ∷ ts) =
-    cond (is_for m state event t) (row_of m state event number t ∷ []) [] ++ rows_from m state event (number + 1) ts
+abbrev pub rows_from : ℕ → ℕ → ℕ → List Written → List Row
+rows_from state event number [] = []
+rows_from state event number (t ∷ ts) =
+    cond (is_for state event t) (row_of state event number t ∷ []) [] ++ rows_from state event (number + 1) ts
 
 -- the written transitions of a machine for a state and an event
 abbrev pub rows : Machine → ℕ → ℕ → List Row
-rows m state event = rows_from m state event 0 (transitions_of m)
+rows m state event = rows_from state event 0 (written_of m)
 
 -- Rules of machines.
 

@@ -19,7 +19,7 @@ pub use laws::{first_is_found, first_is_one};
 pub use machine::machine_at;
 pub use plan::{Plan, copy_plan, same_plan};
 pub use refusal::Refusal;
-pub use row::{Counts, Row};
+pub use row::{Counts, Row, Written};
 pub use ruby_base::{NoMemory, Seq, Text};
 pub use setup::{
     initial_fields_have_their_kinds, network_has_one_type, networks_are_numbered,

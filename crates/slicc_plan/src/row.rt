@@ -1,4 +1,5 @@
 use ruby_base::Seq;
+use slicc_ast::tree::Span;
 
 /// What a machine does on an event in a state: one pair's part of a written transition. All numbers count from 0 within the
 /// machine, in the order of the text.
@@ -11,6 +12,17 @@ pub struct Row {
     pub actions: Seq<u16>,
     /// The number of the written transition.
     pub transition: u32,
+}
+
+/// A written transition of a machine, its names as numbers, which count from 0 within the machine, in the order of the text.
+#[derive(Drop)]
+pub struct Written {
+    pub states: Seq<u16>,
+    pub events: Seq<u16>,
+    /// The state after it, where the transition names one.
+    pub next: Option<u16>,
+    pub actions: Seq<u16>,
+    pub span: Span,
 }
 
 /// What a protocol has, summed over its machines.

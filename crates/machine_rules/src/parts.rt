@@ -1,0 +1,95 @@
+//! Machines, states and events that a protocol should have, and pairs with two transitions.
+ghost use Rattle.std.specs.Prelude.{◌≡◌, ◌++◌, ℕ, map, IfOk};
+ghost use Rattle.slicc_plan.specs.Declarations.{machines_of};
+ghost use Rattle.slicc_plan.specs.MachineParts.{missing_machine, missing_parts, missing_parts_in};
+ghost use Rattle.slicc_plan.specs.Machines.{in_each_from};
+ghost use Rattle.slicc_plan.specs.Order.{first_after};
+ghost use Rattle.slicc_plan.specs.TwoTransitions.{shared_pairs};
+
+use machine_table::{event_count, kept_number, machines, state_count, tabulate};
+use ruby_base::NoMemory;
+use slicc_ast::tree::{Machine, Tree};
+use slicc_plan::{Broken, Rule, Span, earlier_broken};
+use std::alloc::Global;
+
+// The first file of a protocol that has no machine.
+#[tactic(auto, using(crate::proofs::Empty::empty_of))]
+fn missing_machine(first: Option<Broken>, trees: &[Tree], machines: &[&Machine]) -> Option<Broken>
+    requires { map (λ m. m.now) machines.now ≡ machines_of trees.now }
+    ensures { result ≡ first_after first (missing_machine trees.now) }
+{
+    if let [_, ..] = machines {
+        return first;
+    }
+    match trees {
+        [] => first,
+        [t, ..] => earlier_broken(
+            first,
+            Broken {
+                rule: Rule::NoMachine,
+                machine: 0,
+                place: Span {
+                    file: t.span.file,
+                    start: t.span.end,
+                    end: t.span.end,
+                },
+                other: None,
+            },
+        ),
+    }
+}
+
+// A machine of this number without a state or an event.
+#[tactic(auto, using(crate::proofs::Empty::empty_as))]
+fn missing_in(first: Option<Broken>, number: u16, m: &Machine) -> Option<Broken>
+    ensures { result ≡ first_after first (missing_parts_in number m.now) }
+{
+    if state_count(m) == 0 || event_count(m) == 0 {
+        return earlier_broken(
+            first,
+            Broken {
+                rule: Rule::NoStates,
+                machine: number,
+                place: m.span,
+                other: None,
+            },
+        );
+    }
+    first
+}
+
+fn missing_in_each(first: Option<Broken>, machines: &[&Machine]) -> Result<Option<Broken>, NoMemory>
+    ensures { IfOk result (λ found. found ≡ first_after first (in_each_from 0 missing_parts_in (map (λ m. m.now) machines.now))) }
+{
+    let mut found = first;
+    for (place, m) in machines.iter().enumerate() {
+        found = missing_in(found, kept_number(place)?, m);
+    }
+    Ok(found)
+}
+
+/// Of a protocol without a machine, of the machines without a state or an event, and of what was found before, the one that is
+/// told.
+pub fn machine_parts(
+    alloc: Global,
+    first: Option<Broken>,
+    trees: &[Tree],
+) -> Result<Option<Broken>, NoMemory>
+    ensures { IfOk result (λ found. found ≡ first_after first (missing_machine trees.now ++ missing_parts trees.now)) }
+{
+    let machines = machines(alloc, trees)?;
+    let found = missing_machine(first, trees, &machines);
+    missing_in_each(found, &machines)
+}
+
+/// Of the transitions that share a pair with an earlier one of their machine, and of what was found before, the one that is told.
+pub fn shared_pairs(
+    alloc: Global,
+    first: Option<Broken>,
+    trees: &[Tree],
+) -> Result<Option<Broken>, NoMemory>
+    ensures { IfOk result (λ found. found ≡ first_after first (shared_pairs trees.now)) }
+{
+    let (found, _) = tabulate(alloc, first, trees)?;
+    Ok(found)
+}

@@ -1,0 +1,62 @@
+-- Tables of machines, one more after the others.
+use Rattle.std.proofs.Common.{◌≡◌, ℕ, zero, suc, ◌+◌, ◌<◌, Option, None, Some, List, [], ◌∷◌, ◌++◌, length, map, option_and_then, slice_get, slice_index_or, take, refl, sym, ap, ◌∙◌, arith, add-one, append_assoc, append-nil, add-zero}
+use Rattle.std.proofs.Math.Seq.{take-suc}
+use Rattle.std.proofs.lemmas.List.{map-append}
+use Rattle.std.proofs.lemmas.Grind.{common_steps}
+use Rattle.slicc_ast.specs.declared.tree.machine.Machine.{Machine}
+use Rattle.slicc_plan.specs.declared.broken.Broken.{Broken}
+use Rattle.slicc_plan.specs.Buffers.{listed}
+use Rattle.slicc_plan.specs.Machines.{in_each_from, rows}
+use Rattle.slicc_plan.specs.Order.{first_after}
+use Rattle.slicc_plan.proofs.Firsts.{first_after-append}
+use Rattle.machine_table.specs.declared.table.Table.{Table}
+use Rattle.machine_table.specs.Answers.{answer_of}
+use Rattle.machine_table.specs.TablesOf.{rows_of_found}
+use Rattle.machine_table.proofs.OneRow.{both_empty}
+
+pub in_each_from-push : (n : ℕ) (found : ℕ → Machine → List Broken) (ms : List Machine) (m : Machine) → in_each_from n found (ms ++ m ∷ []) ≡ in_each_from n found ms ++ found (n + length ms) m
+in_each_from-push n found [] m = append-nil (found n m) ∙ ap (λ k. found k m) (sym (add-zero n))
+in_each_from-push n found (l ∷ ms) m =
+    let sum : n + 1 + length ms ≡ n + length (l ∷ ms) = omega arith in
+    ap (λ bs. found n l ++ bs) (in_each_from-push (n + 1) found ms m ∙ ap (λ k. in_each_from (n + 1) found ms ++ found k m) sum)
+    ∙ sym (append_assoc (found n l) (in_each_from (n + 1) found ms) (found (n + length (l ∷ ms)) m))
+
+-- one more step of a loop over machines
+pub machines_step : {T : Type 0} (f : T → Machine) (found : ℕ → Machine → List Broken) (ms : List T) (i : ℕ) (m : T) → i < length ms → m ≡ slice_index_or ms i m → in_each_from 0 found (map f (take (i + 1) ms)) ≡ in_each_from 0 found (map f (take i ms)) ++ found i (f m)
+machines_step f found ms i m below is =
+    let taken : take (i + 1) ms ≡ take i ms ++ m ∷ [] = rw (add-one, take-suc ms i m below) (ap (λ x. take i ms ++ x ∷ []) (sym is)) in
+    let len : 0 + length (map f (take i ms)) ≡ i = grind (arith, common_steps) in
+    ap (λ xs. in_each_from 0 found (map f xs)) taken ∙ ap (in_each_from 0 found) (map-append f (take i ms) (m ∷ []))
+    ∙ in_each_from-push 0 found (map f (take i ms)) (f m) ∙ ap (λ k. in_each_from 0 found (map f (take i ms)) ++ found k (f m)) len
+
+pub agree_push : (ms : List Machine) (ts : List Table) (m : Machine) (t : Table) → length ts ≡ length ms → ((n s e : ℕ) → rows_of_found (slice_get ms n) s e ≡ listed (option_and_then (answer_of s e) (slice_get ts n))) → ((s e : ℕ) → rows m s e ≡ listed (answer_of s e t)) → (n s e : ℕ) → rows_of_found (slice_get (ms ++ m ∷ []) n) s e ≡ listed (option_and_then (answer_of s e) (slice_get (ts ++ t ∷ []) n))
+agree_push [] [] m t len h g zero s e = g s e
+agree_push [] [] m t len h g (suc n) s e = refl
+agree_push [] (u ∷ ts) m t len h g n s e = absurd (apart (length ts) len)
+  where
+    apart : (k : ℕ) → suc k ≡ 0 → ⊥
+    apart k e = omega arith
+agree_push (l ∷ ms) [] m t len h g n s e = absurd (apart (length ms) len)
+  where
+    apart : (k : ℕ) → 0 ≡ suc k → ⊥
+    apart k e = omega arith
+agree_push (l ∷ ms) (u ∷ ts) m t len h g zero s e = h 0 s e
+agree_push (l ∷ ms) (u ∷ ts) m t len h g (suc n) s e = agree_push ms ts m t (omega (arith, len)) (λ k. h (suc k)) g n s e
+
+-- what is found, after one more machine
+pub found_step : {T : Type 0} (f : T → Machine) (found : ℕ → Machine → List Broken) (ms : List T) (i k : ℕ) (m : T) (first before after : Option Broken) → i < length ms → m ≡ slice_index_or ms i m → k ≡ i → before ≡ first_after first (in_each_from 0 found (map f (take i ms))) → after ≡ first_after before (found k (f m)) → after ≡ first_after first (in_each_from 0 found (map f (take (i + 1) ms)))
+found_step f found ms i k m first before after below is same e g =
+    g ∙ ap (λ o. first_after o (found k (f m))) e ∙ ap (λ k. first_after (first_after first (in_each_from 0 found (map f (take i ms)))) (found k (f m))) same
+    ∙ sym (first_after-append first (in_each_from 0 found (map f (take i ms))) (found i (f m)))
+    ∙ ap (first_after first) (sym (machines_step f found ms i m below is))
+
+-- what the tables answer, after one more machine
+pub tables_step : {T : Type 0} (f : T → Machine) (found : ℕ → Machine → List Broken) (ms : List T) (i k : ℕ) (m : T) (ts more : List Table) (t : Table) → i < length ms → m ≡ slice_index_or ms i m → k ≡ i → length ts ≡ i → more ≡ ts ++ t ∷ [] → (in_each_from 0 found (map f (take i ms)) ≡ [] → (n s e : ℕ) → rows_of_found (slice_get (map f (take i ms)) n) s e ≡ listed (option_and_then (answer_of s e) (slice_get ts n))) → (found k (f m) ≡ [] → (s e : ℕ) → rows (f m) s e ≡ listed (answer_of s e t)) → in_each_from 0 found (map f (take (i + 1) ms)) ≡ [] → (n s e : ℕ) → rows_of_found (slice_get (map f (take (i + 1) ms)) n) s e ≡ listed (option_and_then (answer_of s e) (slice_get more n))
+tables_step f found ms i k m ts more t below is same len pushed h g none n s e =
+    let both = both_empty (in_each_from 0 found (map f (take i ms))) (found i (f m)) (sym (machines_step f found ms i m below is) ∙ none) in
+    let taken : take (i + 1) ms ≡ take i ms ++ m ∷ [] = rw (add-one, take-suc ms i m below) (ap (λ x. take i ms ++ x ∷ []) (sym is)) in
+    let mapped : map f (take (i + 1) ms) ≡ map f (take i ms) ++ f m ∷ [] = ap (map f) taken ∙ map-append f (take i ms) (m ∷ []) in
+    let count : length (map f (take i ms)) ≡ i = grind (arith, common_steps) in
+    ap (λ xs. rows_of_found (slice_get xs n) s e) mapped
+    ∙ agree_push (map f (take i ms)) ts (f m) t (len ∙ sym count) (h both.0) (g (ap (λ k. found k (f m)) same ∙ both.1)) n s e
+    ∙ ap (λ us. listed (option_and_then (answer_of s e) (slice_get us n))) (sym pushed)

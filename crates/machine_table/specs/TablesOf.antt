@@ -1,0 +1,39 @@
+-- What the tables of a protocol's machines answer: for a machine, a state and an event, by their numbers, the one row that is
+-- written for them, or none. There are tables where no state and event of a machine have two written transitions.
+use Rattle.std.specs.Prelude.{ℕ, ◌≡◌, ◌+◌, ◌*◌, Option, None, Some, List, [], cond, flat_map, nat_lt, slice_get}
+use Rattle.slicc_ast.specs.declared.tree.item.Tree.{Tree}
+use Rattle.slicc_ast.specs.declared.tree.machine.Machine.{Machine}
+use Rattle.slicc_plan.specs.declared.row.Row.{Row}
+use Rattle.slicc_plan.specs.Buffers.{listed}
+use Rattle.slicc_plan.specs.Declarations.{item_declarations, machine_in, machines_of}
+use Rattle.slicc_plan.specs.Machines.{rows}
+
+-- what tables answer
+abbrev pub Answering : Type 0
+Answering = ℕ → ℕ → ℕ → Option Row
+
+abbrev pub rows_of_found : Option Machine → ℕ → ℕ → List Row
+rows_of_found None state event = []
+rows_of_found (Some m) state event = rows m state event
+
+-- the written rows of the machine of this number
+abbrev pub rows_in : List Tree → ℕ → ℕ → ℕ → List Row
+rows_in trees number state event = rows_of_found (slice_get (machines_of trees) number) state event
+
+-- what is written is what is answered, and nothing else is
+abbrev pub AreTablesOf : List Tree → Answering → Type 0
+AreTablesOf trees tables =
+    (number state event : ℕ) → rows_in trees number state event ≡ listed (tables number state event)
+
+-- the machines of a file
+abbrev pub machines_in : Tree → List Machine
+machines_in t = flat_map machine_in (flat_map item_declarations t.items.items)
+
+-- A table has a place for each pair of its machine, with a row there or none.
+
+abbrev pub inner : {X : Type 0} → Option (Option X) → Option X
+inner None = None
+inner (Some o) = o
+
+abbrev pub answer_at : ℕ → List (Option Row) → ℕ → ℕ → Option Row
+answer_at events rows state event = cond (nat_lt event events) (inner (slice_get rows (state * events + event))) None

@@ -1,0 +1,69 @@
+//! Numbers by names.
+ghost use Rattle.std.specs.Prelude.{◌≡◌, length, IfOk};
+
+use name_index::NameIndex;
+use ruby_base::{NoMemory, Seq};
+use std::alloc::Global;
+
+/// Numbers that are found by names. A search takes the time of a hash of the name.
+#[derive(Drop)]
+pub struct Numbers {
+    names: NameIndex,
+    // The number of each name.
+    numbers: Seq<u16>,
+    ghost same_length: { length numbers ≡ length names },
+}
+
+/// The number as one that tables keep. They have no room for more than 65,536 states, events or actions of a machine, which are
+/// more than a protocol may have.
+pub fn kept_number(number: usize) -> Result<u16, NoMemory>
+    ensures { IfOk result (λ kept. kept ≡ number) }
+{
+    if number > u16::MAX as usize {
+        return Err(NoMemory);
+    }
+    Ok(number as u16)
+}
+
+impl Numbers {
+    ghost use Rattle.std.specs.Prelude.{ℕ, List, None, OnOk};
+    ghost use Rattle.machine_table.specs.Found.{IsFoundWith, found_by};
+
+    /// Nothing is found by any name. It takes no memory.
+    pub fn new(alloc: Global) -> Numbers
+        ensures { (text : List ℕ) → found_by result text ≡ None }
+    {
+        Numbers {
+            names: NameIndex::new(alloc),
+            numbers: Seq::new(alloc),
+        }
+    }
+
+    pub fn find(&self, name: &[u8]) -> Option<u16>
+        ensures { result ≡ found_by self.now name.now }
+    {
+        match self.names.find(name) {
+            None => None,
+            Some(place) => self.numbers.get(place as usize).copied(),
+        }
+    }
+
+    /// Gives a name its number, if it has none yet.
+    pub fn add(&mut self, name: &[u8], number: usize) -> Result<(), NoMemory>
+        ensures { OnOk result (IsFoundWith self.old name.now number self.new) }
+    {
+        let number = kept_number(number)?;
+        if self.names.find(name).is_some() {
+            return Ok(());
+        }
+        let last = self.numbers.len();
+        self.numbers.push(number)?;
+        match self.names.add(name) {
+            Ok(_) => Ok(()),
+            Err(e) => {
+                self.numbers.remove(last);
+                Err(e)
+            }
+        }
+    }
+}

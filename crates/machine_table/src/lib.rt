@@ -1,0 +1,20 @@
+//! What a machine does on an event in a state, as a table made of its written transitions, with their names as numbers.
+#![tactic(auto)]
+
+mod by_name;
+mod machine_list;
+mod making;
+mod numbers;
+mod parts;
+mod places;
+mod rows;
+mod shared;
+mod table;
+mod written;
+
+pub use by_name::kept_number;
+pub use machine_list::machines;
+pub use making::{build, tabulate};
+pub use parts::{event_count, events, state_count, states};
+pub use ruby_base::{NoMemory, Seq};
+pub use table::{TableFault, Tables};

@@ -1,0 +1,108 @@
+//! The tables of a protocol, made from its trees.
+ghost use Rattle.std.specs.Prelude.{◌≡◌, ◌<◌, ◌≤◌, ◌^◌, [], None, All, length, map, IfOk};
+ghost use Rattle.slicc_plan.specs.Machines.{in_each_from, written_of};
+ghost use Rattle.slicc_plan.specs.Order.{first_after};
+ghost use Rattle.slicc_plan.specs.TwoTransitions.{shared_after, shared_pairs, shared_pairs_in};
+ghost use Rattle.machine_table.specs.PairPlaces.{IsAmong};
+ghost use Rattle.machine_table.specs.Answers.{AreRightUnlessShared, IsTableOf, answer};
+ghost use Rattle.machine_table.specs.TablesOf.{AreTablesOf};
+ghost use Rattle.machine_table.specs.Built.{IsBuilt};
+
+use crate::by_name::kept_number;
+use crate::machine_list::machines;
+use crate::parts::{event_count, state_count};
+use crate::places::first_numbers;
+use crate::rows::table_rows;
+use crate::shared::first_shared;
+use crate::table::{Table, TableFault, Tables};
+use crate::written::written_transitions;
+use ruby_base::{NoMemory, Seq};
+use slicc_ast::tree::{Machine, Tree};
+use slicc_plan::{Broken, Written};
+use std::alloc::Global;
+
+fn table_of(
+    alloc: Global,
+    first: Option<Broken>,
+    number: u16,
+    ws: &[Written],
+    states: usize,
+    events: usize,
+) -> Result<(Option<Broken>, Table), NoMemory>
+    requires few { (states ≤ 2 ^ 16) × (events ≤ 2 ^ 16) × (length ws.now < 2 ^ 32) }
+    requires among { All (IsAmong states events) ws.now }
+    ensures first { IfOk result (λ r. r.0 ≡ first_after first (shared_after number [] ws.now)) }
+    ensures rows { IfOk result (λ r. shared_after number [] ws.now ≡ [] → IsTableOf ws.now r.1) }
+{
+    let firsts = first_numbers(alloc, ws, states, events)?;
+    let found = first_shared(alloc, first, number, ws, &firsts, states, events)?;
+    let rows = table_rows(alloc, ws, &firsts, states, events)?;
+    Ok((found, Table { events, rows }))
+}
+
+// The table of the machine of this number.
+fn machine_table(
+    alloc: Global,
+    first: Option<Broken>,
+    number: u16,
+    m: &Machine,
+) -> Result<(Option<Broken>, Table), NoMemory>
+    ensures first { IfOk result (λ r. r.0 ≡ first_after first (shared_pairs_in number m.now)) }
+    ensures rows { IfOk result (λ r. shared_pairs_in number m.now ≡ [] → IsTableOf (written_of m.now) r.1) }
+{
+    let ws = written_transitions(alloc, m)?;
+    let states = state_count(m);
+    let events = event_count(m);
+    if states > 65536 || events > 65536 || ws.len() > u32::MAX as usize {
+        return Err(NoMemory);
+    }
+    table_of(alloc, first, number, &ws, states, events)
+}
+
+fn tables_of(
+    alloc: Global,
+    first: Option<Broken>,
+    machines: &[&Machine],
+) -> Result<(Option<Broken>, Tables), NoMemory>
+    ensures first { IfOk result (λ r. r.0 ≡ first_after first (in_each_from 0 shared_pairs_in (map (λ m. m.now) machines.now))) }
+    ensures tables { IfOk result (λ r. AreRightUnlessShared (map (λ m. m.now) machines.now) r.1) }
+{
+    let mut found = first;
+    let mut tables = Seq::new(alloc);
+    for (place, m) in machines.iter().enumerate() {
+        let number = kept_number(place)?;
+        let (next, table) = machine_table(alloc, found, number, m)?;
+        found = next;
+        tables.push(table)?;
+    }
+    Ok((found, Tables { machines: tables }))
+}
+
+/// The tables of a protocol's machines, and of the pairs that have two written transitions and of what was found before the one
+/// that is told. The tables are right where no pair has two.
+pub fn tabulate(
+    alloc: Global,
+    first: Option<Broken>,
+    trees: &[Tree],
+) -> Result<(Option<Broken>, Tables), NoMemory>
+    ensures first { IfOk result (λ r. r.0 ≡ first_after first (shared_pairs trees.now)) }
+    ensures tables { IfOk result (λ r. shared_pairs trees.now ≡ [] → AreTablesOf trees.now (answer r.1)) }
+{
+    let machines = machines(alloc, trees)?;
+    tables_of(alloc, first, &machines)
+}
+
+/// The tables of a protocol's machines. `Duplicate` comes exactly where a state and an event of a machine have two written
+/// transitions, with the first such second one, in the order of machines and of the text, and the earliest that has a pair with it.
+pub fn build(alloc: Global, trees: &[Tree]) -> Result<Tables, TableFault>
+    ensures { IsBuilt trees.now result }
+{
+    match tabulate(alloc, None, trees) {
+        Err(NoMemory) => Err(TableFault::NoMemory),
+        Ok((None, tables)) => Ok(tables),
+        Ok((Some(b), _)) => Err(TableFault::Duplicate {
+            first: b.other.unwrap_or(b.place),
+            second: b.place,
+        }),
+    }
+}

@@ -1,0 +1,77 @@
+//! The states and the events of a machine.
+ghost use Rattle.std.specs.Prelude.{◌≡◌, find, flat_map, length};
+ghost use Rattle.std.specs.Option.{option_copied, option_map};
+ghost use Rattle.slicc_plan.specs.Declarations.{enumeration, machine_declarations, named_declarations, states as states_declaration};
+ghost use Rattle.slicc_plan.specs.Limits.{event_members, is_events, is_states, state_members};
+
+use slicc_ast::tree::{Decl, Enumeration, Machine, States};
+
+fn first_states(declarations: &[Decl]) -> Option<&States>
+    ensures { option_map states_declaration (option_copied result) ≡ find is_states (flat_map named_declarations declarations.now) }
+{
+    let mut rest = declarations;
+    while let [d, others @ ..] = rest {
+        if let Decl::States(s) = d {
+            return Some(s);
+        }
+        rest = others;
+    }
+    None
+}
+
+fn is_of_events(e: &Enumeration) -> bool
+    ensures { result ≡ is_events (enumeration e.now) }
+{
+    e.name.text.as_slice() == b"Event".as_slice()
+}
+
+fn first_events(declarations: &[Decl]) -> Option<&Enumeration>
+    ensures { option_map enumeration (option_copied result) ≡ find is_events (flat_map named_declarations declarations.now) }
+{
+    let mut rest = declarations;
+    while let [d, others @ ..] = rest {
+        if let Decl::Enumeration(e) = d {
+            if is_of_events(e) {
+                return Some(e);
+            }
+        }
+        rest = others;
+    }
+    None
+}
+
+/// The first state declaration of a machine.
+#[tactic(auto, using(crate::proofs::Behind::states_behind))]
+pub fn states(m: &Machine) -> Option<&States>
+    ensures { option_map states_declaration (option_copied result) ≡ find is_states (machine_declarations m.now) }
+{
+    first_states(m.declarations.as_slice())
+}
+
+/// The enumeration of a machine's events.
+#[tactic(auto, using(crate::proofs::Behind::events_behind))]
+pub fn events(m: &Machine) -> Option<&Enumeration>
+    ensures { option_map enumeration (option_copied result) ≡ find is_events (machine_declarations m.now) }
+{
+    first_events(m.declarations.as_slice())
+}
+
+/// How many states a machine has.
+pub fn state_count(m: &Machine) -> usize
+    ensures { result ≡ length (state_members m.now) }
+{
+    match states(m) {
+        None => 0,
+        Some(s) => s.members.len(),
+    }
+}
+
+/// How many events a machine has.
+pub fn event_count(m: &Machine) -> usize
+    ensures { result ≡ length (event_members m.now) }
+{
+    match events(m) {
+        None => 0,
+        Some(e) => e.members.len(),
+    }
+}

@@ -1,0 +1,65 @@
+//! The table of a machine.
+ghost use Rattle.std.specs.Prelude.{◌≡◌, ◌≤◌, ◌^◌};
+
+use ruby_base::Seq;
+use slicc_plan::{Row, Span};
+
+/// The rows of a machine, at the places of their pairs.
+#[derive(Drop)]
+pub struct Table {
+    pub(crate) events: usize,
+    pub(crate) rows: Seq<Option<Row>>,
+    ghost few: { events ≤ 2 ^ 16 },
+}
+
+/// The tables of a protocol's machines.
+#[derive(Drop)]
+pub struct Tables {
+    pub(crate) machines: Seq<Table>,
+}
+
+/// Why there are no tables.
+#[derive(Clone, Copy)]
+pub enum TableFault {
+    /// A state and an event of a machine have two written transitions.
+    Duplicate {
+        /// The earliest that has a pair with the second.
+        first: Span,
+        second: Span,
+    },
+    NoMemory,
+}
+
+impl Table {
+    ghost use Rattle.std.specs.Option.{option_copied};
+    ghost use Rattle.machine_table.specs.TablesOf.{answer_at};
+
+    fn row(&self, state: u16, event: u16) -> Option<&Row>
+        ensures { option_copied result ≡ answer_at self.now.events self.now.rows state event }
+    {
+        let event = event as usize;
+        if event >= self.events {
+            return None;
+        }
+        match self.rows.get(state as usize * self.events + event) {
+            None => None,
+            Some(row) => row.as_ref(),
+        }
+    }
+}
+
+impl Tables {
+    ghost use Rattle.std.specs.Option.{option_copied};
+    ghost use Rattle.machine_table.specs.Answers.{answer};
+
+    /// What a machine does on an event in a state, by their numbers: the one row that is written for them, or `None` where none
+    /// is. It takes no memory.
+    pub fn row(&self, machine: u16, state: u16, event: u16) -> Option<&Row>
+        ensures { option_copied result ≡ answer self.now machine state event }
+    {
+        match self.machines.get(machine as usize) {
+            None => None,
+            Some(table) => table.row(state, event),
+        }
+    }
+}

@@ -1,0 +1,144 @@
+//! The written transitions of a machine, their names as numbers.
+ghost use Rattle.std.specs.Prelude.{◌≡◌, ◌++◌, filter_map, map, IfOk, OnOk};
+ghost use Rattle.slicc_plan.specs.Buffers.{listed};
+ghost use Rattle.slicc_plan.specs.Machines.{each_once, includes, names_in, transitions_of, with_number, written_of};
+ghost use Rattle.machine_table.specs.Found.{found_by, found_name, found_next, written_with};
+
+use crate::by_name::Numbers;
+use crate::numbers::{action_numbers, event_numbers, state_numbers};
+use ruby_base::{NoMemory, Seq};
+use slicc_ast::tree::{Decl, Machine, Name, Names, Transition};
+use slicc_plan::Written;
+use std::alloc::Global;
+
+// Adds the number of a name, where it has one.
+fn add_number(found: &mut Seq<u16>, name: &Name, numbers: &Numbers) -> Result<(), NoMemory>
+    ensures { OnOk result (found.new ≡ found.old ++ listed (found_name (found_by numbers.now) name.now)) }
+{
+    match numbers.find(name.text.as_slice()) {
+        None => Ok(()),
+        Some(number) => found.push(number),
+    }
+}
+
+// The numbers of names, in their order.
+fn numbers_of(alloc: Global, names: &[Name], numbers: &Numbers) -> Result<Seq<u16>, NoMemory>
+    ensures { IfOk result (λ found. found ≡ filter_map (found_name (found_by numbers.now)) names.now) }
+{
+    let mut found = Seq::new(alloc);
+    for name in names {
+        add_number(&mut found, name, numbers)?;
+    }
+    Ok(found)
+}
+
+fn numbers_in(alloc: Global, names: &Names, numbers: &Numbers) -> Result<Seq<u16>, NoMemory>
+    ensures { IfOk result (λ found. found ≡ filter_map (found_name (found_by numbers.now)) (names_in names.now)) }
+{
+    match names {
+        Names::One(name) => {
+            let mut found = Seq::new(alloc);
+            add_number(&mut found, name, numbers)?;
+            Ok(found)
+        }
+        Names::Several(names, _) => numbers_of(alloc, names, numbers),
+    }
+}
+
+fn is_among(numbers: &[u16], number: u16) -> bool
+    ensures { result ≡ includes numbers.now number }
+{
+    numbers.iter().any(|k| *k == number)
+}
+
+fn add_once(kept: &mut Seq<u16>, number: u16) -> Result<(), NoMemory>
+    ensures { OnOk result (kept.new ≡ with_number kept.old number) }
+{
+    let is_there = is_among(kept.as_slice(), number);
+    if is_there {
+        return Ok(());
+    }
+    kept.push(number)
+}
+
+// Each of the numbers once. A machine has few, and a transition may repeat their names at will.
+fn once(alloc: Global, numbers: &[u16]) -> Result<Seq<u16>, NoMemory>
+    ensures { IfOk result (λ kept. kept ≡ each_once numbers.now) }
+{
+    let mut kept = Seq::new(alloc);
+    for number in numbers {
+        add_once(&mut kept, *number)?;
+    }
+    Ok(kept)
+}
+
+fn numbers_once(alloc: Global, names: &Names, numbers: &Numbers) -> Result<Seq<u16>, NoMemory>
+    ensures { IfOk result (λ kept. kept ≡ each_once (filter_map (found_name (found_by numbers.now)) (names_in names.now))) }
+{
+    let all = numbers_in(alloc, names, numbers)?;
+    once(alloc, &all)
+}
+
+fn next_number(next: &Option<Name>, numbers: &Numbers) -> Option<u16>
+    ensures { result ≡ found_next (found_by numbers.now) next.now }
+{
+    match next {
+        None => None,
+        Some(name) => numbers.find(name.text.as_slice()),
+    }
+}
+
+// The numbers of a machine's states, events and actions.
+#[derive(Drop)]
+struct PartNumbers {
+    states: Numbers,
+    events: Numbers,
+    actions: Numbers,
+}
+
+fn written(alloc: Global, t: &Transition, parts: &PartNumbers) -> Result<Written, NoMemory>
+    ensures { IfOk result (λ w. w ≡ written_with parts.now t.now) }
+{
+    let states = numbers_once(alloc, &t.states, &parts.states)?;
+    let events = numbers_once(alloc, &t.events, &parts.events)?;
+    let actions = numbers_of(alloc, &t.actions, &parts.actions)?;
+    Ok(Written {
+        states,
+        events,
+        next: next_number(&t.next, &parts.states),
+        actions,
+        span: t.span,
+    })
+}
+
+fn written_by_parts(
+    alloc: Global,
+    m: &Machine,
+    parts: &PartNumbers,
+) -> Result<Seq<Written>, NoMemory>
+    ensures { IfOk result (λ ws. ws ≡ map (written_with parts.now) (transitions_of m.now)) }
+{
+    let mut ws = Seq::new(alloc);
+    let declarations = m.declarations.as_slice();
+    for d in declarations {
+        if let Decl::Transition(t) = d {
+            ws.push(written(alloc, t, parts)?)?;
+        }
+    }
+    Ok(ws)
+}
+
+/// The written transitions of a machine, in the order of the text.
+pub fn written_transitions(alloc: Global, m: &Machine) -> Result<Seq<Written>, NoMemory>
+    ensures { IfOk result (λ ws. ws ≡ written_of m.now) }
+{
+    let states = state_numbers(alloc, m)?;
+    let events = event_numbers(alloc, m)?;
+    let actions = action_numbers(alloc, m)?;
+    let parts = PartNumbers {
+        states,
+        events,
+        actions,
+    };
+    written_by_parts(alloc, m, &parts)
+}
