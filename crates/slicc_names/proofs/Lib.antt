@@ -1,5 +1,5 @@
-mod Attributes
 mod BlockScopes
+mod GlobalRepeats
 mod Parts
 mod Places
 mod Repeats

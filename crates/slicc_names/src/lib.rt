@@ -2,9 +2,14 @@
 #![tactic(auto)]
 
 mod blocks;
-mod declared;
+mod count;
 mod declares;
-mod external;
+mod first_names;
+mod globals;
+mod kinds;
+mod locals;
 mod scopes;
+mod twice;
 
 pub use slicc_plan::{NoMemory, Refusal};
+pub use twice::names_twice_declared;

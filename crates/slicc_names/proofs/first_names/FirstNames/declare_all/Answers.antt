@@ -1,7 +1,7 @@
 use Rattle.std.proofs.Common.{◌≡◌, ◌∷◌, ◌++◌, [], ap, sym, subst}
 use Rattle.slicc_names.specs.Lookups.{FindSame}
 use Rattle.slicc_names.proofs.Repeats.{one_step}
-use Rattle.slicc_names.proofs.declared.Declared.declare_all.Goals as goal
+use Rattle.slicc_names.proofs.first_names.FirstNames.declare_all.Goals as goal
 
 pub loop-part-preserved : goal.loop-part-preserved
 loop-part-preserved g c =

@@ -1,6 +1,6 @@
 use Rattle.std.proofs.Common.{ℕ, Vec, Global}
 use Rattle.slicc_names.proofs.Places.{found_place, known_place, no_place, new_place}
-use Rattle.slicc_names.proofs.declared.Declared.add.Goals as goal
+use Rattle.slicc_names.proofs.first_names.FirstNames.add.Goals as goal
 
 pub returns-then-is_some-clause-before : goal.returns-then-is_some-clause-before
 returns-then-is_some-clause-before c =

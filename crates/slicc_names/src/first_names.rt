@@ -14,12 +14,12 @@ use std::marker::Model;
 
 /// The names of a scope that were declared so far: the first with each text. A name is found by a hash of its text.
 #[derive(Drop)]
-pub struct Declared {
+pub struct FirstNames {
     alloc: Global,
     places: IndexMap<Vec<u8>, Span>,
 }
 
-impl Model for Declared {
+impl Model for FirstNames {
     ghost use Rattle.std.specs.Prelude.{List, map};
     ghost use Rattle.slicc_ast.specs.declared.tree.name.Name.{Name};
 
@@ -40,11 +40,11 @@ pub fn twice(place: Span, other: Option<Span>) -> Broken
     }
 }
 
-impl Declared {
-    pub fn new(alloc: Global) -> Declared
+impl FirstNames {
+    pub fn new(alloc: Global) -> FirstNames
         ensures { result ≡ [] }
     {
-        Declared {
+        FirstNames {
             alloc,
             places: IndexMap::new(alloc),
         }

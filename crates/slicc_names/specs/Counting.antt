@@ -1,0 +1,57 @@
+-- Counting through places to the one of a number.
+use Rattle.std.specs.Prelude.{ℕ, zero, suc, Bool, cond, Option, None, Some, List, [], ◌∷◌, flat_map, map}
+use Rattle.slicc_ast.specs.declared.tree.span.Span.{Span}
+use Rattle.slicc_ast.specs.declared.tree.statement.Block.{Block}
+use Rattle.slicc_ast.specs.declared.tree.statement.ElseIf.{ElseIf}
+use Rattle.slicc_ast.specs.declared.tree.statement.Stmt.{Stmt}
+use Rattle.slicc_plan.specs.declared.broken.Broken.{Broken}
+use Rattle.slicc_plan.specs.declared.broken.Rule.TheVariants.{LimitPassed}
+use Rattle.slicc_plan.specs.Blocks.{body_locals, locals_in}
+use Rattle.slicc_plan.specs.Declarations.{Declaration, place_of}
+use Rattle.slicc_plan.specs.Limits.{is_action, is_counted_function, is_counted_structure, is_enumeration, is_machine, is_object, is_port}
+use Rattle.slicc_names.specs.declared.count.Found.{Found}
+use Rattle.slicc_names.specs.declared.count.Found.TheVariants.{At, Left}
+use Rattle.slicc_names.specs.declared.kinds.Kind.{Kind}
+use Rattle.slicc_names.specs.declared.kinds.Kind.TheVariants.{Machine, Enumeration, Structure, Action, Function, Port, Object}
+
+abbrev pub listed_place : Option Span → List Span
+listed_place None = []
+listed_place (Some p) = p ∷ []
+
+-- the place of this number, counted from 0
+abbrev pub found_in : ℕ → List Span → Found
+found_in n [] = Left n
+found_in zero (p ∷ ps) = At p
+found_in (suc n) (p ∷ ps) = found_in n ps
+
+abbrev pub told_found : Found → List Broken
+told_found (At p) = record { rule = LimitPassed; machine = 0; place = p; other = None } ∷ []
+told_found (Left n) = []
+
+abbrev pub is_of_kind : Kind → Declaration → Bool
+is_of_kind Machine d = is_machine d
+is_of_kind Enumeration d = is_enumeration d
+is_of_kind Structure d = is_counted_structure d
+is_of_kind Action d = is_action d
+is_of_kind Function d = is_counted_function d
+is_of_kind Port d = is_port d
+is_of_kind Object d = is_object d
+
+-- the place of what passes the test
+abbrev pub place_if : (Declaration → Bool) → Declaration → List Span
+place_if test d = cond (test d) (place_of d ∷ []) []
+
+abbrev pub if_counted : Kind → Declaration → List Span
+if_counted kind d = place_if (is_of_kind kind) d
+
+-- the places of the locals of a statement
+abbrev pub local_places : Stmt → List Span
+local_places s = map place_of (locals_in s)
+
+-- `else if ( expr ) block`
+abbrev pub else_if_places : ElseIf → List Span
+else_if_places e = map place_of (body_locals e.then)
+
+abbrev pub optional_places : Option Block → List Span
+optional_places None = []
+optional_places (Some b) = map place_of (body_locals b)
