@@ -1,5 +1,7 @@
 mod BlockScopes
+mod Counts
 mod GlobalRepeats
+mod LocalPlaces
 mod Parts
 mod Places
 mod Repeats
