@@ -4,7 +4,9 @@ use Rattle.std.proofs.Math.Seq.{take-suc}
 use Rattle.std.proofs.lemmas.Grind.{flat_map-append}
 use Rattle.std.proofs.lemmas.List.{map-append, take-append-drop, take_all}
 use Rattle.slicc_ast.specs.declared.tree.span.Span.{Span}
-use Rattle.slicc_names.specs.Counting.{found_in}
+use Rattle.slicc_plan.specs.Declarations.{Declaration, place_of}
+use Rattle.slicc_plan.specs.Limits.{beyond}
+use Rattle.slicc_names.specs.Counting.{found_in, place_if, told_found}
 use Rattle.slicc_names.specs.declared.count.Found.{Found}
 use Rattle.slicc_names.specs.declared.count.Found.TheVariants.{At, Left}
 
@@ -46,3 +48,21 @@ at_end h xs i n l past so_far = so_far ∙ ap (λ ys. found_in n (flat_map h ys)
 pub map_flat : {X Y Z : Type 0} (f : Y → Z) (g : X → List Y) (xs : List X) → map f (flat_map g xs) ≡ flat_map (λ x. map f (g x)) xs
 map_flat f g [] = refl
 map_flat f g (x ∷ xs) = map-append f (g x) (flat_map g xs) ∙ ap (λ ys. map f (g x) ++ ys) (map_flat f g xs)
+
+-- what is told of the declaration right after so many
+pub beyond_found : (n : ℕ) (ds : List Declaration) → beyond n ds ≡ told_found (found_in n (map place_of ds))
+beyond_found n [] = refl
+beyond_found zero (d ∷ ds) = refl
+beyond_found (suc n) (d ∷ ds) = beyond_found n ds
+
+passing : (test : Declaration → Bool) (d : Declaration) (ds : List Declaration) (b : Bool) → map place_of (filter test ds) ≡ flat_map (place_if test) ds
+    → map place_of (cond b (d ∷ filter test ds) (filter test ds)) ≡ cond b (place_of d ∷ []) [] ++ flat_map (place_if test) ds
+passing test d ds true rest = ap (λ ps. place_of d ∷ ps) rest
+passing test d ds false rest = rest
+
+pub places_passing : (test : Declaration → Bool) (ds : List Declaration) → map place_of (filter test ds) ≡ flat_map (place_if test) ds
+places_passing test [] = refl
+places_passing test (d ∷ ds) = passing test d ds (test d) (places_passing test ds)
+
+pub beyond_passing : (test : Declaration → Bool) (n : ℕ) (ds : List Declaration) → beyond n (filter test ds) ≡ told_found (found_in n (flat_map (place_if test) ds))
+beyond_passing test n ds = beyond_found n (filter test ds) ∙ ap (λ ps. told_found (found_in n ps)) (places_passing test ds)

@@ -1,5 +1,7 @@
 mod BlockScopes
 mod Counts
+mod Fields
+mod Found
 mod GlobalRepeats
 mod LocalPlaces
 mod Parts

@@ -1,5 +1,7 @@
 -- Counting through places to the one of a number.
 use Rattle.std.specs.Prelude.{ℕ, zero, suc, Bool, cond, Option, None, Some, List, [], ◌∷◌, flat_map, map}
+use Rattle.std.specs.List.{slice_get}
+use Rattle.slicc_ast.specs.declared.tree.declaration.Member.{Member}
 use Rattle.slicc_ast.specs.declared.tree.span.Span.{Span}
 use Rattle.slicc_ast.specs.declared.tree.statement.Block.{Block}
 use Rattle.slicc_ast.specs.declared.tree.statement.ElseIf.{ElseIf}
@@ -7,10 +9,12 @@ use Rattle.slicc_ast.specs.declared.tree.statement.Stmt.{Stmt}
 use Rattle.slicc_plan.specs.declared.broken.Broken.{Broken}
 use Rattle.slicc_plan.specs.declared.broken.Rule.TheVariants.{LimitPassed}
 use Rattle.slicc_plan.specs.Blocks.{body_locals, locals_in}
-use Rattle.slicc_plan.specs.Declarations.{Declaration, place_of}
-use Rattle.slicc_plan.specs.Limits.{is_action, is_counted_function, is_counted_structure, is_enumeration, is_machine, is_object, is_port}
+use Rattle.slicc_plan.specs.Declarations.{Declaration, member, place_of}
+use Rattle.slicc_plan.specs.Limits.{is_action, is_counted_function, is_counted_structure, is_enumeration, is_events, is_field, is_machine, is_object, is_port, is_states}
 use Rattle.slicc_names.specs.declared.count.Found.{Found}
 use Rattle.slicc_names.specs.declared.count.Found.TheVariants.{At, Left}
+use Rattle.slicc_names.specs.declared.limits.Wanted.{Wanted}
+use Rattle.slicc_names.specs.declared.limits.Wanted.TheVariants.{States, Events}
 use Rattle.slicc_names.specs.declared.kinds.Kind.{Kind}
 use Rattle.slicc_names.specs.declared.kinds.Kind.TheVariants.{Machine, Enumeration, Structure, Action, Function, Port, Object}
 
@@ -55,3 +59,18 @@ else_if_places e = map place_of (body_locals e.then)
 abbrev pub optional_places : Option Block → List Span
 optional_places None = []
 optional_places (Some b) = map place_of (body_locals b)
+
+abbrev pub field_places : Member → List Span
+field_places m = place_if is_field (member m)
+
+-- the place of a declaration, where there is one
+abbrev pub found_place : Option Declaration → List Span
+found_place None = []
+found_place (Some d) = place_of d ∷ []
+
+abbrev pub member_place : List Declaration → ℕ → List Span
+member_place members number = found_place (slice_get members number)
+
+abbrev pub is_wanted : Wanted → Declaration → Bool
+is_wanted States d = is_states d
+is_wanted Events d = is_events d

@@ -1,12 +1,14 @@
 //! Counting to the place of a number.
 ghost use Rattle.std.specs.Prelude.{◌≡◌, flat_map};
 ghost use Rattle.declared_types.specs.Lent.{declaration_of, declarations_of};
-ghost use Rattle.slicc_names.specs.Counting.{found_in, if_counted, listed_place, told_found};
+ghost use Rattle.slicc_names.specs.Counting.{field_places, found_in, if_counted, listed_place, place_if, told_found};
+ghost use Rattle.slicc_plan.specs.Declarations.{member};
+ghost use Rattle.slicc_plan.specs.Limits.{is_field};
 ghost use Rattle.slicc_plan.specs.Order.{first_after};
 
 use crate::kinds::{Kind, is_of_kind, place_of};
 use declared_types::Declared;
-use slicc_ast::tree::Span;
+use slicc_ast::tree::{Member, Span};
 use slicc_plan::{Broken, Rule, earlier_broken};
 
 /// What counting through places finds.
@@ -75,4 +77,27 @@ pub fn limit_at(first: Option<Broken>, found: Found) -> Option<Broken>
             },
         ),
     }
+}
+
+fn field_place(m: &Member) -> Option<Span>
+    ensures { listed_place result ≡ place_if is_field (member m.now) }
+{
+    match m {
+        Member::Field { span, .. } => Some(*span),
+        Member::Method { .. } | Member::Skipped(_) => None,
+    }
+}
+
+/// Counts the fields among the members of a structure.
+pub fn count_fields(members: &[Member], left: u32) -> Found
+    ensures { result ≡ found_in left (flat_map field_places members.now) }
+{
+    let mut left_now = left;
+    for m in members {
+        match count(field_place(m), left_now) {
+            Found::At(p) => return Found::At(p),
+            Found::Left(l) => left_now = l,
+        }
+    }
+    Found::Left(left_now)
 }

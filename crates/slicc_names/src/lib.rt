@@ -7,6 +7,7 @@ mod declares;
 mod first_names;
 mod globals;
 mod kinds;
+mod limits;
 mod locals;
 mod scopes;
 mod twice;
