@@ -51,7 +51,7 @@ pub fn count_kind(kind: Kind, declarations: &[Declared<'_>], left: u32) -> Found
     Found::Left(left_now)
 }
 
-fn place_if(kind: Kind, d: Declared<'_>) -> Option<Span>
+pub fn place_if(kind: Kind, d: Declared<'_>) -> Option<Span>
     ensures { listed_place result ≡ if_counted kind (declaration_of d.entry) }
 {
     if is_of_kind(kind, d) {

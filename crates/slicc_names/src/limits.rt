@@ -14,28 +14,16 @@ use declared_types::{Declared, is_external};
 use slicc_ast::tree::{Block, Function, Span};
 use slicc_plan::Broken;
 
-const MACHINES: u32 = 16;
-
 const OF_EACH: u32 = 256;
 
-const PORTS: u32 = 32;
-
-const OBJECTS: u32 = 64;
-
-const SEQUENCERS: u32 = 1;
-
-// The built-in ones count too.
-const ENUMERATIONS: u32 = 16384 - 4;
-
 const MEMBERS: u32 = 65535;
-
-const STRUCTURES: u32 = 16384;
 
 const FIELDS: u32 = 64;
 
 const LOCALS: u32 = 64;
 
-fn kind_limit(
+/// A limit of the declarations of a kind.
+pub fn kind_limit(
     first: Option<Broken>,
     kind: Kind,
     declarations: &[Declared<'_>],
@@ -93,7 +81,8 @@ fn in_declaration(first: Option<Broken>, d: Declared<'_>) -> Option<Broken>
     fields_limit(first, d)
 }
 
-fn in_declarations(first: Option<Broken>, declarations: &[Declared<'_>]) -> Option<Broken>
+/// The limits in each declaration.
+pub fn in_declarations(first: Option<Broken>, declarations: &[Declared<'_>]) -> Option<Broken>
     ensures { result ≡ first_after first (flat_map beyond_in_declaration (declarations_of declarations.now)) }
 {
     let mut first = first;
@@ -132,7 +121,8 @@ fn in_own_body(first: Option<Broken>, d: Declared<'_>) -> Option<Broken>
     }
 }
 
-fn in_bodies(first: Option<Broken>, declarations: &[Declared<'_>]) -> Option<Broken>
+/// The limits in the bodies of declarations.
+pub fn in_bodies(first: Option<Broken>, declarations: &[Declared<'_>]) -> Option<Broken>
     ensures { result ≡ first_after first (flat_map beyond_in_body (flat_map bodies_in (declarations_of declarations.now))) }
 {
     let mut first = first;
@@ -164,7 +154,8 @@ fn is_wanted(wanted: Wanted, d: Declared<'_>) -> bool
     }
 }
 
-fn wanted_limit(
+/// The limit of the members of a machine's enumeration.
+pub fn wanted_limit(
     first: Option<Broken>,
     wanted: Wanted,
     declarations: &[Declared<'_>],
