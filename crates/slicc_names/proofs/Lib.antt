@@ -4,6 +4,7 @@ mod Fields
 mod Found
 mod GlobalRepeats
 mod LocalPlaces
+mod MachinePlaces
 mod Parts
 mod Places
 mod Repeats

@@ -101,20 +101,21 @@ fn sequencer_limit(first: Option<Broken>, scopes: &Scopes<'_>, number: usize) ->
 fn of_kinds(first: Option<Broken>, declarations: &[Declared<'_>]) -> Option<Broken>
     ensures { result ≡ first_after first (kind_limits (declarations_of declarations.now)) }
 {
-    let first = wanted_limit(first, Wanted::States, declarations);
-    let first = wanted_limit(first, Wanted::Events, declarations);
-    let first = kind_limit(first, Kind::Action, declarations, OF_EACH);
-    let first = kind_limit(first, Kind::Function, declarations, OF_EACH);
-    let first = kind_limit(first, Kind::Port, declarations, PORTS);
-    kind_limit(first, Kind::Object, declarations, OBJECTS)
+    let states = wanted_limit(first, Wanted::States, declarations);
+    let events = wanted_limit(states, Wanted::Events, declarations);
+    let actions = kind_limit(events, Kind::Action, declarations, OF_EACH);
+    let functions = kind_limit(actions, Kind::Function, declarations, OF_EACH);
+    let ports = kind_limit(functions, Kind::Port, declarations, PORTS);
+    kind_limit(ports, Kind::Object, declarations, OBJECTS)
 }
 
 fn of_machine(first: Option<Broken>, scopes: &Scopes<'_>, number: usize) -> Option<Broken>
     ensures { result ≡ first_after first (limits_of scopes.now.trees.now (scope_at scopes.now.trees.now number) (declared_in scopes.now.trees.now (scope_at scopes.now.trees.now number))) }
 {
-    let first = of_kinds(first, scopes.declarations(number));
-    let first = sequencer_limit(first, scopes, number);
-    in_bodies(first, scopes.declarations(number))
+    let declarations = scopes.declarations(number);
+    let kinds = of_kinds(first, declarations);
+    let sequencers = sequencer_limit(kinds, scopes, number);
+    in_bodies(sequencers, declarations)
 }
 
 fn in_machine(first: Option<Broken>, scopes: &Scopes<'_>, number: usize) -> Option<Broken>
@@ -129,8 +130,9 @@ fn in_machine(first: Option<Broken>, scopes: &Scopes<'_>, number: usize) -> Opti
 fn in_scope(first: Option<Broken>, scopes: &Scopes<'_>, number: usize) -> Option<Broken>
     ensures { result ≡ first_after first (beyond_in_scope scopes.now.trees.now (scope_at scopes.now.trees.now number)) }
 {
-    let first = in_declarations(first, scopes.declarations(number));
-    in_machine(first, scopes, number)
+    let declarations = scopes.declarations(number);
+    let declared = in_declarations(first, declarations);
+    in_machine(declared, scopes, number)
 }
 
 fn in_scopes(first: Option<Broken>, scopes: &Scopes<'_>) -> Option<Broken>
@@ -148,8 +150,10 @@ pub fn limits_passed(first: Option<Broken>, scopes: &Scopes<'_>) -> Option<Broke
     ensures { result ≡ first_after first (limits_passed scopes.now.trees.now) }
 {
     let globals = scopes.declarations(0);
-    let first = kind_limit(first, Kind::Machine, globals, MACHINES);
-    let first = limit_at(first, count_all(Kind::Enumeration, globals, ENUMERATIONS));
-    let first = limit_at(first, count_all(Kind::Structure, globals, STRUCTURES));
-    in_scopes(first, scopes)
+    let machines = kind_limit(first, Kind::Machine, globals, MACHINES);
+    let enumeration = count_all(Kind::Enumeration, globals, ENUMERATIONS);
+    let enumerations = limit_at(machines, enumeration);
+    let structure = count_all(Kind::Structure, globals, STRUCTURES);
+    let structures = limit_at(enumerations, structure);
+    in_scopes(structures, scopes)
 }
