@@ -1,5 +1,10 @@
-mod Attributes
 mod BlockScopes
+mod Counts
+mod Fields
+mod Found
+mod GlobalRepeats
+mod LocalPlaces
+mod MachinePlaces
 mod Parts
 mod Places
 mod Repeats

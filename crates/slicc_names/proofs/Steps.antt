@@ -3,7 +3,7 @@ use Rattle.std.proofs.Common.{◌≡◌, ◌<◌, ◌≤◌, ◌+◌, ℕ, List,
 use Rattle.std.proofs.Math.Seq.{take-suc}
 use Rattle.std.proofs.lemmas.Grind.{flat_map-append}
 use Rattle.std.proofs.lemmas.List.{take_all}
-use Rattle.slicc_plan.proofs.Firsts.{first_after-append}
+use Rattle.slicc_plan.proofs.Firsts.{first_after-append, first_after-flat_map}
 use Rattle.slicc_plan.specs.declared.broken.Broken.{Broken}
 use Rattle.slicc_plan.specs.Declarations.{Declaration}
 use Rattle.slicc_plan.specs.Order.{first_after}
@@ -36,3 +36,12 @@ told_in_body own xs f g h p q =
 -- at the end of the loop
 pub told_in_all : {X : Type 0} (k : X → List (List Declaration)) (xs : List X) (i : ℕ) (f g : Option Broken) → length xs ≤ i → g ≡ first_after f (flat_map repeated (flat_map k (take i xs))) → g ≡ first_after f (flat_map repeated (flat_map k xs))
 told_in_all k xs i f g past told = told ∙ ap (λ ys. first_after f (flat_map repeated (flat_map k ys))) (take_all i xs past)
+
+-- the same of parts that are told of one by one
+pub told_taken : {X : Type 0} (k : X → List Broken) (xs : List X) (i : ℕ) (d : X) (f g h : Option Broken) → i < length xs → d ≡ slice_index_or xs i d
+    → g ≡ first_after f (flat_map k (take i xs)) → h ≡ first_after g (k d) → h ≡ first_after f (flat_map k (take (i + 1) xs))
+told_taken k xs i d f g h below is p q =
+    q ∙ ap (λ x. first_after g (k x)) is ∙ ap (λ o. first_after o (k (slice_index_or xs i d))) p ∙ sym (first_after-flat_map k xs i d f below)
+
+pub told_all : {X : Type 0} (k : X → List Broken) (xs : List X) (i : ℕ) (f g : Option Broken) → length xs ≤ i → g ≡ first_after f (flat_map k (take i xs)) → g ≡ first_after f (flat_map k xs)
+told_all k xs i f g past told = told ∙ ap (λ ys. first_after f (flat_map k ys)) (take_all i xs past)

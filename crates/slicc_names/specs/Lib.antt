@@ -1,3 +1,4 @@
+pub mod Counting
 pub mod Declaring
 pub mod Lookups
 pub mod Repeated

@@ -6,7 +6,7 @@ ghost use Rattle.slicc_plan.specs.Blocks.{blocks_in, body_scopes, if_blocks, loc
 ghost use Rattle.slicc_plan.specs.Order.{first_after};
 ghost use Rattle.slicc_plan.specs.TwiceDeclared.{repeated};
 
-use crate::declared::Declared;
+use crate::first_names::FirstNames;
 use slicc_ast::tree::{Block, ElseIf, Formal, If, Stmt};
 use slicc_plan::{Broken, NoMemory};
 use std::alloc::Global;
@@ -19,7 +19,7 @@ fn own_names(
 ) -> Result<Option<Broken>, NoMemory>
     ensures { IfOk result (λ r. r ≡ first_after first (repeated (flat_map one_formal formals.now ++ flat_map local_of statements.now))) }
 {
-    let mut scope = Declared::new(alloc);
+    let mut scope = FirstNames::new(alloc);
     let first = scope.declare_all(first, formals)?;
     scope.declare_all(first, statements)
 }

@@ -1,10 +1,19 @@
 //! The names of a protocol: what is declared twice, or more often than it may be.
 #![tactic(auto)]
 
+mod all;
 mod blocks;
-mod declared;
+mod count;
 mod declares;
-mod external;
+mod first_names;
+mod globals;
+mod kinds;
+mod limits;
+mod locals;
+mod protocol;
 mod scopes;
+mod twice;
 
+pub use protocol::limits_passed;
 pub use slicc_plan::{NoMemory, Refusal};
+pub use twice::names_twice_declared;

@@ -7,9 +7,9 @@ ghost use Rattle.slicc_plan.specs.TwiceDeclared.{repeated};
 ghost use Rattle.slicc_names.specs.Repeated.{item_scopes, machine_scopes};
 
 use crate::blocks::{in_block, in_body};
-use crate::declared::Declared;
 use crate::declares::Declares;
-use crate::external::is_external;
+use crate::first_names::FirstNames;
+use declared_types::is_external;
 use slicc_ast::tree::{Decl, Function, Item, Machine, Member, Structure, Tree};
 use slicc_plan::{Broken, NoMemory};
 use std::alloc::Global;
@@ -22,7 +22,7 @@ fn in_parts<T: Declares>(
 ) -> Result<Option<Broken>, NoMemory>
     ensures { IfOk result (λ r. r ≡ first_after first (flat_map repeated (flat_map T.declares parts.now ∷ []))) }
 {
-    let mut scope = Declared::new(alloc);
+    let mut scope = FirstNames::new(alloc);
     scope.declare_all(first, parts)
 }
 
@@ -110,7 +110,7 @@ fn in_decls(
 fn own_names(alloc: Global, first: Option<Broken>, m: &Machine) -> Result<Option<Broken>, NoMemory>
     ensures { IfOk result (λ r. r ≡ first_after first (repeated (machine_declarations m.now))) }
 {
-    let mut scope = Declared::new(alloc);
+    let mut scope = FirstNames::new(alloc);
     let first = scope.declare_all(first, &m.parameters)?;
     scope.declare_all(first, &m.declarations)
 }

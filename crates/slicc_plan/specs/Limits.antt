@@ -12,7 +12,7 @@ use Rattle.slicc_plan.specs.declared.broken.Broken.{Broken}
 use Rattle.slicc_plan.specs.declared.broken.Rule.TheVariants.{LimitPassed}
 use Rattle.slicc_plan.specs.declared.built_in.BuiltInType.TheVariants.{Sequencer}
 use Rattle.slicc_plan.specs.Blocks.{body_locals}
-use Rattle.slicc_plan.specs.Declarations.{Declaration, machine, enumeration, structure, states, parameter, object, out_port, in_port, action, function, symbol, state, member, within, global_declarations, is_external, is_named, machine_declarations, machines_of, place_of}
+use Rattle.slicc_plan.specs.Declarations.{Declaration, machine, enumeration, structure, states, parameter, object, out_port, in_port, action, function, symbol, state, member, Scope, everywhere, within, declared_in, global_declarations, is_external, is_named, machine_declarations, place_of, wide_scopes}
 use Rattle.slicc_plan.specs.Scopes.{machine_bodies}
 use Rattle.slicc_plan.specs.Types.{is_built_in, type_in}
 
@@ -157,6 +157,14 @@ beyond_in_machine trees m =
     ++ beyond most_sequencers (filter (is_sequencer trees m) (machine_declarations m))
     ++ flat_map beyond_in_body (machine_bodies m)
 
+abbrev pub machine_limits : List Tree → Scope → List Broken
+machine_limits trees everywhere = []
+machine_limits trees (within m) = beyond_in_machine trees m
+
+abbrev pub beyond_in_scope : List Tree → Scope → List Broken
+beyond_in_scope trees scope =
+    flat_map beyond_in_declaration (declared_in trees scope) ++ machine_limits trees scope
+
 -- a declaration right in the protocol and, of a machine, what it declares
 abbrev pub with_its_own : Declaration → List Declaration
 with_its_own (machine m) = machine m ∷ machine_declarations m
@@ -171,5 +179,4 @@ limits_passed trees =
     beyond most_machines (filter is_machine (global_declarations trees))
     ++ beyond (most_enumerations - built_in_enumerations) (filter is_enumeration (all_declarations trees))
     ++ beyond most_structures (filter is_counted_structure (all_declarations trees))
-    ++ flat_map beyond_in_declaration (all_declarations trees)
-    ++ flat_map (beyond_in_machine trees) (machines_of trees)
+    ++ flat_map (beyond_in_scope trees) (wide_scopes trees)

@@ -1,0 +1,9 @@
+use Rattle.std.proofs.Common.{◌≡◌, flat_map, take}
+use Rattle.declared_types.specs.Lent.{declaration_of}
+use Rattle.slicc_plan.specs.Limits.{beyond_in_body}
+use Rattle.slicc_plan.specs.Scopes.{bodies_in}
+use Rattle.slicc_plan.specs.Order.{first_after}
+use Rattle.slicc_names.proofs.limits.in_bodies.Given as goal
+
+abbrev pub invariant-loop-d : goal.invariant-loop-d
+invariant-loop-d l = l.first ≡ first_after l.initial.first (flat_map (λ x. flat_map beyond_in_body (bodies_in (declaration_of x))) (take l.d-index l.declarations))

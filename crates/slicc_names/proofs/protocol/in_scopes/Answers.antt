@@ -1,0 +1,14 @@
+use Rattle.std.proofs.Common.{◌≡◌, ◌<◌, length, arith, sym, ap, ◌∙◌}
+use Rattle.declared_types.specs.Scopes.{scope_at}
+use Rattle.slicc_plan.proofs.Firsts.{first_after-flat_map}
+use Rattle.slicc_plan.specs.Declarations.{everywhere, wide_scopes}
+use Rattle.slicc_plan.specs.Limits.{beyond_in_scope}
+use Rattle.slicc_plan.specs.Order.{first_after}
+use Rattle.slicc_names.proofs.protocol.in_scopes.Goals as goal
+
+pub loop-number-preserved : goal.loop-number-preserved
+loop-number-preserved c =
+    let below : c.loop-number.number < length (wide_scopes c.args.scopes.now.trees.now) = omega arith in
+    c.in_scope-first.ensures
+    ∙ ap (λ o. first_after o (beyond_in_scope c.args.scopes.now.trees.now (scope_at c.args.scopes.now.trees.now c.loop-number.number))) c.loop-number.invariant
+    ∙ sym (first_after-flat_map (beyond_in_scope c.args.scopes.now.trees.now) (wide_scopes c.args.scopes.now.trees.now) c.loop-number.number everywhere c.args.first below)

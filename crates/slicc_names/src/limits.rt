@@ -1,0 +1,171 @@
+//! The rule that there is no more of anything than a protocol may have.
+ghost use Rattle.std.specs.Prelude.{◌≡◌, filter, flat_map, find};
+ghost use Rattle.declared_types.specs.Lent.{declaration_of, declarations_of};
+ghost use Rattle.slicc_names.specs.Counting.{is_of_kind, is_wanted, listed_place, member_place};
+ghost use Rattle.slicc_plan.specs.Declarations.{function};
+ghost use Rattle.slicc_plan.specs.Limits.{beyond, beyond_in_body, beyond_in_declaration, fields_in, members_in, members_of_found, most_fields, most_of_each};
+ghost use Rattle.slicc_plan.specs.Order.{first_after};
+ghost use Rattle.slicc_plan.specs.Scopes.{bodies_in};
+
+use crate::count::{Found, count_fields, count_kind, limit_at};
+use crate::kinds::Kind;
+use crate::locals::count_locals;
+use declared_types::{Declared, is_external};
+use slicc_ast::tree::{Block, Function, Span};
+use slicc_plan::Broken;
+
+const OF_EACH: u32 = 256;
+
+const MEMBERS: u32 = 65535;
+
+const FIELDS: u32 = 64;
+
+const LOCALS: u32 = 64;
+
+/// A limit of the declarations of a kind.
+pub fn kind_limit(
+    first: Option<Broken>,
+    kind: Kind,
+    declarations: &[Declared<'_>],
+    limit: u32,
+) -> Option<Broken>
+    ensures { result ≡ first_after first (beyond limit (filter (is_of_kind kind) (declarations_of declarations.now))) }
+{
+    limit_at(first, count_kind(kind, declarations, limit))
+}
+
+fn symbol_place(d: Declared<'_>, number: u32) -> Option<Span>
+    ensures { listed_place result ≡ member_place (members_in (declaration_of d.entry)) number }
+{
+    match d {
+        Declared::Enumeration(e) => match e.members.get(number as usize) {
+            None => None,
+            Some(s) => Some(s.name.span),
+        },
+        Declared::States(d) => match d.members.get(number as usize) {
+            None => None,
+            Some(s) => Some(s.name.span),
+        },
+        _ => None,
+    }
+}
+
+fn members_limit(first: Option<Broken>, d: Declared<'_>, limit: u32) -> Option<Broken>
+    ensures { result ≡ first_after first (beyond limit (members_in (declaration_of d.entry))) }
+{
+    match symbol_place(d, limit) {
+        None => first,
+        Some(place) => limit_at(first, Found::At(place)),
+    }
+}
+
+fn fields_limit(first: Option<Broken>, d: Declared<'_>) -> Option<Broken>
+    ensures { result ≡ first_after first (beyond most_fields (fields_in (declaration_of d.entry))) }
+{
+    match d {
+        Declared::Structure(s) => {
+            if is_external(s) {
+                first
+            } else {
+                limit_at(first, count_fields(&s.members, FIELDS))
+            }
+        }
+        _ => first,
+    }
+}
+
+fn in_declaration(first: Option<Broken>, d: Declared<'_>) -> Option<Broken>
+    ensures { result ≡ first_after first (beyond_in_declaration (declaration_of d.entry)) }
+{
+    let first = members_limit(first, d, MEMBERS);
+    fields_limit(first, d)
+}
+
+/// The limits in each declaration.
+pub fn in_declarations(first: Option<Broken>, declarations: &[Declared<'_>]) -> Option<Broken>
+    ensures { result ≡ first_after first (flat_map beyond_in_declaration (declarations_of declarations.now)) }
+{
+    let mut first = first;
+    for d in declarations {
+        first = in_declaration(first, *d);
+    }
+    first
+}
+
+fn in_body(first: Option<Broken>, b: &Block) -> Option<Broken>
+    ensures { result ≡ first_after first (beyond_in_body b.now) }
+{
+    limit_at(first, count_locals(b, LOCALS))
+}
+
+fn in_function(first: Option<Broken>, f: &Function) -> Option<Broken>
+    ensures { result ≡ first_after first (flat_map beyond_in_body (bodies_in (function f.now))) }
+{
+    match f {
+        Function::Plain { body, .. } => match body {
+            None => first,
+            Some(body) => in_body(first, body),
+        },
+        Function::Skipped(_) => first,
+    }
+}
+
+fn in_own_body(first: Option<Broken>, d: Declared<'_>) -> Option<Broken>
+    ensures { result ≡ first_after first (flat_map beyond_in_body (bodies_in (declaration_of d.entry))) }
+{
+    match d {
+        Declared::InPort(p) => in_body(first, &p.body),
+        Declared::Action(a) => in_body(first, &a.body),
+        Declared::Function(f) => in_function(first, f),
+        _ => first,
+    }
+}
+
+/// The limits in the bodies of declarations.
+pub fn in_bodies(first: Option<Broken>, declarations: &[Declared<'_>]) -> Option<Broken>
+    ensures { result ≡ first_after first (flat_map beyond_in_body (flat_map bodies_in (declarations_of declarations.now))) }
+{
+    let mut first = first;
+    for d in declarations {
+        first = in_own_body(first, *d);
+    }
+    first
+}
+
+/// Which enumeration of a machine.
+#[derive(Clone, Copy)]
+pub enum Wanted {
+    States,
+    Events,
+}
+
+fn is_wanted(wanted: Wanted, d: Declared<'_>) -> bool
+    ensures { result ≡ is_wanted wanted (declaration_of d.entry) }
+{
+    match wanted {
+        Wanted::States => match d {
+            Declared::States(_) => true,
+            _ => false,
+        },
+        Wanted::Events => match d {
+            Declared::Enumeration(e) => e.name.text.as_slice() == b"Event".as_slice(),
+            _ => false,
+        },
+    }
+}
+
+/// The limit of the members of a machine's enumeration.
+pub fn wanted_limit(
+    first: Option<Broken>,
+    wanted: Wanted,
+    declarations: &[Declared<'_>],
+) -> Option<Broken>
+    ensures { result ≡ first_after first (beyond most_of_each (members_of_found (find (is_wanted wanted) (declarations_of declarations.now)))) }
+{
+    for d in declarations {
+        if is_wanted(wanted, *d) {
+            return members_limit(first, *d, OF_EACH);
+        }
+    }
+    first
+}
