@@ -8,6 +8,7 @@ mod scopes;
 mod table;
 mod tables;
 mod types;
+mod words;
 
 pub use attributes::{Attribute, first_attribute, has_attribute, is_external, is_word};
 pub use lent::{Declared, KnownType, Scope};
