@@ -1,0 +1,26 @@
+-- One more step through a list of which each element may break rules.
+use Rattle.std.proofs.Common.{◌≡◌, ◌<◌, ◌++◌, ◌+◌, ℕ, Option, List, [], ◌∷◌, flat_map, map, refl, sym, ◌∙◌, ap, take, length, get_or, add-one, append-nil, append_assoc}
+use Rattle.std.proofs.Math.Seq.{take-suc}
+use Rattle.std.proofs.lemmas.Grind.{flat_map-append}
+use Rattle.std.proofs.lemmas.List.{map-append}
+use Rattle.slicc_plan.specs.declared.broken.Broken.{Broken}
+use Rattle.slicc_plan.specs.Order.{first_after}
+use Rattle.slicc_plan.proofs.Firsts.{first_after-append}
+
+-- the elements are seen by v, and r is the first after p and what is broken in x
+pub one_more : {X Y : Type 0} (f : Y → List Broken) (v : X → Y) (xs : List X) (i : ℕ) (x : X) (o p r : Option Broken) → i < length xs → x ≡ get_or xs i x → r ≡ first_after p (f (v x)) → p ≡ first_after o (flat_map f (map v (take i xs)))
+  → r ≡ first_after o (flat_map f (map v (take (i + 1) xs)))
+one_more f v xs i x o p r below at e before =
+    let taken : map v (take (i + 1) xs) ≡ map v (take i xs) ++ v x ∷ [] =
+        rw (add-one, take-suc xs i x below) (map-append v (take i xs) (get_or xs i x ∷ []) ∙ ap (λ y. map v (take i xs) ++ v y ∷ []) (sym at)) in
+    let flat : flat_map f (map v (take (i + 1) xs)) ≡ flat_map f (map v (take i xs)) ++ f (v x) =
+        rw (taken, flat_map-append f (map v (take i xs)) (v x ∷ []), append-nil (f (v x))) refl in
+    e ∙ ap (λ q. first_after q (f (v x))) before ∙ sym (first_after-append o (flat_map f (map v (take i xs))) (f (v x))) ∙ ap (first_after o) (sym flat)
+
+pub flat_map_same : {X : Type 0} (f g : X → List Broken) (xs : List X) → ((x : X) → f x ≡ g x) → flat_map f xs ≡ flat_map g xs
+flat_map_same f g [] e = refl
+flat_map_same f g (x ∷ xs) e = ap (λ bs. bs ++ flat_map f xs) (e x) ∙ ap (λ bs. g x ++ bs) (flat_map_same f g xs e)
+
+pub flat_map-flat_map : {X Y : Type 0} (f : Y → List Broken) (g : X → List Y) (xs : List X) → flat_map f (flat_map g xs) ≡ flat_map (λ x. flat_map f (g x)) xs
+flat_map-flat_map f g [] = refl
+flat_map-flat_map f g (x ∷ xs) = flat_map-append f (g x) (flat_map g xs) ∙ ap (λ bs. flat_map f (g x) ++ bs) (flat_map-flat_map f g xs)
