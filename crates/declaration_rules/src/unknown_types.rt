@@ -4,15 +4,15 @@ ghost use Rattle.std.specs.Option.{option_map};
 ghost use Rattle.slicc_ast.specs.declared.tree.span.Span.{Span as SpanRecord};
 ghost use Rattle.slicc_plan.specs.Declarations.{is_external};
 ghost use Rattle.slicc_plan.specs.Order.{first_after};
-ghost use Rattle.slicc_plan.specs.UnknownTypes.{formal_use, function_uses, is_unknown, member_uses, state_use, unknown_use, use_of};
+ghost use Rattle.slicc_plan.specs.UnknownTypes.{formal_uses, function_uses, is_unknown, member_uses, state_use, unknown_use, use_of};
 ghost use Rattle.declared_types.specs.Lent.{type_of};
 ghost use Rattle.declared_types.specs.Scopes.{scope_at};
 ghost use Rattle.declaration_rules.specs.Judging.{unknown_of, unknown_uses};
 
 use crate::rule::DeclarationRule;
 use declared_types::{Declared, KnownType, Scopes, is_external};
-use slicc_ast::tree::{Formal, Function, Member, State, Structure, TypeName};
-use slicc_plan::{Broken, BuiltInType, Rule, Span, earlier_broken};
+use slicc_ast::tree::{Formals, Function, Member, State, Structure, TypeName};
+use slicc_plan::{Broken, BuiltInType, Rule, Span, Text, earlier_broken};
 
 /// The names of types are known.
 pub struct KnownTypes;
@@ -32,7 +32,7 @@ fn judge_use(
     first: Option<Broken>,
     scopes: &Scopes<'_>,
     number: usize,
-    text: &[u8],
+    text: &Text,
     place: Span,
     is_of_prototype: bool,
 ) -> Option<Broken>
@@ -62,13 +62,13 @@ fn judge_formals(
     first: Option<Broken>,
     scopes: &Scopes<'_>,
     number: usize,
-    formals: &[Formal],
+    formals: &Formals,
     is_of_prototype: bool,
 ) -> Option<Broken>
-    ensures { result ≡ first_after first (unknown_uses scopes.now.trees.now (scope_at scopes.now.trees.now number) (map (formal_use is_of_prototype) formals.now)) }
+    ensures { result ≡ first_after first (unknown_uses scopes.now.trees.now (scope_at scopes.now.trees.now number) (formal_uses is_of_prototype formals.now)) }
 {
     let mut first = first;
-    for f in formals {
+    for f in &formals.items {
         first = judge_use(first, scopes, number, &f.kind.text, f.kind.span, is_of_prototype);
     }
     first
@@ -91,7 +91,7 @@ fn judge_member(first: Option<Broken>, scopes: &Scopes<'_>, number: usize, m: &M
         Member::Field { kind, .. } => judge_type(first, scopes, number, kind),
         Member::Method { kind, formals, .. } => {
             let first = judge_type(first, scopes, number, kind);
-            judge_formals(first, scopes, number, &formals.items, true)
+            judge_formals(first, scopes, number, formals, true)
         }
         Member::Skipped(s) => judge_type(first, scopes, number, &s.kind),
     }
@@ -128,7 +128,7 @@ fn judge_function(first: Option<Broken>, scopes: &Scopes<'_>, number: usize, f: 
             ..
         } => {
             let first = judge_type(first, scopes, number, kind);
-            judge_formals(first, scopes, number, &formals.items, body.is_none())
+            judge_formals(first, scopes, number, formals, body.is_none())
         }
         Function::Skipped(s) => judge_type(first, scopes, number, &s.kind),
     }

@@ -1,8 +1,10 @@
+pub mod AllRules
 pub mod Attributes
 pub mod Blocks
 pub mod BodySizes
 pub mod BrokenBodies
 pub mod BrokenDeclarations
+pub mod BrokenMachines
 pub mod Buffers
 pub mod BuiltIn
 pub mod BuiltInCalls
