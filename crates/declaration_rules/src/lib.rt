@@ -1,8 +1,12 @@
 //! Rules that declarations keep: known types, the types of fields, values of attributes, and built-in names.
 #![tactic(auto)]
 
+mod all;
+mod field_types;
+mod fields;
 mod prototypes;
 mod rule;
 mod unknown_types;
 
-pub use rule::{DeclarationRule, first_in_scopes};
+pub use all::{judge_field_types, judge_prototypes, judge_type_names};
+pub use field_types::nature_in;

@@ -87,7 +87,12 @@ fn judge_structure(first: Option<Broken>, scopes: &Scopes<'_>, s: &Structure) ->
 impl DeclarationRule for Prototypes {
     ghost broken_of = { λ trees scope d. unknown_built_in (machine_names trees) d };
 
-    fn judge<'a>(first: Option<Broken>, scopes: &Scopes<'a>, _number: usize, d: Declared<'a>) -> Option<Broken> {
+    fn judge<'a>(
+        first: Option<Broken>,
+        scopes: &Scopes<'a>,
+        _number: usize,
+        d: Declared<'a>,
+    ) -> Option<Broken> {
         match d {
             Declared::Structure(s) => judge_structure(first, scopes, s),
             Declared::Function(f) => judge_prototype(first, scopes, f),

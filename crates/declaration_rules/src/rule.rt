@@ -15,11 +15,20 @@ pub trait DeclarationRule {
     ghost broken_of: { List TreeRecord → Scope → Declaration → List BrokenRecord };
 
     /// The first broken rule, after a declaration in the scope of this number.
-    fn judge<'a>(first: Option<Broken>, scopes: &Scopes<'a>, number: usize, d: Declared<'a>) -> Option<Broken>
+    fn judge<'a>(
+        first: Option<Broken>,
+        scopes: &Scopes<'a>,
+        number: usize,
+        d: Declared<'a>,
+    ) -> Option<Broken>
         ensures { result ≡ first_after first (broken_of scopes.now.trees.now (scope_at scopes.now.trees.now number) (declaration_of d.entry)) };
 }
 
-fn first_in_scope<'a, R: DeclarationRule>(first: Option<Broken>, scopes: &Scopes<'a>, number: usize) -> Option<Broken>
+fn first_in_scope<'a, R: DeclarationRule>(
+    first: Option<Broken>,
+    scopes: &Scopes<'a>,
+    number: usize,
+) -> Option<Broken>
     ensures { result ≡ first_after first (broken_in R.broken_of scopes.now.trees.now (scope_at scopes.now.trees.now number)) }
 {
     let mut first = first;
@@ -30,7 +39,10 @@ fn first_in_scope<'a, R: DeclarationRule>(first: Option<Broken>, scopes: &Scopes
 }
 
 /// The first broken rule, after all declarations that are made right in the protocol or in a machine.
-pub fn first_in_scopes<'a, R: DeclarationRule>(first: Option<Broken>, scopes: &Scopes<'a>) -> Option<Broken>
+pub fn first_in_scopes<'a, R: DeclarationRule>(
+    first: Option<Broken>,
+    scopes: &Scopes<'a>,
+) -> Option<Broken>
     ensures { result ≡ first_after first (flat_map (broken_in R.broken_of scopes.now.trees.now) (wide_scopes scopes.now.trees.now)) }
 {
     let mut first = first;

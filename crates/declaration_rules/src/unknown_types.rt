@@ -4,14 +4,14 @@ ghost use Rattle.std.specs.Option.{option_map};
 ghost use Rattle.slicc_ast.specs.declared.tree.span.Span.{Span as SpanRecord};
 ghost use Rattle.slicc_plan.specs.Declarations.{is_external};
 ghost use Rattle.slicc_plan.specs.Order.{first_after};
-ghost use Rattle.slicc_plan.specs.UnknownTypes.{formal_uses, function_uses, is_unknown, member_uses, state_use, unknown_use, use_of};
+ghost use Rattle.slicc_plan.specs.UnknownTypes.{formal_use, function_uses, is_unknown, member_uses, state_use, unknown_use, use_of};
 ghost use Rattle.declared_types.specs.Lent.{type_of};
 ghost use Rattle.declared_types.specs.Scopes.{scope_at};
 ghost use Rattle.declaration_rules.specs.Judging.{unknown_of, unknown_uses};
 
 use crate::rule::DeclarationRule;
 use declared_types::{Declared, KnownType, Scopes, is_external};
-use slicc_ast::tree::{Formals, Function, Member, State, Structure, TypeName};
+use slicc_ast::tree::{Formal, Function, Member, State, Structure, TypeName};
 use slicc_plan::{Broken, BuiltInType, Rule, Span, Text, earlier_broken};
 
 /// The names of types are known.
@@ -52,7 +52,12 @@ fn judge_use(
     )
 }
 
-fn judge_type(first: Option<Broken>, scopes: &Scopes<'_>, number: usize, t: &TypeName) -> Option<Broken>
+fn judge_type(
+    first: Option<Broken>,
+    scopes: &Scopes<'_>,
+    number: usize,
+    t: &TypeName,
+) -> Option<Broken>
     ensures { result ≡ first_after first (unknown_uses scopes.now.trees.now (scope_at scopes.now.trees.now number) (use_of t.now ∷ [])) }
 {
     judge_use(first, scopes, number, &t.text, t.span, false)
@@ -62,19 +67,31 @@ fn judge_formals(
     first: Option<Broken>,
     scopes: &Scopes<'_>,
     number: usize,
-    formals: &Formals,
+    formals: &[Formal],
     is_of_prototype: bool,
 ) -> Option<Broken>
-    ensures { result ≡ first_after first (unknown_uses scopes.now.trees.now (scope_at scopes.now.trees.now number) (formal_uses is_of_prototype formals.now)) }
+    ensures { result ≡ first_after first (unknown_uses scopes.now.trees.now (scope_at scopes.now.trees.now number) (map (formal_use is_of_prototype) formals.now)) }
 {
     let mut first = first;
-    for f in &formals.items {
-        first = judge_use(first, scopes, number, &f.kind.text, f.kind.span, is_of_prototype);
+    for f in formals {
+        first = judge_use(
+            first,
+            scopes,
+            number,
+            &f.kind.text,
+            f.kind.span,
+            is_of_prototype,
+        );
     }
     first
 }
 
-fn judge_states(first: Option<Broken>, scopes: &Scopes<'_>, number: usize, states: &[State]) -> Option<Broken>
+fn judge_states(
+    first: Option<Broken>,
+    scopes: &Scopes<'_>,
+    number: usize,
+    states: &[State],
+) -> Option<Broken>
     ensures { result ≡ first_after first (unknown_uses scopes.now.trees.now (scope_at scopes.now.trees.now number) (map state_use states.now)) }
 {
     let mut first = first;
@@ -84,20 +101,30 @@ fn judge_states(first: Option<Broken>, scopes: &Scopes<'_>, number: usize, state
     first
 }
 
-fn judge_member(first: Option<Broken>, scopes: &Scopes<'_>, number: usize, m: &Member) -> Option<Broken>
+fn judge_member(
+    first: Option<Broken>,
+    scopes: &Scopes<'_>,
+    number: usize,
+    m: &Member,
+) -> Option<Broken>
     ensures { result ≡ first_after first (unknown_uses scopes.now.trees.now (scope_at scopes.now.trees.now number) (member_uses m.now)) }
 {
     match m {
         Member::Field { kind, .. } => judge_type(first, scopes, number, kind),
         Member::Method { kind, formals, .. } => {
             let first = judge_type(first, scopes, number, kind);
-            judge_formals(first, scopes, number, formals, true)
+            judge_formals(first, scopes, number, &formals.items, true)
         }
         Member::Skipped(s) => judge_type(first, scopes, number, &s.kind),
     }
 }
 
-fn judge_members(first: Option<Broken>, scopes: &Scopes<'_>, number: usize, members: &[Member]) -> Option<Broken>
+fn judge_members(
+    first: Option<Broken>,
+    scopes: &Scopes<'_>,
+    number: usize,
+    members: &[Member],
+) -> Option<Broken>
     ensures { result ≡ first_after first (unknown_uses scopes.now.trees.now (scope_at scopes.now.trees.now number) (flat_map member_uses members.now)) }
 {
     let mut first = first;
@@ -107,7 +134,12 @@ fn judge_members(first: Option<Broken>, scopes: &Scopes<'_>, number: usize, memb
     first
 }
 
-fn judge_structure(first: Option<Broken>, scopes: &Scopes<'_>, number: usize, s: &Structure) -> Option<Broken>
+fn judge_structure(
+    first: Option<Broken>,
+    scopes: &Scopes<'_>,
+    number: usize,
+    s: &Structure,
+) -> Option<Broken>
     ensures { result ≡ first_after first (unknown_uses scopes.now.trees.now (scope_at scopes.now.trees.now number) (cond (is_external s.now) [] (flat_map member_uses s.now.members.items))) }
 {
     if is_external(s) {
@@ -117,7 +149,12 @@ fn judge_structure(first: Option<Broken>, scopes: &Scopes<'_>, number: usize, s:
     }
 }
 
-fn judge_function(first: Option<Broken>, scopes: &Scopes<'_>, number: usize, f: &Function) -> Option<Broken>
+fn judge_function(
+    first: Option<Broken>,
+    scopes: &Scopes<'_>,
+    number: usize,
+    f: &Function,
+) -> Option<Broken>
     ensures { result ≡ first_after first (unknown_uses scopes.now.trees.now (scope_at scopes.now.trees.now number) (function_uses f.now)) }
 {
     match f {
@@ -128,7 +165,7 @@ fn judge_function(first: Option<Broken>, scopes: &Scopes<'_>, number: usize, f: 
             ..
         } => {
             let first = judge_type(first, scopes, number, kind);
-            judge_formals(first, scopes, number, formals, body.is_none())
+            judge_formals(first, scopes, number, &formals.items, body.is_none())
         }
         Function::Skipped(s) => judge_type(first, scopes, number, &s.kind),
     }
@@ -137,7 +174,12 @@ fn judge_function(first: Option<Broken>, scopes: &Scopes<'_>, number: usize, f: 
 impl DeclarationRule for KnownTypes {
     ghost broken_of = { unknown_of };
 
-    fn judge<'a>(first: Option<Broken>, scopes: &Scopes<'a>, number: usize, d: Declared<'a>) -> Option<Broken> {
+    fn judge<'a>(
+        first: Option<Broken>,
+        scopes: &Scopes<'a>,
+        number: usize,
+        d: Declared<'a>,
+    ) -> Option<Broken> {
         match d {
             Declared::Structure(s) => judge_structure(first, scopes, number, s),
             Declared::States(s) => judge_states(first, scopes, number, &s.members),

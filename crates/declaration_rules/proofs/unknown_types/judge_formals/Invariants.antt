@@ -7,4 +7,4 @@ use Rattle.declaration_rules.proofs.unknown_types.judge_formals.Given as goal
 
 abbrev pub invariant-loop-f : goal.invariant-loop-f
 invariant-loop-f l =
-    l.first ≡ first_after l.initial.first (unknown_uses l.scopes.trees.now (scope_at l.scopes.trees.now l.number) (map (formal_use l.is_of_prototype) (take l.f-index l.formals.items.items)))
+    l.first ≡ first_after l.initial.first (unknown_uses l.scopes.trees.now (scope_at l.scopes.trees.now l.number) (map (formal_use l.is_of_prototype) (take l.f-index l.formals)))
