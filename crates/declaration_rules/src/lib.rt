@@ -4,9 +4,13 @@
 mod all;
 mod field_types;
 mod fields;
+mod numbers;
 mod prototypes;
 mod rule;
 mod unknown_types;
+mod values;
 
 pub use all::{judge_field_types, judge_prototypes, judge_type_names};
 pub use field_types::nature_in;
+pub use numbers::number_value;
+pub use values::{judge_literal, judge_object_attributes};
