@@ -5,11 +5,14 @@ use Rattle.std.proofs.lemmas.Option.{slice_get-get_or, slice_get-map, slice_get_
 use Rattle.std.proofs.lemmas.List.{get_or_past, length-map}
 use Rattle.slicc_ast.specs.declared.tree.item.Tree.{Tree}
 use Rattle.slicc_ast.specs.declared.tree.machine.Machine.{Machine}
-use Rattle.slicc_plan.specs.Declarations.{everywhere, within, global_declarations, machine_in, machines_of, wide_scopes}
+use Rattle.std.specs.List.{list_any}
+use Rattle.slicc_plan.specs.BuiltIn.{is_among}
+use Rattle.declared_types.proofs.NameParts.{list_any_map}
+use Rattle.slicc_plan.specs.Declarations.{everywhere, within, global_declarations, machine_in, machine_names, machines_of, wide_scopes}
 use Rattle.declared_types.specs.declared.lent.Declared.{Declared}
 use Rattle.declared_types.specs.declared.table.Table.{Table}
 use Rattle.declared_types.specs.Lent.{declarations_of, scope_of}
-use Rattle.declared_types.specs.Scopes.{AreTables, machine_table, scope_at, summaries, summary, table_in}
+use Rattle.declared_types.specs.Scopes.{AreTables, ScopeTable, is_machine_named, machine_table, scope_at, summaries, summary, table_in}
 
 pub machine_tables : (trees : List Tree) (ms : List Machine) → map machine_table ms ≡ map (table_in trees) (map within ms)
 machine_tables trees [] = refl
@@ -54,3 +57,15 @@ table_known trees tables number known t right (inr (far, e)) found = table_beyon
 
 pub machines_added : (start ms : List Table) (slice ds : List Declared) → start ≡ [] → slice ≡ ds → summaries ms ≡ summaries start ++ map machine_table (flat_map machine_in (declarations_of slice)) → summaries ms ≡ map machine_table (flat_map machine_in (declarations_of ds))
 machines_added start ms slice ds none same e = e ∙ ap (λ ts. summaries ts ++ map machine_table (flat_map machine_in (declarations_of slice))) none ∙ ap (λ xs. map machine_table (flat_map machine_in (declarations_of xs))) same
+
+-- A machine has a name where the tables say so.
+
+pub machine_named : (text : List ℕ) (ms : List Machine) → list_any (is_machine_named text) (map within ms) ≡ is_among (map (λ (m : Machine). m.name.text) ms) text
+machine_named text [] = refl
+machine_named text (m ∷ ms) = let tail = machine_named text ms in cc
+
+pub bears_machine : (trees : List Tree) (tables : List Table) (text : List ℕ) → AreTables trees tables → list_any (λ (s : ScopeTable). is_machine_named text s.scope) (summaries tables) ≡ is_among (machine_names trees) text
+bears_machine trees tables text right =
+    ap (list_any (λ (s : ScopeTable). is_machine_named text s.scope)) right.all
+    ∙ list_any_map (λ (s : ScopeTable). is_machine_named text s.scope) (table_in trees) (wide_scopes trees)
+    ∙ machine_named text (machines_of trees)

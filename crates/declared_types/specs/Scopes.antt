@@ -1,5 +1,6 @@
 -- What is declared in a scope, and how the first declaration of a name is found there.
-use Rattle.std.specs.Prelude.{◌≡◌, ℕ, List, map}
+use Rattle.std.specs.Prelude.{◌≡◌, ℕ, Bool, false, List, map}
+use Rattle.std.specs.Str.{bytes_eq}
 use Rattle.std.specs.List.{slice_index_or}
 use Rattle.slicc_ast.specs.declared.tree.item.Tree.{Tree}
 use Rattle.slicc_ast.specs.declared.tree.machine.Machine.{Machine}
@@ -33,3 +34,8 @@ machine_table m = record { scope = within m; declarations = machine_declarations
 -- there is a table of each scope
 pub record AreTables (trees : List Tree) (tables : List Table) : Type 0 where
   pub all : summaries tables ≡ map (table_in trees) (wide_scopes trees)
+
+-- it is the scope of a machine of this name
+abbrev pub is_machine_named : List ℕ → Scope → Bool
+is_machine_named text everywhere = false
+is_machine_named text (within m) = bytes_eq m.name.text text

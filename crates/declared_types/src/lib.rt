@@ -8,8 +8,12 @@ mod scopes;
 mod table;
 mod tables;
 mod types;
+mod words;
 
-pub use attributes::{Attribute, first_attribute, has_attribute, is_external, is_word};
+pub use attributes::{
+    Attribute, attribute_in, first_attribute, has_attribute, is_external, is_word,
+};
 pub use lent::{Declared, KnownType, Scope};
 pub use scopes::Scopes;
 pub use types::{declared_type, table_named};
+pub use words::{after_prefix, before_suffix};

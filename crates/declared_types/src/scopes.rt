@@ -11,8 +11,9 @@ ghost use Rattle.declared_types.specs.Scopes.{AreTables};
 
 use crate::lent::{Declared, KnownType, Scope};
 use crate::table::Table;
-use crate::tables::all_tables;
+use crate::tables::{all_tables, any_bears};
 use crate::types::declared_type;
+use crate::words::before_suffix;
 use built_ins::built_in_type;
 use ruby_base::{NoMemory, Seq};
 use slicc_ast::tree::Tree;
@@ -31,8 +32,12 @@ pub struct Scopes<'a> {
 impl<'a> Scopes<'a> {
     ghost use Rattle.std.specs.Prelude.{length, IfOk};
     ghost use Rattle.std.specs.Option.{option_map};
-    ghost use Rattle.slicc_plan.specs.Declarations.{declared_in, first_named, wide_scopes};
+    ghost use Rattle.slicc_plan.specs.Declarations.{declared_in, first_named, machine_names, wide_scopes};
     ghost use Rattle.slicc_plan.specs.Types.{global_type, type_in};
+    ghost use Rattle.slicc_plan.specs.BuiltIn.{is_among};
+    ghost use Rattle.slicc_plan.specs.BuiltInCalls.{permission_call};
+    ghost use Rattle.std.specs.List.{list_any};
+    ghost use Rattle.std.specs.Str.{bytes_eq};
     ghost use Rattle.declared_types.specs.Lent.{declaration_of, declarations_of, scope_of, type_of};
     ghost use Rattle.declared_types.specs.Scopes.{scope_at, summary, table_in};
 
@@ -108,6 +113,23 @@ impl<'a> Scopes<'a> {
                 None => self.global_type(name),
                 Some(d) => declared_type(scope, d),
             },
+        }
+    }
+
+    /// Whether a machine has this name.
+    pub fn has_machine(&self, name: &[u8]) -> bool
+        ensures { result ≡ is_among (machine_names self.now.trees.now) name.now }
+    {
+        any_bears(&self.tables, name)
+    }
+
+    /// Whether this is the name of a call from the states of a machine to permissions.
+    pub fn has_permission_call(&self, text: &[u8]) -> bool
+        ensures { result ≡ list_any (λ machine. bytes_eq (permission_call machine) text.now) (machine_names self.now.trees.now) }
+    {
+        match before_suffix(text, b"_State_to_permission") {
+            None => false,
+            Some(machine) => self.has_machine(machine),
         }
     }
 }

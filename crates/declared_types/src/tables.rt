@@ -1,8 +1,9 @@
 //! The tables of all scopes.
 ghost use Rattle.std.specs.Prelude.{◌≡◌, ◌++◌, [], ◌∷◌, IfOk, OnOk, flat_map, map};
+ghost use Rattle.std.specs.List.{list_any};
 ghost use Rattle.slicc_plan.specs.Declarations.{global_declarations, machine_in, within};
-ghost use Rattle.declared_types.specs.Lent.{declaration_of, declarations_of};
-ghost use Rattle.declared_types.specs.Scopes.{AreTables, machine_table, summaries};
+ghost use Rattle.declared_types.specs.Lent.{declaration_of, declarations_of, scope_of};
+ghost use Rattle.declared_types.specs.Scopes.{AreTables, ScopeTable, is_machine_named, machine_table, summaries};
 
 use crate::lent::{Declared, Scope};
 use crate::lists::{global_list, machine_list};
@@ -59,4 +60,26 @@ pub fn all_tables<'a>(alloc: Global, trees: &'a [Tree]) -> Result<Seq<Table<'a>>
     let protocol = table_of(alloc, Scope::Everywhere, declarations)?;
     machines.insert(0, protocol)?;
     Ok(machines)
+}
+
+// Whether this is a machine's scope, and the machine has this name.
+fn bears(scope: Scope<'_>, name: &[u8]) -> bool
+    ensures { result ≡ is_machine_named name.now (scope_of scope.entry) }
+{
+    match scope {
+        Scope::Everywhere => false,
+        Scope::Within(m) => m.name.text.as_slice() == name,
+    }
+}
+
+/// Whether one of the scopes is that of a machine of this name.
+pub fn any_bears(tables: &[Table<'_>], name: &[u8]) -> bool
+    ensures { result ≡ list_any (λ (s : ScopeTable). is_machine_named name.now s.scope) (summaries tables.now) }
+{
+    for t in tables {
+        if bears(t.scope, name) {
+            return true;
+        }
+    }
+    false
 }

@@ -1,0 +1,9 @@
+use Rattle.std.proofs.Common.{◌≡◌, take, flat_map, map}
+use Rattle.slicc_plan.specs.Order.{first_after}
+use Rattle.slicc_plan.specs.UnknownTypes.{member_uses}
+use Rattle.declared_types.specs.Scopes.{scope_at}
+use Rattle.declaration_rules.specs.Judging.{unknown_uses}
+use Rattle.declaration_rules.proofs.unknown_types.judge_members.Given as goal
+
+abbrev pub invariant-loop-m : goal.invariant-loop-m
+invariant-loop-m l = l.first ≡ first_after l.initial.first (unknown_uses l.scopes.trees.now (scope_at l.scopes.trees.now l.number) (flat_map member_uses (take l.m-index l.members)))

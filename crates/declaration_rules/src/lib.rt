@@ -1,0 +1,16 @@
+//! Rules that declarations keep: known types, the types of fields, values of attributes, and built-in names.
+#![tactic(auto)]
+
+mod all;
+mod field_types;
+mod fields;
+mod numbers;
+mod prototypes;
+mod rule;
+mod unknown_types;
+mod values;
+
+pub use all::{judge_field_types, judge_prototypes, judge_type_names};
+pub use field_types::nature_in;
+pub use numbers::number_value;
+pub use values::{judge_literal, judge_object_attributes};
