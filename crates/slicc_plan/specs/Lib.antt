@@ -1,5 +1,6 @@
 pub mod Attributes
 pub mod Blocks
+pub mod BodyParts
 pub mod BodySizes
 pub mod BrokenDeclarations
 pub mod Buffers
@@ -15,9 +16,11 @@ pub mod Machines
 pub mod Networks
 pub mod Order
 pub mod Prototypes
+pub mod ReadOnly
 pub mod Returns
 pub mod Scopes
 pub mod StateFunctions
+pub mod TableNeeds
 pub mod TransitionNames
 pub mod TwiceDeclared
 pub mod TwoTransitions

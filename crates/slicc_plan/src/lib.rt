@@ -5,12 +5,14 @@
 mod broken;
 mod built_in;
 mod laws;
+mod part;
 mod refusal;
 mod row;
 
 pub use broken::{Broken, Rule, Subject, earlier_broken, first_broken};
 pub use built_in::BuiltInType;
 pub use laws::{first_is_found, first_is_one};
+pub use part::{Body, Part};
 pub use refusal::Refusal;
 pub use row::{Counts, Row};
 pub use ruby_base::{NoMemory, Seq, Text};
