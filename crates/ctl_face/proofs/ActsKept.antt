@@ -148,9 +148,9 @@ notes_for_others me (c ∷ copies) =
     ]
 
 -- with what a send adds
-more_sent : (v : LocalView) (acts : SentFits v.machine v.actor v.now v.start.mail.sent v.ctl.mail.sent v.acts.sent v.acts.posted) (s : Sending) (receivers : List ℕ) (words : ℕ) (P : Copy → Type 0) → AddsCopies v.actor v.ctl.mail receivers words P s
+more_sent : (v : LocalView) (acts : SentFits v.machine v.actor v.now v.start.mail.sent v.ctl.mail.sent v.start.mail.copies v.ctl.mail.copies v.acts.sent v.acts.posted) (s : Sending) (receivers : List ℕ) (words : ℕ) (P : Copy → Type 0) → AddsCopies v.actor v.ctl.mail receivers words P s
     → All (λ (c : Copy). v.now < c.message.arrival) s.copies → All (IsRouted v.machine v.actor.routes) (for_others v.actor.me s.copies)
-    → SentFits v.machine v.actor v.now v.start.mail.sent s.mail.sent (v.acts.sent ++ map note_of s.copies) (v.acts.posted ++ for_others v.actor.me s.copies)
+    → SentFits v.machine v.actor v.now v.start.mail.sent s.mail.sent v.start.mail.copies s.mail.copies (v.acts.sent ++ map note_of s.copies) (v.acts.posted ++ for_others v.actor.me s.copies)
 more_sent v acts s receivers words P adds later routed =
     let n = length v.acts.sent in
     let k = length receivers in
@@ -163,6 +163,7 @@ more_sent v acts s receivers words P adds later routed =
           ∙ ap (λ (ns : List MsgNo). numbers_from me v.start.mail.sent n ++ ns) (numbers_of_notes s.copies ∙ adds.numbers ∙ ap (λ (from : ℕ). numbers_from me from k) acts.count)
           ∙ numbers_append me v.start.mail.sent n k ∙ ap (numbers_from me v.start.mail.sent) (sym longer);
       count = (let here = adds.sent in let before = acts.count in omega arith);
+      copies_counted = (let here = adds.copies_counted in let before = acts.copies_counted in omega arith);
       arrivals = All-append (λ (m : Note). v.now < m.arrival) v.acts.sent (map note_of s.copies) acts.arrivals (All-map (λ (m : Note). v.now < m.arrival) note_of s.copies later);
       for_others = map-append note_of v.acts.posted (for_others me s.copies)
           ∙ ap (λ (ns : List Note). ns ++ map note_of (for_others me s.copies)) acts.for_others
@@ -208,9 +209,9 @@ routed_copies machine actor mail buffer latency now fields on (place.From networ
     All-filter (λ (c : Copy). not (eqb c.receiver actor.me)) (IsRouted machine actor.routes) s.copies
     (All-weaker (λ (c : Copy). ⊥) (IsRouted machine actor.routes) (λ c none. absurd none) s.copies adds.0.each)
 
-sending_acts : (v : LocalView) (buffer : ℕ) (latency : ℤ) (fields : List Value) (sent : SentFits v.machine v.actor v.now v.start.mail.sent v.ctl.mail.sent v.acts.sent v.acts.posted) (o : Option BufferSetup) → slice_get v.machine.buffers buffer ≡ o
+sending_acts : (v : LocalView) (buffer : ℕ) (latency : ℤ) (fields : List Value) (sent : SentFits v.machine v.actor v.now v.start.mail.sent v.ctl.mail.sent v.start.mail.copies v.ctl.mail.copies v.acts.sent v.acts.posted) (o : Option BufferSetup) → slice_get v.machine.buffers buffer ≡ o
     → IsTrue (has_kinds (unwrap_or (option_map (λ (b : BufferSetup). b.kinds) o) []) fields) → (s : Sending) → send v.machine v.actor v.ctl.mail buffer latency fields v.now ≡ Ok s
-    → SentFits v.machine v.actor v.now v.start.mail.sent s.mail.sent (v.acts.sent ++ map note_of s.copies) (v.acts.posted ++ for_others v.actor.me s.copies)
+    → SentFits v.machine v.actor v.now v.start.mail.sent s.mail.sent v.start.mail.copies s.mail.copies (v.acts.sent ++ map note_of s.copies) (v.acts.posted ++ for_others v.actor.me s.copies)
 sending_acts v buffer latency fields before (Some on) is takes s sent =
     go on.place refl (send_adds v.machine v.actor v.ctl.mail buffer latency fields v.now on s is sent)
   where
@@ -221,16 +222,16 @@ sending_acts v buffer latency fields before (Some on) is takes s sent =
     routed p at adds = routed_copies v.machine v.actor v.ctl.mail buffer (nat_abs latency) v.now fields on p s is takes at adds
 
     go : (p : BufferPlace) → on.place ≡ p → SendAdds p on.ordered v.actor v.ctl.mail buffer (nat_abs latency) fields v.now s
-        → SentFits v.machine v.actor v.now v.start.mail.sent s.mail.sent (v.acts.sent ++ map note_of s.copies) (v.acts.posted ++ for_others v.actor.me s.copies)
+        → SentFits v.machine v.actor v.now v.start.mail.sent s.mail.sent v.start.mail.copies s.mail.copies (v.acts.sent ++ map note_of s.copies) (v.acts.posted ++ for_others v.actor.me s.copies)
     go place.Local at adds = more_sent v before s _ _ _ adds.0 later (routed place.Local at adds)
     go (place.To network destination) at adds = more_sent v before s _ _ _ adds.0 later (routed (place.To network destination) at adds)
     go (place.From network) at adds = more_sent v before s _ _ _ adds.0 later (routed (place.From network) at adds)
 sending_acts v buffer latency fields before None is takes s sent = none (is_latency latency) (rw is at sent)
   where
-    none : (b : Bool) → cond b (Ok (no_copies v.ctl.mail)) (Err Latency) ≡ Ok s → SentFits v.machine v.actor v.now v.start.mail.sent s.mail.sent (v.acts.sent ++ map note_of s.copies) (v.acts.posted ++ for_others v.actor.me s.copies)
+    none : (b : Bool) → cond b (Ok (no_copies v.ctl.mail)) (Err Latency) ≡ Ok s → SentFits v.machine v.actor v.now v.start.mail.sent s.mail.sent v.start.mail.copies s.mail.copies (v.acts.sent ++ map note_of s.copies) (v.acts.posted ++ for_others v.actor.me s.copies)
     none true same =
         let is_none : no_copies v.ctl.mail ≡ s = cc same in
-        subst (λ (x : Sending). SentFits v.machine v.actor v.now v.start.mail.sent x.mail.sent (v.acts.sent ++ map note_of x.copies) (v.acts.posted ++ for_others v.actor.me x.copies)) is_none
+        subst (λ (x : Sending). SentFits v.machine v.actor v.now v.start.mail.sent x.mail.sent v.start.mail.copies x.mail.copies (v.acts.sent ++ map note_of x.copies) (v.acts.posted ++ for_others v.actor.me x.copies)) is_none
         (more_sent v before (no_copies v.ctl.mail) [] 0 (λ c. ⊥) (nothing_added v.actor v.ctl.mail) (All-nil (λ (c : Copy). v.now < c.message.arrival)) (All-nil (IsRouted v.machine v.actor.routes)))
     none false same = absurd (cc same)
 

@@ -24,6 +24,7 @@ scan_begins machine actor now ctl lawful routes in_run fits = record {
     record {
       numbers = refl;
       count = omega arith;
+      copies_counted = omega arith;
       arrivals = All-nil (λ (n : Note). now < n.arrival);
       for_others = refl;
       routed = All-nil (IsRouted machine actor.routes);

@@ -39,15 +39,16 @@ raised_to true due last is = omega arith
 raised_to false due last is = absurd (cc is)
 
 pub sends_keep_order : (network : ℕ) (machine : MachineSetup) (actor : Actor) (mail : Mail) → SendsKeepOrder network machine actor mail
-sends_keep_order network machine actor mail order first second one two a b in_first in_second same =
+sends_keep_order network machine actor mail order first second later one keeps two a b in_first in_second same =
     let To : (d : BufferPlace) → IsSentTo network machine actor mail first → Type 0 = λ d w. SendAdds d w.on.ordered actor mail w.buffer (nat_abs w.latency) w.fields w.now first in
-    let ToNext : (d : BufferPlace) → IsSentTo network machine actor first.mail second → Type 0 = λ d w. SendAdds d w.on.ordered actor first.mail w.buffer (nat_abs w.latency) w.fields w.now second in
+    let ToNext : (d : BufferPlace) → IsSentTo network machine actor later second → Type 0 = λ d w. SendAdds d w.on.ordered actor later w.buffer (nat_abs w.latency) w.fields w.now second in
     let added = subst (λ (d : BufferPlace). To d one) one.to_network (send_adds machine actor mail one.buffer one.latency one.fields one.now one.on first one.there one.sent) in
-    let next = subst (λ (d : BufferPlace). ToNext d two) two.to_network (send_adds machine actor first.mail two.buffer two.latency two.fields two.now two.on second two.there two.sent) in
-    let copy = All-contains (IsNetworkCopy actor first.mail network (nat_abs two.latency) (receivers_of two.destination two.fields) two.fields two.now) second.copies b next.0.each in_second in
-    let last = last_at (lasts_on first.mail.network_last network) b.receiver in
+    let next = subst (λ (d : BufferPlace). ToNext d two) two.to_network (send_adds machine actor later two.buffer two.latency two.fields two.now two.on second two.there two.sent) in
+    let copy = All-contains (IsNetworkCopy actor later network (nat_abs two.latency) (receivers_of two.destination two.fields) two.fields two.now) second.copies b next.0.each in_second in
+    let last = last_at (lasts_on later.network_last network) b.receiver in
+    let kept = keeps b.receiver in
     let written = added.1.in_order order.ordered order.within b.receiver in
     let above = latest_above (last_at (lasts_on mail.network_last network) b.receiver) b.receiver first.copies a in_first same in
-    let raised = raised_to (is_ordered actor.routes network) (two.now + nat_abs two.latency + path_to actor.routes actor.me b.receiver + jitter_of actor first.mail b) last order.ordered in
+    let raised = raised_to (is_ordered actor.routes network) (two.now + nat_abs two.latency + path_to actor.routes actor.me b.receiver + jitter_of actor later b) last order.ordered in
     let no_earlier = copy.no_earlier in
     omega arith

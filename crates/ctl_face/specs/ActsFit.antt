@@ -1,8 +1,10 @@
--- What always holds of the copies that a scan has sent, and of all its messages: none is lost or made but by sending and
--- consuming. The copies' notes have the controller's next numbers, from the first that was free as the scan began, and the
--- controller has counted them; each arrives after this cycle. The posted copies are those that aren't for the controller
--- itself. Each is for a receiver that its message names, in the buffer that takes a network's messages there, and has fields like
--- those of the messages of one of the machine's buffers to this network. Of the messages in the inbox, numbers alone are told.
+-- What always holds of the copies that a scan has sent, and of the numbers of all its messages: none is lost or made but by
+-- sending and consuming. The copies' notes have the controller's next numbers, from the first that was free as the scan began;
+-- the controller has counted them as sent, and as copies of this cycle; each arrives after this cycle. The posted copies are
+-- those that aren't for the controller itself. Each is for a receiver that its message names, in the buffer that takes a network's
+-- messages there, and has fields like those of the messages of one of the machine's buffers to this network. Of the messages in
+-- the inbox, those that the controller sent itself among them, numbers alone are told, and nothing is said of marks, of drawn
+-- words or of last arrivals: what an act does to these is said by its own definition.
 use Rattle.std.specs.Prelude.{◌≡◌, ◌<◌, ◌+◌, ◌==◌, ℕ, Bool, false, List, Option, Some, not, map, filter, length, count_by, slice_get, IsTrue, IsSomeAnd, Contains}
 use Rattle.std.specs.List.{All}
 use Rattle.ruby_value.specs.declared.message.MsgNo.{MsgNo}
@@ -34,10 +36,12 @@ pub record IsRouted (machine : MachineSetup) (routes : Routes) (c : Copy) : Type
   pub receives : receiving_buffer routes c.receiver network ≡ Some c.message.buffer
   pub not_recycled : c.message.recycled ≡ false
 
--- of a controller that had sent `before` messages as the scan began, and has sent `after` now
-pub record SentFits (machine : MachineSetup) (actor : Actor) (now before after : ℕ) (notes : List Note) (posted : List Copy) : Type 0 where
+-- of a controller that had sent `before` messages as the scan began, `earlier` of them copies of this cycle, and now has sent
+-- `after` and `copies`
+pub record SentFits (machine : MachineSetup) (actor : Actor) (now before after earlier copies : ℕ) (notes : List Note) (posted : List Copy) : Type 0 where
   pub numbers : map (λ (n : Note). n.number) notes ≡ numbers_from actor.me before (length notes)
   pub count : after ≡ before + length notes
+  pub copies_counted : copies ≡ earlier + length notes
   pub arrivals : All (λ (n : Note). now < n.arrival) notes
   pub for_others : map note_of posted ≡ filter (λ (n : Note). not (n.receiver == actor.me)) notes
   pub routed : All (IsRouted machine actor.routes) posted
@@ -55,5 +59,5 @@ MailMoves before after taken notes posted =
 
 abbrev pub ActsFit : LocalView → Type 0
 ActsFit v =
-    SentFits v.machine v.actor v.now v.start.mail.sent v.ctl.mail.sent v.acts.sent v.acts.posted
+    SentFits v.machine v.actor v.now v.start.mail.sent v.ctl.mail.sent v.start.mail.copies v.ctl.mail.copies v.acts.sent v.acts.posted
     × MailMoves v.start.mail.inbox v.ctl.mail.inbox v.acts.consumed v.acts.sent v.acts.posted

@@ -1,4 +1,5 @@
--- A lawful local in a run: its controller is one of a machine of the run, and goes by routes that fit the whole run.
+-- A lawful local in a run: its controller is one of a machine of the run, and goes by routes that fit the whole run. That its
+-- parameters end with each machine's first controller and count isn't asked here: whoever makes the controllers shows it.
 use Rattle.std.specs.Prelude.{◌≡◌, ℕ, List, Some, slice_get}
 use Rattle.ruby_value.specs.declared.setup.MachineSetup.{MachineSetup}
 use Rattle.ctl_face.specs.Fits.{IsLawful}

@@ -1,9 +1,10 @@
--- What a send adds, where it ends without a fault: one copy for each receiver, in their order, with the sender's next numbers,
--- and to the sender's counts as many messages, copies and, where the network has jitter, words. A copy on a network is in the
+-- What a send adds, where it ends without a fault: one copy for each receiver, in the order in which the message names them, with
+-- the sender's next numbers, and to the sender's counts as many messages, copies and, where the network has jitter, words. A copy on a network is in the
 -- buffer that takes this network's messages at its receiver. It arrives after the latency, the path and the jitter that was drawn
 -- for it, or, where the network keeps order, with the one sent last from here to there if that arrives later. So it is with a copy
 -- in an own buffer, which has neither path nor jitter. Where order is kept the last arrivals are written down for later sends, and
 -- copies to the sender come into its own inbox, with their marks. `Send.antt` says how each comes about.
+-- That the path to oneself is 0 is no matter here: the routes have it so.
 use Rattle.std.specs.Prelude.{◌≡◌, ◌≤◌, ◌<◌, ◌+◌, ◌-◌, ◌==◌, ℕ, zero, suc, Bool, true, false, List, [], ◌∷◌, Some, max, map, filter, length, if◌then◌else◌}
 use Rattle.std.specs.List.{All, AllPairs, fold}
 use Rattle.ruby_value.specs.declared.message.MsgNo.{MsgNo}

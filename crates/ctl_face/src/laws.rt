@@ -62,7 +62,7 @@ pub fn routes_fit_each_controller()
 {}
 
 /// Each copy that a controller of a run sends goes to one of the run's controllers, and is in a buffer there whose messages have
-/// fields like its own; and so is each that a lawful local has posted.
+/// fields like its own; and so is each that a lawful local of a run has posted.
 pub fn copies_fit_their_receivers()
     ensures posted { (machines : List MachineRecord) (ranges : List (ℕ × ℕ)) (v : LocalView)
         → IsInRun machines ranges v → All (FitsReceiver machines ranges) v.acts.posted }

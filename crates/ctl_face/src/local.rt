@@ -32,8 +32,8 @@ use ruby_value::{Block, Fields, Message, Ref, Value};
 /// A contract sees a local as its `LocalView`: what no act changes, the controller, and what the acts have done to messages.
 /// A call that changes it `Does` what the definition of its name has, and a call that only reads answers what its definition
 /// has; `send` is the definition `enqueue`. A fault comes exactly where that definition has it, unless there was no memory.
-/// After a fault or want of memory the local is as it was. A call that can't answer want of memory takes none. What holds of
-/// each local that a run makes always holds, which is the law `lawful`. Which words the faults are is this project's own.
+/// After a fault or want of memory the local is as it was. A call that can't answer want of memory takes none. What always
+/// holds is the law `lawful`; a run's locals go by routes that fit the whole run besides. Which words the faults are is this project's own.
 pub trait Local {
     ghost view: { Self → LocalView };
 

@@ -29,9 +29,10 @@ pub fn copies_arrive_later()
         → All (λ (c : Copy). now < c.message.arrival) s.copies }
 {}
 
-/// A send that ends without a fault makes one copy for each receiver, with the sender's next numbers and at its time, and adds
-/// them to the sender's counts, to the last arrivals that later sends go by, and to its own inbox where it is a receiver.
-/// Where a network keeps order, what is sent first arrives first.
+/// A send that ends without a fault makes one copy for each receiver that its message names, with the sender's next numbers, and
+/// adds them to the sender's counts, to the last arrivals that later sends go by, and to its own inbox where it is a receiver. A
+/// copy's time is told exactly where the network isn't ordered or no receiver is named twice, and else from below. Where a network
+/// keeps order, what is sent first arrives first, as long as nothing between the two sends lowers a last arrival there.
 pub fn sends_add_their_copies()
     ensures added { (machine : MachineRecord) (actor : Actor) (mail : Mail) (buffer : ℕ) (latency : ℤ)
         (fields : List Value) (now : ℕ) (on : BufferSetupRecord) (s : Sending)

@@ -1,12 +1,12 @@
 -- The order of broken rules is one: two of which neither comes before the other are equal in it, and the first is found by
 -- going through them.
-use Rattle.std.proofs.Common.{◌≡◌, ◌<◌, ◌++◌, ℕ, Bool, true, false, cond, Option, None, Some, List, [], ◌∷◌, flat_map, refl, sym, take, add-one, ◌+◌, subst, arith, lit<, suc, Contains, All, slice_index_or, length}
+use Rattle.std.proofs.Common.{◌≡◌, ◌<◌, ◌++◌, ℕ, Bool, true, false, cond, Option, None, Some, List, [], ◌∷◌, flat_map, refl, sym, ap, ◌∙◌, take, add-one, ◌+◌, subst, arith, lit<, suc, Contains, All, slice_index_or, length}
 use Rattle.std.proofs.Math.Seq.{take-suc}
 use Rattle.std.proofs.Common.{append-nil, append_assoc}
 use Rattle.std.proofs.lemmas.Grind.{flat_map-append}
 use Rattle.std.proofs.lemmas.List.Elements.{All-push, All-nil, Contains-append_left}
 use Rattle.slicc_plan.specs.declared.broken.Broken.{Broken}
-use Rattle.slicc_plan.specs.Order.{IsFirstBroken, IsFirstOf, comes_before, earlier_of, first_after, is_less, rank_of}
+use Rattle.slicc_plan.specs.Order.{IsFirstBroken, IsFirstOf, comes_before, earlier_of, earlier_of_both, first_after, first_of, is_less, rank_of}
 
 pub equal_unless_less : (ms ns : List ℕ) → is_less ms ns ≡ false → is_less ns ms ≡ false → ms ≡ ns
 equal_unless_less [] [] h k = refl
@@ -101,3 +101,46 @@ first_after-flat_map f xs i d o below =
     let flat : flat_map f (take (i + 1) xs) ≡ flat_map f (take i xs) ++ f (slice_index_or xs i d) =
         rw (taken, flat_map-append f (take i xs) (slice_index_or xs i d ∷ []), append-nil (f (slice_index_or xs i d))) refl in
     rw (flat) (first_after-append o (flat_map f (take i xs)) (f (slice_index_or xs i d)))
+
+-- what isn't before a second one isn't before a first one either that the second isn't before
+pub not_less_back : (ls ms ns : List ℕ) → is_less ms ls ≡ false → is_less ns ms ≡ false → is_less ns ls ≡ false
+not_less_back ls ms ns h k = go (is_less ns ls) refl (is_less ls ms) refl
+  where
+    go : (v : Bool) → v ≡ is_less ns ls → (w : Bool) → w ≡ is_less ls ms → is_less ns ls ≡ false
+    go false e w f = sym e
+    go true e true f = let both = less_trans ns ls ms (sym e) (sym f) in cc
+    go true e false f = let same = equal_unless_less ls ms (sym f) h in cc
+
+-- to take the first of three it is no matter which two are compared first
+pub earlier-assoc : (a b c : Broken) → earlier_of (Some (earlier_of (Some a) b)) c ≡ earlier_of (Some a) (earlier_of (Some b) c)
+earlier-assoc a b c = go (comes_before b a) refl (comes_before c b) refl (comes_before c a) refl
+  where
+    go : (p : Bool) → comes_before b a ≡ p → (q : Bool) → comes_before c b ≡ q → (r : Bool) → comes_before c a ≡ r → cond (comes_before c (cond (comes_before b a) b a)) c (cond (comes_before b a) b a) ≡ cond (comes_before (cond (comes_before c b) c b) a) (cond (comes_before c b) c b) a
+    go true e true f true g = rw (e, f, g) refl
+    go true e true f false g = let r = less_trans (rank_of c) (rank_of b) (rank_of a) f e in absurd (cc (g, r))
+    go true e false f r g = rw (e, f, e) refl
+    go false e true f r g = rw (e, f) refl
+    go false e false f true g = let r = not_less_back (rank_of a) (rank_of b) (rank_of c) e f in absurd (cc (g, r))
+    go false e false f false g = rw (e, f, g, e) refl
+
+both-assoc : (o : Option Broken) (b : Broken) (f : Option Broken) → earlier_of_both (Some (earlier_of o b)) f ≡ earlier_of_both o (earlier_of_both (Some b) f)
+both-assoc o b None = refl
+both-assoc None b (Some c) = refl
+both-assoc (Some a) b (Some c) = ap Some (earlier-assoc a b c)
+
+-- what was found before is compared with the first of all that follows
+pub first_after-first_of : (o : Option Broken) (bs : List Broken) → first_after o bs ≡ earlier_of_both o (first_of bs)
+first_after-first_of o [] = refl
+first_after-first_of o (b ∷ bs) =
+    first_after-first_of (Some (earlier_of o b)) bs ∙ both-assoc o b (first_of bs) ∙ ap (earlier_of_both o) (sym (first_after-first_of (Some b) bs))
+
+pub first_of-append : (bs cs : List Broken) → first_of (bs ++ cs) ≡ earlier_of_both (first_of bs) (first_of cs)
+first_of-append bs cs = first_after-append None bs cs ∙ first_after-first_of (first_of bs) cs
+
+pub both-none : (o : Option Broken) → earlier_of_both None o ≡ o
+both-none None = refl
+both-none (Some b) = refl
+
+pub both-assoc_all : (o p q : Option Broken) → earlier_of_both (earlier_of_both o p) q ≡ earlier_of_both o (earlier_of_both p q)
+both-assoc_all o None q = ap (earlier_of_both o) (sym (both-none q))
+both-assoc_all o (Some b) q = both-assoc o b q

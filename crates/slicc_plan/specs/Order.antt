@@ -1,8 +1,9 @@
 -- Which of all broken rules is told: the first. The rules of declarations come first, then those of bodies, then those of
 -- machines. Of the former two sorts the one with the earliest place counts, in the order of reading and then of the text, and
--- at one place the one of the least number. Of the last sort the machines are gone through in order, each rule by rule. The
--- order and the numbers are this project's own. Which rules are broken, and where, stands in other files.
+-- at one place the one of the least number. Of the last sort the machines are gone through in order, each rule by rule. Where all
+-- this is the same, the one with the earliest second place counts. The order and the numbers are this project's own. Which rules are broken, and where, stands in other files.
 use Rattle.std.specs.Prelude.{◌≡◌, ◌||◌, ◌&&◌, ◌==◌, ℕ, Bool, true, false, nat_lt, cond, Contains, All, MatchOption, Option, None, Some, List, [], ◌∷◌}
+use Rattle.slicc_ast.specs.declared.tree.span.Span.{Span}
 use Rattle.slicc_plan.specs.declared.broken.Broken.{Broken}
 use Rattle.slicc_plan.specs.declared.broken.Subject.{Subject}
 use Rattle.slicc_plan.specs.declared.broken.Subject.TheVariants.{Declarations, Bodies, Machines}
@@ -55,11 +56,16 @@ subject_of NoMachine = Machines
 subject_of NoStates = Machines
 subject_of Changes = Machines
 
--- what the order looks at, the weightiest first: five numbers, so that any two can be compared
+-- the second place in the order, where there is one
+abbrev pub second_rank : Option Span → List ℕ
+second_rank None = 0 ∷ 0 ∷ 0 ∷ []
+second_rank (Some place) = 1 ∷ place.file ∷ place.start ∷ []
+
+-- what the order looks at, the weightiest first: eight numbers, so that any two can be compared
 abbrev pub rank_in : Subject → Broken → List ℕ
-rank_in Declarations b = 1 ∷ b.place.file ∷ b.place.start ∷ number_of b.rule ∷ 0 ∷ []
-rank_in Bodies b = 2 ∷ b.place.file ∷ b.place.start ∷ number_of b.rule ∷ 0 ∷ []
-rank_in Machines b = 3 ∷ b.machine ∷ number_of b.rule ∷ b.place.file ∷ b.place.start ∷ []
+rank_in Declarations b = 1 ∷ b.place.file ∷ b.place.start ∷ number_of b.rule ∷ 0 ∷ second_rank b.other
+rank_in Bodies b = 2 ∷ b.place.file ∷ b.place.start ∷ number_of b.rule ∷ 0 ∷ second_rank b.other
+rank_in Machines b = 3 ∷ b.machine ∷ number_of b.rule ∷ b.place.file ∷ b.place.start ∷ second_rank b.other
 
 abbrev pub rank_of : Broken → List ℕ
 rank_of b = rank_in (subject_of b.rule) b
@@ -92,3 +98,12 @@ earlier_of (Some f) b = cond (comes_before b f) b f
 abbrev pub first_after : Option Broken → List Broken → Option Broken
 first_after first [] = first
 first_after first (b ∷ bs) = first_after (Some (earlier_of first b)) bs
+
+-- the first of these, where there are any
+abbrev pub first_of : List Broken → Option Broken
+first_of broken = first_after None broken
+
+-- of two that may be there the one that comes first; where neither comes before the other it is this one
+abbrev pub earlier_of_both : Option Broken → Option Broken → Option Broken
+earlier_of_both first None = first
+earlier_of_both first (Some b) = Some (earlier_of first b)

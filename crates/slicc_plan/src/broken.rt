@@ -1,5 +1,5 @@
 ghost use Rattle.std.specs.Prelude.{◌≡◌, [], ◌∷◌};
-ghost use Rattle.slicc_plan.specs.Order.{IsFirstOf, comes_before, earlier_of, first_after, is_less, number_of, rank_of, subject_of};
+ghost use Rattle.slicc_plan.specs.Order.{IsFirstOf, comes_before, earlier_of, earlier_of_both, first_after, is_less, number_of, rank_of, second_rank as second_rank_of, subject_of};
 
 use slicc_ast::tree::Span;
 
@@ -129,16 +129,26 @@ pub struct Broken {
 
 impl Broken {
     // What the order looks at, the weightiest first.
-    fn rank(self) -> [u32; 5]
+    fn rank(self) -> [u32; 8]
         ensures { result ≡ rank_of self }
     {
         let number = self.rule.number() as u32;
         let file = self.place.file as u32;
         let start = self.place.start;
+        let [is_there, other_file, other_start] = second_rank(self.other);
         match self.rule.subject() {
-            Subject::Declarations => [1, file, start, number, 0],
-            Subject::Bodies => [2, file, start, number, 0],
-            Subject::Machines => [3, self.machine as u32, number, file, start],
+            Subject::Declarations => [1, file, start, number, 0, is_there, other_file, other_start],
+            Subject::Bodies => [2, file, start, number, 0, is_there, other_file, other_start],
+            Subject::Machines => [
+                3,
+                self.machine as u32,
+                number,
+                file,
+                start,
+                is_there,
+                other_file,
+                other_start,
+            ],
         }
     }
 
@@ -147,6 +157,16 @@ impl Broken {
         ensures { result ≡ comes_before self other }
     {
         is_less(&self.rank(), &other.rank())
+    }
+}
+
+// What the order looks at in the second place, where there is one.
+fn second_rank(other: Option<Span>) -> [u32; 3]
+    ensures { result ≡ second_rank_of other }
+{
+    match other {
+        None => [0, 0, 0],
+        Some(place) => [1, place.file as u32, place.start],
     }
 }
 
@@ -178,6 +198,16 @@ pub fn earlier_broken(first: Option<Broken>, b: Broken) -> Option<Broken>
     ensures { result ≡ first_after first (b ∷ []) }
 {
     Some(earlier(first, b))
+}
+
+/// Of two things that were found, if they were, the one that is told.
+pub fn earlier_of_two(first: Option<Broken>, then: Option<Broken>) -> Option<Broken>
+    ensures { result ≡ earlier_of_both first then }
+{
+    match then {
+        None => first,
+        Some(b) => Some(earlier(first, b)),
+    }
 }
 
 /// Of broken rules the one that is told, if there are any.

@@ -3,7 +3,8 @@ ghost use Rattle.std.specs.Prelude.{◌≡◌, List, None};
 ghost use Rattle.slicc_plan.specs.Order.{IsFirstBroken, IsFirstOf, first_after, rank_of};
 ghost use Rattle.slicc_plan.specs.declared.broken.Broken.{Broken as BrokenRecord};
 
-/// Of broken rules one at most is the first: two that are have one number and one place.
+/// Of broken rules one at most is the first: two that are have one number, one place and one second place, if any, where of a
+/// place its file and its first byte count.
 pub fn first_is_one()
     ensures { (all : List BrokenRecord) (b c : BrokenRecord) → IsFirstBroken all b
         → IsFirstBroken all c → rank_of b ≡ rank_of c }

@@ -9,7 +9,7 @@ mod part;
 mod refusal;
 mod row;
 
-pub use broken::{Broken, Rule, Subject, earlier_broken, first_broken};
+pub use broken::{Broken, Rule, Subject, earlier_broken, earlier_of_two, first_broken};
 pub use built_in::BuiltInType;
 pub use laws::{first_is_found, first_is_one};
 pub use part::{Body, Part};
