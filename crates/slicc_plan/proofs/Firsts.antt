@@ -99,7 +99,7 @@ pub first_after-flat_map : {X : Type 0} (f : X → List Broken) (xs : List X) (i
 first_after-flat_map f xs i d o below =
     let taken : take (i + 1) xs ≡ take i xs ++ slice_index_or xs i d ∷ [] = rw (add-one, take-suc xs i d below) refl in
     let flat : flat_map f (take (i + 1) xs) ≡ flat_map f (take i xs) ++ f (slice_index_or xs i d) =
-        rw (taken, flat_map-append f (take i xs) (slice_index_or xs i d ∷ []), append-nil (f (slice_index_or xs i d))) refl in
+    rw (taken, flat_map-append f (take i xs) (slice_index_or xs i d ∷ []), append-nil (f (slice_index_or xs i d))) refl in
     rw (flat) (first_after-append o (flat_map f (take i xs)) (f (slice_index_or xs i d)))
 
 -- what isn't before a second one isn't before a first one either that the second isn't before

@@ -1,1 +1,4 @@
+mod Accepted
 pub mod Firsts
+mod OneAnswer
+mod Subjects

@@ -72,20 +72,20 @@ pub record Call : Type 0 where
   pub change : Change
   pub allowed : Allowed
 
+abbrev pub call : Receiver → List ℕ → List Argument → List Argument → Answer → Change → Allowed → Call
+call on name always perhaps a c allowed =
+    record { receiver = on; name = name; always = always; perhaps = perhaps; answer = a; change = c; allowed = allowed }
+
 -- a call that changes nothing and is allowed anywhere
 abbrev pub reading : Receiver → List ℕ → List Argument → Answer → Call
-reading receiver name always answer =
-    record { receiver = receiver; name = name; always = always; perhaps = []; answer = answer; change = no_change; allowed = anywhere }
+reading on name always a = call on name always [] a no_change anywhere
 
--- a call that answers nothing
+-- a call that answers nothing, and one with arguments that may be left out
 abbrev pub acting : Receiver → List ℕ → List Argument → Change → Allowed → Call
-acting receiver name always change allowed =
-    record { receiver = receiver; name = name; always = always; perhaps = []; answer = no_value; change = change; allowed = allowed }
+acting on name always c allowed = call on name always [] no_value c allowed
 
--- the same, with arguments that may be left out
 abbrev pub acting_with : Receiver → List ℕ → List Argument → List Argument → Change → Allowed → Call
-acting_with receiver name always perhaps change allowed =
-    record { receiver = receiver; name = name; always = always; perhaps = perhaps; answer = no_value; change = change; allowed = allowed }
+acting_with on name always perhaps c allowed = call on name always perhaps no_value c allowed
 
 abbrev pub by_address : List Argument
 by_address = value_of Address ∷ []
@@ -99,11 +99,6 @@ calls_on_ports =
     ∷ acting in_port (codes "dequeue") (value_of Tick ∷ []) no_change in_actions
     ∷ acting_with in_port (codes "recycle") (value_of Tick ∷ []) (value_of Tick ∷ []) no_change in_actions ∷ []
 
--- a line is made, and answered
-abbrev pub allocation : Call
-allocation =
-    record { receiver = cache; name = codes "allocate"; always = with_new_line; perhaps = []; answer = line; change = of_lines; allowed = anywhere }
-
 -- `[]` is an index. A directory has all its lines from the start.
 abbrev pub calls_on_tables : List Call
 calls_on_tables =
@@ -111,7 +106,7 @@ calls_on_tables =
     ∷ reading cache (codes "isTagPresent") by_address (answered Boolean)
     ∷ reading cache (codes "cacheAvail") by_address (answered Boolean)
     ∷ reading cache (codes "cacheProbe") by_address (answered Address)
-    ∷ allocation
+    ∷ call cache (codes "allocate") with_new_line [] line of_lines anywhere
     ∷ acting cache (codes "deallocate") by_address of_lines anywhere
     ∷ acting cache (codes "setMRU") (address_or_line ∷ []) of_lines anywhere
     ∷ reading directory (codes "lookup") by_address line ∷ reading directory (codes "[]") by_address line
@@ -144,6 +139,9 @@ callback name change =
 abbrev pub calls_on_sequencers : List Call
 calls_on_sequencers = callback (codes "readCallback") no_change ∷ callback (codes "writeCallback") of_block ∷ []
 
+abbrev pub trigger_arguments : List Argument
+trigger_arguments = event ∷ value_of Address ∷ own_cache_line ∷ own_tbe_line ∷ []
+
 abbrev pub plain_calls : List Call
 plain_calls =
     reading nothing (codes "clockEdge") [] (answered Tick)
@@ -160,8 +158,7 @@ plain_calls =
     ∷ acting nothing (codes "unset_tbe") [] of_lines in_actions
     ∷ acting nothing (codes "wakeUpBuffers") by_address no_change in_actions
     ∷ acting nothing (codes "wakeUpAllBuffers") [] no_change in_actions
-    ∷ acting nothing (codes "trigger") (event ∷ value_of Address ∷ own_cache_line ∷ own_tbe_line ∷ []) no_change in_ports
-    ∷ []
+    ∷ acting nothing (codes "trigger") trigger_arguments no_change in_ports ∷ []
 
 -- calls that are accepted, and whose arguments alone have an effect
 abbrev pub idle_calls : List Call

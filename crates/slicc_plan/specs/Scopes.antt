@@ -1,7 +1,7 @@
 -- The scopes of a protocol, each with what is declared right in it: the protocol; each machine; the members of each enumeration
 -- and state declaration; the members of each structure; the formals of each function with its outermost block; and each
 -- further block. A prototype has its formals alone. The members of an external structure aren't looked at.
-use Rattle.std.specs.Prelude.{None, Some, cond, List, [], ◌∷◌, ◌++◌, flat_map, map}
+use Rattle.std.specs.Prelude.{None, Some, cond, List, [], ◌∷◌, flat_map, map}
 use Rattle.slicc_ast.specs.declared.tree.item.Tree.{Tree}
 use Rattle.slicc_ast.specs.declared.tree.machine.Machine.{Machine}
 use Rattle.slicc_ast.specs.declared.tree.statement.Block.{Block}
@@ -12,7 +12,7 @@ use Rattle.slicc_ast.specs.declared.tree.declaration.Member.{Member}
 use Rattle.slicc_ast.specs.declared.tree.declaration.Member.TheVariants.{Field, Method, Skipped as SkippedMember}
 use Rattle.slicc_ast.specs.declared.tree.declaration.Structure.{Structure}
 use Rattle.slicc_plan.specs.Blocks.{body_scopes}
-use Rattle.slicc_plan.specs.Declarations.{Declaration, enumeration, structure, states, in_port, action, function, symbol, state, member, formal, global_declarations, is_external, machine_declarations, machines_of}
+use Rattle.slicc_plan.specs.Declarations.{Declaration, machine, enumeration, structure, states, in_port, action, function, symbol, state, member, formal, global_declarations, is_external, machine_declarations}
 
 abbrev pub formal_declarations : Formals → List Declaration
 formal_declarations fs = map formal fs.items.items
@@ -41,13 +41,14 @@ inner_scopes (action a) = body_scopes [] a.body
 inner_scopes (function f) = function_scopes f
 inner_scopes _ = []
 
-abbrev pub machine_scopes : Machine → List (List Declaration)
-machine_scopes m = machine_declarations m ∷ flat_map inner_scopes (machine_declarations m)
+-- the scopes in what is declared right in a protocol
+abbrev pub global_scopes : Declaration → List (List Declaration)
+global_scopes (machine m) = machine_declarations m ∷ flat_map inner_scopes (machine_declarations m)
+global_scopes d = inner_scopes d
 
 -- all scopes but that of the protocol
 abbrev pub scopes_within : List Tree → List (List Declaration)
-scopes_within trees =
-    flat_map inner_scopes (global_declarations trees) ++ flat_map machine_scopes (machines_of trees)
+scopes_within trees = flat_map global_scopes (global_declarations trees)
 
 -- the bodies of a machine
 abbrev pub bodies_in : Declaration → List Block

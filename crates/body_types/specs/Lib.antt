@@ -1,0 +1,4 @@
+pub mod Environments
+pub mod Found
+pub mod Lines
+pub mod Views

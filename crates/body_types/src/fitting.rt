@@ -1,0 +1,198 @@
+//! Whether what stands at a place is what is wanted there.
+ghost use Rattle.std.specs.Prelude.{◌≡◌, Some};
+ghost use Rattle.std.specs.List.{list_any};
+ghost use Rattle.std.specs.Option.{option_copied};
+ghost use Rattle.slicc_plan.specs.BuiltIn.{nature_of};
+ghost use Rattle.slicc_plan.specs.Buffers.{is_same_known, listed};
+ghost use Rattle.slicc_plan.specs.Declarations.{within};
+ghost use Rattle.slicc_plan.specs.FieldTypes.{may_be_field as may_be_field_of};
+ghost use Rattle.slicc_plan.specs.Meanings.{agree as agree_of, bare_line_fits as bare_line_fits_of, fits as fits_of, is_comparable as is_comparable_of, is_line as is_line_of_machine, is_number as is_number_nature, no_line_fits as no_line_fits_of, table_fits as table_fits_of, value_fits as value_fits_of, is_value as is_value_of};
+ghost use Rattle.slicc_plan.specs.Types.{is_built_in as is_built_in_of, nature_in, structured};
+ghost use Rattle.declared_types.specs.Lent.{type_of};
+ghost use Rattle.body_types.specs.Lines.{AreLines};
+ghost use Rattle.body_types.specs.Views.{meaning_of, type_if, wanted_of};
+
+use crate::lines::Lines;
+use crate::meaning::{Meaning, Wanted};
+use crate::same::same_type;
+use declared_types::{KnownType, Scope};
+use slicc_ast::tree::{Machine, Structure};
+use slicc_plan::BuiltInType;
+
+// Whether references to lines of this structure of the machine, if there is one, have this type.
+fn has_line<'a>(m: &'a Machine, s: Option<&'a Structure>, t: KnownType<'a>) -> bool
+    ensures { result ≡ list_any (λ u. is_same_known (structured (within m.now) u) (type_of t.entry)) (listed (option_copied s.entry)) }
+{
+    match s {
+        None => false,
+        Some(s) => same_type(KnownType::Structure(Scope::Within(m), s), t),
+    }
+}
+
+/// Whether references to lines of the machine's tables may be of this type.
+pub fn is_line<'a>(lines: Lines<'a>, t: KnownType<'a>) -> bool
+    requires { AreLines lines }
+    ensures { result ≡ is_line_of_machine lines.entry.machine.now (type_of t.entry) }
+{
+    has_line(lines.machine, lines.entry, t)
+        || has_line(lines.machine, lines.directory, t)
+        || has_line(lines.machine, lines.tbe, t)
+}
+
+/// Whether a type is a built-in one.
+pub fn is_built_in(b: BuiltInType, t: KnownType) -> bool
+    ensures { result ≡ is_built_in_of b (Some (type_of t.entry)) }
+{
+    match t {
+        KnownType::BuiltIn(c) => b == c,
+        _ => false,
+    }
+}
+
+fn is_number(b: BuiltInType) -> bool
+    ensures { result ≡ is_number_nature (nature_of b) }
+{
+    match b {
+        BuiltInType::Int | BuiltInType::Cycles | BuiltInType::Tick => true,
+        _ => false,
+    }
+}
+
+// Whether the values of a type are numbers.
+fn has_numbers(t: KnownType) -> bool
+    ensures { result ≡ is_number_nature (nature_in (type_of t.entry)) }
+{
+    match t {
+        KnownType::BuiltIn(b) => is_number(b),
+        _ => false,
+    }
+}
+
+// Whether fields may be of this built-in type.
+fn may_be_field(b: BuiltInType) -> bool
+    ensures { result ≡ may_be_field_of (nature_of b) }
+{
+    match b {
+        BuiltInType::Request
+        | BuiltInType::AbstractEntry
+        | BuiltInType::Void
+        | BuiltInType::Cache
+        | BuiltInType::Directory
+        | BuiltInType::TbeTable
+        | BuiltInType::Sequencer
+        | BuiltInType::Buffer => false,
+        _ => true,
+    }
+}
+
+/// Whether values in a body may be of this type.
+pub fn is_value<'a>(lines: Lines<'a>, t: KnownType<'a>) -> bool
+    requires { AreLines lines }
+    ensures { result ≡ is_value_of lines.entry.machine.now (type_of t.entry) }
+{
+    match t {
+        KnownType::BuiltIn(b) => may_be_field(b),
+        KnownType::Enumeration(..) | KnownType::States(..) => true,
+        KnownType::Structure(..) => is_line(lines, t),
+    }
+}
+
+/// Whether values of two types may stand for each other.
+pub fn agree(t: KnownType, u: KnownType) -> bool
+    ensures { result ≡ agree_of (type_of t.entry) (type_of u.entry) }
+{
+    if has_numbers(t) {
+        has_numbers(u)
+    } else {
+        same_type(t, u)
+    }
+}
+
+fn is_comparable<'a>(lines: Lines<'a>, t: KnownType<'a>) -> bool
+    requires { AreLines lines }
+    ensures { result ≡ is_comparable_of lines.entry.machine.now (type_of t.entry) }
+{
+    !is_built_in(BuiltInType::NetDest, t) && !is_line(lines, t)
+}
+
+// Whether a type, if there is one, agrees with this one.
+fn agrees_if(t: KnownType, u: Option<KnownType>) -> bool
+    ensures { result ≡ list_any (λ w. agree_of w (type_of t.entry)) (listed (type_if u.entry)) }
+{
+    match u {
+        None => false,
+        Some(u) => agree(u, t),
+    }
+}
+
+// Whether references to lines may be of the type, if there is one.
+fn is_line_if<'a>(lines: Lines<'a>, t: Option<KnownType<'a>>) -> bool
+    requires { AreLines lines }
+    ensures { result ≡ list_any (is_line_of_machine lines.entry.machine.now) (listed (type_if t.entry)) }
+{
+    match t {
+        None => false,
+        Some(t) => is_line(lines, t),
+    }
+}
+
+fn value_fits<'a>(lines: Lines<'a>, wanted: Wanted<'a>, t: KnownType<'a>) -> bool
+    requires { AreLines lines }
+    ensures { result ≡ value_fits_of lines.entry.machine.now (wanted_of wanted.entry) (type_of t.entry) }
+{
+    match wanted {
+        Wanted::Anything | Wanted::AnyValue => true,
+        Wanted::OneOf(u, w) => agrees_if(t, u) || agrees_if(t, w),
+        Wanted::AnyLine => is_line(lines, t),
+        Wanted::Comparable => is_comparable(lines, t),
+        _ => false,
+    }
+}
+
+fn no_line_fits<'a>(lines: Lines<'a>, wanted: Wanted<'a>) -> bool
+    requires { AreLines lines }
+    ensures { result ≡ no_line_fits_of lines.entry.machine.now (wanted_of wanted.entry) }
+{
+    match wanted {
+        Wanted::Anything | Wanted::AnyValue | Wanted::AnyLine | Wanted::OnlyNoLine => true,
+        Wanted::OneOf(t, u) => is_line_if(lines, t) || is_line_if(lines, u),
+        _ => false,
+    }
+}
+
+fn bare_line_fits(wanted: Wanted) -> bool
+    ensures { result ≡ bare_line_fits_of (wanted_of wanted.entry) }
+{
+    match wanted {
+        Wanted::Anything | Wanted::AnyValue | Wanted::AnyLine => true,
+        _ => false,
+    }
+}
+
+fn table_fits(wanted: Wanted, b: BuiltInType) -> bool
+    ensures { result ≡ table_fits_of (wanted_of wanted.entry) b }
+{
+    match wanted {
+        Wanted::Anything => true,
+        Wanted::TableOf(c) => c == b,
+        _ => false,
+    }
+}
+
+/// Whether this may stand where that is wanted.
+pub fn fits<'a>(lines: Lines<'a>, wanted: Wanted<'a>, meaning: Meaning<'a>) -> bool
+    requires { AreLines lines }
+    ensures { result ≡ fits_of lines.entry.machine.now (wanted_of wanted.entry) (meaning_of meaning.entry) }
+{
+    match meaning {
+        Meaning::Value(t) => value_fits(lines, wanted, t),
+        Meaning::NoLine => no_line_fits(lines, wanted),
+        Meaning::BareLine => bare_line_fits(wanted),
+        Meaning::NewLine(_) | Meaning::Unknown => true,
+        Meaning::Incoming(_) | Meaning::Outgoing(_) => matches!(wanted, Wanted::Anything),
+        Meaning::Table(b) => table_fits(wanted, b),
+        Meaning::InPort(_) => matches!(wanted, Wanted::Anything | Wanted::AnyInPort),
+        Meaning::OutPort(_) => matches!(wanted, Wanted::Anything | Wanted::AnyOutPort),
+        Meaning::Nothing => matches!(wanted, Wanted::Anything | Wanted::AnyValue),
+    }
+}

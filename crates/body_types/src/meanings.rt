@@ -1,0 +1,180 @@
+//! What declared types mean in a body, and what is told where something unwanted stands.
+ghost use Rattle.std.specs.Prelude.{◌≡◌};
+ghost use Rattle.std.specs.Option.{option_copied};
+ghost use Rattle.slicc_plan.specs.BuiltIn.{is_table_nature, nature_of};
+ghost use Rattle.slicc_plan.specs.Meanings.{answer_of_type as answer_of, incoming_of_type as incoming_of, is_answer_type as is_answer, is_message as is_message_of, is_object_type as is_object, like_it as like_it_of, line_of_structure as line_of, message_type as message_of, object_of_type as object_of, outgoing_of_type as outgoing_of, told as told_of, unfit as unfit_of, unless as unless_of, value_of_type as value_of};
+ghost use Rattle.slicc_plan.specs.Order.{first_of};
+ghost use Rattle.slicc_plan.specs.Types.{nature_in};
+ghost use Rattle.declared_types.specs.Lent.{type_of};
+ghost use Rattle.body_types.specs.Lines.{AreLines};
+ghost use Rattle.body_types.specs.Views.{meaning_of, type_if, wanted_of};
+
+use crate::fitting::{fits, is_built_in, is_value};
+use crate::lines::Lines;
+use crate::meaning::{Meaning, Wanted};
+use declared_types::{KnownType, Scope};
+use slicc_ast::tree::{Span, Structure};
+use slicc_plan::{Broken, BuiltInType, Rule};
+
+fn is_table(b: BuiltInType) -> bool
+    ensures { result ≡ is_table_nature (nature_of b) }
+{
+    match b {
+        BuiltInType::Cache
+        | BuiltInType::Directory
+        | BuiltInType::TbeTable
+        | BuiltInType::Sequencer
+        | BuiltInType::Buffer => true,
+        _ => false,
+    }
+}
+
+/// Whether messages may be of this type.
+pub fn is_message(t: KnownType) -> bool
+    ensures { result ≡ is_message_of (type_of t.entry) }
+{
+    match t {
+        KnownType::BuiltIn(b) => matches!(b, BuiltInType::Request | BuiltInType::AbstractEntry),
+        KnownType::Enumeration(..) | KnownType::States(..) => false,
+        KnownType::Structure(..) => true,
+    }
+}
+
+fn has_tables(t: KnownType) -> bool
+    ensures { result ≡ is_table_nature (nature_in (type_of t.entry)) }
+{
+    match t {
+        KnownType::BuiltIn(b) => is_table(b),
+        _ => false,
+    }
+}
+
+/// Whether parameters and objects may be of this type.
+pub fn is_object_type<'a>(lines: Lines<'a>, t: KnownType<'a>) -> bool
+    requires { AreLines lines }
+    ensures { result ≡ is_object lines.entry.machine.now (type_of t.entry) }
+{
+    has_tables(t) || is_value(lines, t)
+}
+
+/// Whether functions may answer this type.
+pub fn is_answer_type<'a>(lines: Lines<'a>, t: KnownType<'a>) -> bool
+    requires { AreLines lines }
+    ensures { result ≡ is_answer lines.entry.machine.now (type_of t.entry) }
+{
+    is_built_in(BuiltInType::Void, t) || is_value(lines, t)
+}
+
+/// What a local, a formal or a field of this type stands for, where the type is known.
+pub fn value_of_type<'a>(lines: Lines<'a>, t: Option<KnownType<'a>>) -> Meaning<'a>
+    requires { AreLines lines }
+    ensures { meaning_of result ≡ value_of lines.entry.machine.now (type_if t.entry) }
+{
+    match t {
+        Some(t) if is_value(lines, t) => Meaning::Value(t),
+        _ => Meaning::Unknown,
+    }
+}
+
+/// What a parameter or an object of this type stands for, where the type is known.
+pub fn object_of_type<'a>(lines: Lines<'a>, t: Option<KnownType<'a>>) -> Meaning<'a>
+    requires { AreLines lines }
+    ensures { meaning_of result ≡ object_of lines.entry.machine.now (type_if t.entry) }
+{
+    match t {
+        Some(KnownType::BuiltIn(b)) if is_table(b) => Meaning::Table(b),
+        _ => value_of_type(lines, t),
+    }
+}
+
+/// What a call of a function that answers this type stands for, where the type is known.
+pub fn answer_of_type<'a>(lines: Lines<'a>, t: Option<KnownType<'a>>) -> Meaning<'a>
+    requires { AreLines lines }
+    ensures { meaning_of result ≡ answer_of lines.entry.machine.now (type_if t.entry) }
+{
+    match t {
+        Some(KnownType::BuiltIn(BuiltInType::Void)) => Meaning::Nothing,
+        _ => value_of_type(lines, t),
+    }
+}
+
+/// The type, where it is known and messages may be of it.
+pub fn message_type<'a>(t: Option<KnownType<'a>>) -> Option<KnownType<'a>>
+    ensures { type_if result ≡ message_of (type_if t.entry) }
+{
+    match t {
+        Some(t) if is_message(t) => Some(t),
+        _ => None,
+    }
+}
+
+/// A message of this type that is looked at, where the type is known.
+pub fn incoming_of_type<'a>(t: Option<KnownType<'a>>) -> Meaning<'a>
+    ensures { meaning_of result ≡ incoming_of (type_if t.entry) }
+{
+    match t {
+        None => Meaning::Unknown,
+        Some(t) => Meaning::Incoming(t),
+    }
+}
+
+/// A message of this type that is being made, where the type is known.
+pub fn outgoing_of_type<'a>(t: Option<KnownType<'a>>) -> Meaning<'a>
+    ensures { meaning_of result ≡ outgoing_of (type_if t.entry) }
+{
+    match t {
+        None => Meaning::Unknown,
+        Some(t) => Meaning::Outgoing(t),
+    }
+}
+
+/// A reference to a line of this structure of the machine, where it has it.
+pub fn line_of_structure<'a>(lines: Lines<'a>, s: Option<&'a Structure>) -> Meaning<'a>
+    ensures { meaning_of result ≡ line_of lines.entry.machine.now (option_copied s.entry) }
+{
+    match s {
+        None => Meaning::BareLine,
+        Some(s) => Meaning::Value(KnownType::Structure(Scope::Within(lines.machine), s)),
+    }
+}
+
+/// What has to be there beside this, or be assigned to it.
+pub fn like_it<'a>(meaning: Meaning<'a>) -> Wanted<'a>
+    ensures { wanted_of result ≡ like_it_of (meaning_of meaning.entry) }
+{
+    match meaning {
+        Meaning::Value(t) => Wanted::OneOf(Some(t), None),
+        _ => Wanted::Anything,
+    }
+}
+
+/// The breach of a rule at a place.
+pub fn told(rule: Rule, place: Span) -> Broken
+    ensures { result ≡ told_of rule place }
+{
+    Broken {
+        rule,
+        machine: 0,
+        place,
+        other: None,
+    }
+}
+
+/// The breach of a rule at a place, unless something is right.
+pub fn unless(is_right: bool, rule: Rule, place: Span) -> Option<Broken>
+    ensures { result ≡ first_of (unless_of is_right rule place) }
+{
+    if is_right {
+        None
+    } else {
+        Some(told(rule, place))
+    }
+}
+
+/// What is told of something at this place where that is wanted.
+pub fn unfit<'a>(lines: Lines<'a>, wanted: Wanted<'a>, place: Span, meaning: Meaning<'a>) -> Option<Broken>
+    requires { AreLines lines }
+    ensures { result ≡ first_of (unfit_of lines.entry.machine.now (wanted_of wanted.entry) place (meaning_of meaning.entry)) }
+{
+    unless(fits(lines, wanted, meaning), Rule::WrongType, place)
+}

@@ -1,0 +1,160 @@
+//! What the names in a body stand for.
+ghost use Rattle.std.specs.Prelude.{◌≡◌, find, map, reverse};
+ghost use Rattle.std.specs.Option.{option_map};
+ghost use Rattle.slicc_plan.specs.Declarations.{within};
+ghost use Rattle.slicc_plan.specs.Types.{type_in};
+ghost use Rattle.slicc_plan.specs.Environment.{bound_as as bound_as_of, declared_value as declared_value_of, is_allowed as is_allowed_of, known_in_bodies as known_in_bodies_of, fixed as fixed_of, names_everywhere as names_everywhere_of, no_type as no_type_of, type_named as type_named_of, value_named as value_named_of, value_outside as value_outside_of, meaning_of_found, wrong_type_name as wrong_type_name_of, wrong_value_name as wrong_value_name_of, meaning_named as meaning_named_of, wrong_meaning as wrong_meaning_of};
+ghost use Rattle.slicc_plan.specs.Order.{first_of};
+ghost use Rattle.declared_types.specs.Lent.{declaration_of, type_of};
+ghost use Rattle.body_types.specs.Environments.{IsEnvironment, bound_of, environment_of};
+ghost use Rattle.body_types.specs.Lines.{AreLines};
+ghost use Rattle.body_types.specs.Views.{meaning_of, type_if, wanted_of};
+
+use crate::environment::{Bound, Environment};
+use crate::fitting::is_built_in;
+use crate::meaning::{Meaning, Wanted};
+use crate::meanings::{message_type, object_of_type, told, unfit};
+use declared_types::{Declared, KnownType};
+use slicc_ast::tree::{Name, Span};
+use slicc_plan::{Broken, BuiltInType, Rule};
+
+/// The innermost of the names of a body that is written so, the outermost being first.
+pub fn bound_as<'a>(bound: &[Bound<'a>], name: &[u8]) -> Option<Bound<'a>>
+    ensures { option_map bound_of result ≡ bound_as_of name.now (reverse (map bound_of bound.now)) }
+{
+    let mut left = bound;
+    while let [outer @ .., last] = left {
+        if last.name == name {
+            return Some(*last);
+        }
+        left = outer;
+    }
+    None
+}
+
+// A name of a value that isn't a local's.
+fn fixed<'a>(name: &'a [u8], meaning: Meaning<'a>) -> Bound<'a>
+    ensures { bound_of result ≡ fixed_of name.entry.now (meaning_of meaning.entry) }
+{
+    Bound {
+        name,
+        meaning,
+        is_local: false,
+    }
+}
+
+// What the names stand for that each body has.
+fn name_everywhere<'a>(name: &[u8]) -> Option<Bound<'a>>
+    ensures { option_map bound_of result ≡ bound_as_of name.now names_everywhere_of }
+{
+    if name == b"machineID".as_slice() {
+        return Some(fixed(b"machineID", Meaning::Value(KnownType::BuiltIn(BuiltInType::MachineId))));
+    }
+    if name == b"recycle_latency".as_slice() {
+        return Some(fixed(b"recycle_latency", Meaning::Value(KnownType::BuiltIn(BuiltInType::Int))));
+    }
+    None
+}
+
+// The type of a name that the machine declares or knows.
+fn type_of_name<'a>(env: Environment<'_, 'a>, name: &[u8]) -> Option<KnownType<'a>>
+    requires { IsEnvironment env }
+    ensures { type_if result ≡ type_in env.entry.scopes.now.trees.now (within env.entry.lines.machine.now) name.now }
+{
+    env.scopes.type_in(env.scope, name)
+}
+
+// The value that a declaration of the machine declares.
+fn declared_value<'a>(env: Environment<'_, 'a>, d: Declared<'a>) -> Option<Bound<'a>>
+    requires { IsEnvironment env }
+    ensures { option_map bound_of result ≡ declared_value_of env.entry.scopes.now.trees.now env.entry.lines.machine.now (declaration_of d.entry) }
+{
+    let (name, meaning) = match d {
+        Declared::Parameter(p) => {
+            let t = type_of_name(env, p.kind.text.as_slice());
+            (&p.name, object_of_type(env.lines, t))
+        }
+        Declared::Object(o) => {
+            let t = type_of_name(env, o.kind.text.as_slice());
+            (&o.name, object_of_type(env.lines, t))
+        }
+        Declared::InPort(p) => {
+            let t = type_of_name(env, p.message.text.as_slice());
+            (&p.name, Meaning::InPort(message_type(t)))
+        }
+        Declared::OutPort(p) => {
+            let t = type_of_name(env, p.message.text.as_slice());
+            (&p.name, Meaning::OutPort(message_type(t)))
+        }
+        _ => return None,
+    };
+    Some(fixed(name.text.as_slice(), meaning))
+}
+
+/// The value that a name stands for, where it stands for one.
+pub fn value_named<'a>(env: Environment<'_, 'a>, name: &[u8]) -> Option<Bound<'a>>
+    requires { IsEnvironment env }
+    ensures { option_map bound_of result ≡ value_named_of (environment_of env.entry) name.now }
+{
+    match bound_as(env.bound, name) {
+        Some(b) => Some(b),
+        None => match env.scopes.first_named(env.scope, name) {
+            None => name_everywhere(name),
+            Some(d) => declared_value(env, d),
+        },
+    }
+}
+
+/// What a name stands for, where it stands for a value, a port or a table.
+pub fn meaning_named<'a>(env: Environment<'_, 'a>, name: &[u8]) -> Option<Meaning<'a>>
+    requires { IsEnvironment env }
+    ensures { option_map meaning_of result ≡ meaning_named_of (environment_of env.entry) name.now }
+{
+    match value_named(env, name) {
+        None => None,
+        Some(b) => Some(b.meaning),
+    }
+}
+
+/// What is told of a name where that is wanted.
+pub fn wrong_value_name<'a>(env: Environment<'_, 'a>, wanted: Wanted<'a>, name: &Name) -> Option<Broken>
+    requires { IsEnvironment env }
+    ensures { result ≡ first_of (wrong_value_name_of (environment_of env.entry) (wanted_of wanted.entry) name.now) }
+{
+    match meaning_named(env, name.text.as_slice()) {
+        None => Some(told(Rule::NotThere, name.span)),
+        Some(meaning) => unfit(env.lines, wanted, name.span, meaning),
+    }
+}
+
+fn known_in_bodies<'a>(t: Option<KnownType<'a>>) -> Option<KnownType<'a>>
+    ensures { type_if result ≡ known_in_bodies_of (type_if t.entry) }
+{
+    match t {
+        Some(t) if !is_built_in(BuiltInType::AbstractEntry, t) => Some(t),
+        _ => None,
+    }
+}
+
+/// The type that a name stands for, where it stands for one.
+pub fn type_named<'a>(env: Environment<'_, 'a>, name: &[u8]) -> Option<KnownType<'a>>
+    requires { IsEnvironment env }
+    ensures { type_if result ≡ type_named_of (environment_of env.entry) name.now }
+{
+    match value_named(env, name) {
+        Some(_) => None,
+        None => known_in_bodies(type_of_name(env, name)),
+    }
+}
+
+/// What is told of a name where a type's is wanted.
+pub fn wrong_type_name(env: Environment, name: &[u8], place: Span) -> Option<Broken>
+    requires { IsEnvironment env }
+    ensures { result ≡ first_of (wrong_type_name_of (environment_of env.entry) name.now place) }
+{
+    match (value_named(env, name), type_named(env, name)) {
+        (Some(_), _) => Some(told(Rule::WrongType, place)),
+        (None, None) => Some(told(Rule::NotThere, place)),
+        (None, Some(_)) => None,
+    }
+}

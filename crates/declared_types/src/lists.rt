@@ -1,0 +1,90 @@
+//! The declarations of a scope, in the order of the text.
+ghost use Rattle.std.specs.Prelude.{◌≡◌, ◌++◌, [], IfOk, OnOk, map, flat_map};
+ghost use Rattle.slicc_plan.specs.Declarations.{global_declarations, item_declarations, machine_declarations, named_declarations, parameter};
+ghost use Rattle.declared_types.specs.Lent.{declarations_of};
+
+use crate::lent::Declared;
+use ruby_base::{NoMemory, Seq};
+use slicc_ast::tree::{Decl, Item, Machine, Parameter, Tree};
+use std::alloc::Global;
+
+fn add_item<'a>(list: &mut Seq<Declared<'a>>, item: &'a Item) -> Result<(), NoMemory>
+    ensures { OnOk result (declarations_of list.new ≡ declarations_of list.old ++ item_declarations item.now) }
+{
+    match item {
+        Item::Include(..) => Ok(()),
+        Item::Enumeration(e) => list.push(Declared::Enumeration(e)),
+        Item::Structure(s) => list.push(Declared::Structure(s)),
+        Item::Machine(m) => list.push(Declared::Machine(m)),
+    }
+}
+
+fn add_items<'a>(list: &mut Seq<Declared<'a>>, items: &'a [Item]) -> Result<(), NoMemory>
+    ensures { OnOk result (declarations_of list.new ≡ declarations_of list.old ++ flat_map item_declarations items.now) }
+{
+    for item in items {
+        add_item(list, item)?;
+    }
+    Ok(())
+}
+
+/// What is declared right in a protocol.
+pub fn global_list<'a>(alloc: Global, trees: &'a [Tree]) -> Result<Seq<Declared<'a>>, NoMemory>
+    ensures { IfOk result (λ list. declarations_of list ≡ global_declarations trees.now) }
+{
+    let mut list = Seq::new(alloc);
+    for tree in trees {
+        add_items(&mut list, &tree.items)?;
+    }
+    Ok(list)
+}
+
+fn add_parameters<'a>(
+    list: &mut Seq<Declared<'a>>,
+    parameters: &'a [Parameter],
+) -> Result<(), NoMemory>
+    ensures { OnOk result (declarations_of list.new ≡ declarations_of list.old ++ map parameter parameters.now) }
+{
+    for p in parameters {
+        list.push(Declared::Parameter(p))?;
+    }
+    Ok(())
+}
+
+fn add_declaration<'a>(list: &mut Seq<Declared<'a>>, d: &'a Decl) -> Result<(), NoMemory>
+    ensures { OnOk result (declarations_of list.new ≡ declarations_of list.old ++ named_declarations d.now) }
+{
+    match d {
+        Decl::States(s) => list.push(Declared::States(s)),
+        Decl::Enumeration(e) => list.push(Declared::Enumeration(e)),
+        Decl::Structure(s) => list.push(Declared::Structure(s)),
+        Decl::OutPort(p) => list.push(Declared::OutPort(p)),
+        Decl::InPort(p) => list.push(Declared::InPort(p)),
+        Decl::Action(a) => list.push(Declared::Action(a)),
+        Decl::Transition(_) => Ok(()),
+        Decl::Function(f) => list.push(Declared::Function(f)),
+        Decl::Object(o) => list.push(Declared::Object(o)),
+    }
+}
+
+fn add_declarations<'a>(
+    list: &mut Seq<Declared<'a>>,
+    declarations: &'a [Decl],
+) -> Result<(), NoMemory>
+    ensures { OnOk result (declarations_of list.new ≡ declarations_of list.old ++ flat_map named_declarations declarations.now) }
+{
+    for d in declarations {
+        add_declaration(list, d)?;
+    }
+    Ok(())
+}
+
+/// What is declared right in a machine.
+pub fn machine_list<'a>(alloc: Global, m: &'a Machine) -> Result<Seq<Declared<'a>>, NoMemory>
+    ensures { IfOk result (λ list. declarations_of list ≡ machine_declarations m.now) }
+{
+    let mut list = Seq::new(alloc);
+    add_parameters(&mut list, &m.parameters)?;
+    add_declarations(&mut list, &m.declarations)?;
+    Ok(list)
+}

@@ -1,0 +1,6 @@
+mod Attributes
+mod BlockScopes
+mod Parts
+mod Places
+mod Repeats
+mod Steps

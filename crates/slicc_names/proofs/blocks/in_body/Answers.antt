@@ -1,0 +1,16 @@
+use Rattle.std.proofs.Common.{◌≡◌, ap, ◌∙◌, flat_map, ◌++◌}
+use Rattle.std.proofs.lemmas.Result.{IfOk-weaker}
+use Rattle.slicc_names.specs.Declaring.{one_formal}
+use Rattle.slicc_plan.specs.Blocks.{local_of, blocks_in}
+use Rattle.slicc_plan.specs.Order.{first_after}
+use Rattle.slicc_plan.specs.TwiceDeclared.{repeated}
+use Rattle.slicc_names.proofs.Steps.{told_in_body}
+use Rattle.slicc_names.proofs.blocks.in_body.Goals as goal
+
+pub returns : goal.returns
+returns c =
+    IfOk-weaker c.in_statements.result _ _
+    (λ r told. told_in_body (flat_map one_formal c.args.formals.now ++ flat_map local_of c.args.b.now.statements.items) (flat_map blocks_in c.args.b.now.statements.items) c.args.first c.in_ok-first.first r
+    (c.in_ok-first.ensures ∙ ap (λ ss. first_after c.args.first (repeated (flat_map one_formal c.args.formals.now ++ flat_map local_of ss))) c.deref.ensures.value)
+    (told ∙ ap (λ ss. first_after c.in_ok-first.first (flat_map repeated (flat_map blocks_in ss))) c.deref-2.ensures.value))
+    c.in_statements.ensures

@@ -1,0 +1,18 @@
+use Rattle.std.proofs.Common.{◌≡◌, ◌∷◌, [], flat_map, map, ap, sym, ◌∙◌}
+use Rattle.std.proofs.lemmas.Result.{IfOk-weaker}
+use Rattle.slicc_plan.specs.Declarations.{machine_declarations, named_declarations}
+use Rattle.slicc_plan.specs.Order.{first_after}
+use Rattle.slicc_plan.specs.Scopes.{inner_scopes}
+use Rattle.slicc_plan.specs.TwiceDeclared.{repeated}
+use Rattle.slicc_names.proofs.Parts.{machine_inside}
+use Rattle.slicc_names.proofs.Steps.{told_in_body}
+use Rattle.slicc_names.proofs.scopes.in_machine.Goals as goal
+
+pub returns : goal.returns
+returns c =
+    IfOk-weaker c.in_decls.result _ _
+    (λ r told.
+    told_in_body (machine_declarations c.args.m.now) (flat_map inner_scopes (machine_declarations c.args.m.now)) c.args.first c.in_ok-first.first r c.in_ok-first.ensures
+    (told ∙ ap (λ ds. first_after c.in_ok-first.first (flat_map repeated (flat_map inner_scopes (flat_map named_declarations ds)))) c.deref.ensures.value
+    ∙ ap (λ xs. first_after c.in_ok-first.first (flat_map repeated xs)) (sym (machine_inside c.args.m.now))))
+    c.in_decls.ensures

@@ -1,0 +1,112 @@
+//! The names of a scope, as they are declared one after another.
+ghost use Rattle.std.specs.Prelude.{◌≡◌, ◌++◌, ◌∷◌, [], IfOk, OnOk, flat_map};
+ghost use Rattle.std.specs.Option.{option_map};
+ghost use Rattle.slicc_names.specs.Lookups.{FindSame};
+ghost use Rattle.slicc_plan.specs.Order.{first_after};
+ghost use Rattle.slicc_plan.specs.TwiceDeclared.{first_with, listed, names_of, repeated_after, told_after, twice_declared};
+
+use crate::declares::Declares;
+use indexmap::IndexMap;
+use slicc_ast::tree::{Name, Span};
+use slicc_plan::{Broken, NoMemory, Rule, earlier_broken};
+use std::alloc::Global;
+use std::marker::Model;
+
+/// The names of a scope that were declared so far: the first with each text. A name is found by a hash of its text.
+#[derive(Drop)]
+pub struct Declared {
+    alloc: Global,
+    places: IndexMap<Vec<u8>, Span>,
+}
+
+impl Model for Declared {
+    ghost use Rattle.std.specs.Prelude.{List, map};
+    ghost use Rattle.slicc_ast.specs.declared.tree.name.Name.{Name};
+
+    ghost Value = { List Name };
+
+    ghost view = { λ d. map (λ e. record { text = e.0.items; span = e.1 }) d.places.entries };
+}
+
+/// A name that is declared twice, or whose text is that of a built-in type.
+pub fn twice(place: Span, other: Option<Span>) -> Broken
+    ensures { result ≡ twice_declared place other }
+{
+    Broken {
+        rule: Rule::TwiceDeclared,
+        machine: 0,
+        place,
+        other,
+    }
+}
+
+impl Declared {
+    pub fn new(alloc: Global) -> Declared
+        ensures { result ≡ [] }
+    {
+        Declared {
+            alloc,
+            places: IndexMap::new(alloc),
+        }
+    }
+
+    /// Declares a name. The answer is the place of the first one with its text, if there was one.
+    pub fn add(&mut self, name: &Name) -> Result<Option<Span>, NoMemory>
+        ensures before { IfOk result (λ place. place ≡ option_map (λ n. n.span) (first_with name.now.text self.old)) }
+        ensures names { OnOk result (FindSame self.new (self.old ++ name.now ∷ [])) }
+    {
+        let before = self.places.get(name.text.as_slice()).copied();
+        if before.is_some() {
+            return Ok(before);
+        }
+        let own = Vec::from_slice(self.alloc, name.text.as_slice())?;
+        self.places.insert(own, name.span)?;
+        Ok(None)
+    }
+
+    /// Declares a name, which may be told where it was declared before.
+    pub fn declare(
+        &mut self,
+        first: Option<Broken>,
+        name: &Name,
+    ) -> Result<Option<Broken>, NoMemory>
+        ensures told { IfOk result (λ r. r ≡ first_after first (told_after self.old name.now)) }
+        ensures names { OnOk result (FindSame self.new (self.old ++ name.now ∷ [])) }
+    {
+        match self.add(name)? {
+            None => Ok(first),
+            Some(other) => Ok(earlier_broken(first, twice(name.span, Some(other)))),
+        }
+    }
+
+    /// Declares the name of a part, if it has one.
+    fn declare_part<T: Declares>(
+        &mut self,
+        first: Option<Broken>,
+        part: &T,
+    ) -> Result<Option<Broken>, NoMemory>
+        ensures told { IfOk result (λ r. r ≡ first_after first (repeated_after self.old (names_of (T.declares part.now)))) }
+        ensures names { OnOk result (FindSame self.new (self.old ++ names_of (T.declares part.now))) }
+    {
+        match part.declared_name() {
+            None => Ok(first),
+            Some(name) => self.declare(first, name),
+        }
+    }
+
+    /// Declares the names of parts one after another.
+    pub fn declare_all<T: Declares>(
+        &mut self,
+        first: Option<Broken>,
+        parts: &[T],
+    ) -> Result<Option<Broken>, NoMemory>
+        ensures told { IfOk result (λ r. r ≡ first_after first (repeated_after self.old (names_of (flat_map T.declares parts.now)))) }
+        ensures names { OnOk result (FindSame self.new (self.old ++ names_of (flat_map T.declares parts.now))) }
+    {
+        let mut first = first;
+        for part in parts {
+            first = self.declare_part(first, part)?;
+        }
+        Ok(first)
+    }
+}

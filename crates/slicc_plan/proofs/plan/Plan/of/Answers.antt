@@ -1,0 +1,5 @@
+use Rattle.slicc_plan.proofs.Accepted.{accepted_along}
+use Rattle.slicc_plan.proofs.plan.Plan.of.Goals as goal
+
+pub invariant_of-result : goal.invariant_of-result
+invariant_of-result c = accepted_along _ _ c.in_ok-new.ensures.ok c.requires

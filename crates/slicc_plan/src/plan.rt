@@ -1,0 +1,83 @@
+ghost use Rattle.std.specs.Prelude.{◌≡◌, ◌↔◌, true, IfOk};
+ghost use Rattle.slicc_plan.specs.AllRules.{IsAccepted, shapes_of};
+
+use crate::NoMemory;
+use ruby_base::Seq;
+use slicc_ast::tree::Tree;
+use slicc_same::same;
+use std::alloc::Global;
+use std::marker::Model;
+use std::sync::Arc;
+
+/// A protocol that keeps all rules. It keeps the trees of its files in the order of reading, and a contract sees it as them: all
+/// else in it, as its machines with their states, events, ports and transitions, is read off them. Copies share the trees.
+#[derive(Drop)]
+pub struct Plan {
+    trees: Arc<Seq<Tree>, Global>,
+}
+
+impl Model for Plan {
+    ghost use Rattle.std.specs.Prelude.{List};
+    ghost use Rattle.slicc_ast.specs.declared.tree.item.Tree.{Tree as TreeRecord};
+    ghost use Rattle.slicc_plan.specs.AllRules.{IsAccepted};
+    ghost use Rattle.std.specs.Coded.{coded_list};
+    ghost use Rattle.slicc_ast.specs.contracts.tree.item.Tree as tree;
+
+    ghost Value = { List TreeRecord };
+
+    ghost coded = { coded_list tree.the_row.coded };
+
+    ghost view = { λ p. p.trees.value };
+
+    ghost invariant = { λ p. IsAccepted p.trees.value };
+}
+
+impl Plan {
+    /// The plan of trees that keep all rules.
+    pub fn of(alloc: Global, trees: Seq<Tree>) -> Result<Plan, NoMemory>
+        requires { IsAccepted trees }
+        ensures { IfOk result (λ plan. plan ≡ trees) }
+    {
+        Ok(Plan {
+            trees: Arc::new(alloc, trees)?,
+        })
+    }
+
+    /// The trees of the protocol's files, in the order of reading.
+    pub fn trees(&self) -> &[Tree]
+        ensures trees { result.now ≡ self.now }
+        ensures accepted { IsAccepted self.now }
+    {
+        self.trees.as_slice()
+    }
+}
+
+/// One more plan of the same protocol, which shares its trees.
+pub fn copy_plan(plan: &Plan) -> Result<Plan, NoMemory>
+    ensures { IfOk result (λ copy. copy ≡ plan.now) }
+{
+    Ok(Plan {
+        trees: Arc::try_clone(&plan.trees)?,
+    })
+}
+
+/// Whether two plans are those of the same protocol: as many files, whose trees are alike in the order of reading, spans left
+/// aside. What a protocol does isn't read off spans, so that a protocol may have blanks and comments added and be the same. Two
+/// plans of one file, read twice, are the same, and so are a plan and its copy. It takes no memory.
+pub fn same_plan(a: &Plan, b: &Plan) -> bool
+    ensures { result ≡ true ↔ shapes_of a.now ≡ shapes_of b.now }
+{
+    same_trees(a.trees(), b.trees())
+}
+
+fn same_trees(a: &[Tree], b: &[Tree]) -> bool
+    ensures { result ≡ true ↔ shapes_of a.now ≡ shapes_of b.now }
+{
+    let [first_a, a @ ..] = a else {
+        return b.is_empty();
+    };
+    match b {
+        [first_b, b @ ..] => same(first_a, first_b) && same_trees(a, b),
+        [] => false,
+    }
+}
