@@ -56,9 +56,9 @@ flat_step f bodies i d o p start below is next =
     next ∙ ap (λ q. first_after q (f (get_or bodies i d))) is ∙ sym (first_after-flat_map f bodies i d start below)
 
 -- three lists one behind the other
-pub first_of_three : (o p q r : Option Broken) (as bs cs : List Broken) → p ≡ first_after o as → q ≡ first_after p bs → r ≡ first_after q cs → r ≡ first_after o ((as ++ bs) ++ cs)
-first_of_three o p q r as bs cs e f g =
-    g ∙ ap (λ x. first_after x cs) (f ∙ ap (λ x. first_after x bs) e ∙ sym (first_after-append o as bs)) ∙ sym (first_after-append o (as ++ bs) cs)
+pub first_of_three : (o p q r : Option Broken) (xs bs cs : List Broken) → p ≡ first_after o xs → q ≡ first_after p bs → r ≡ first_after q cs → r ≡ first_after o ((xs ++ bs) ++ cs)
+first_of_three o p q r xs bs cs e f g =
+    g ∙ ap (λ x. first_after x cs) (f ∙ ap (λ x. first_after x bs) e ∙ sym (first_after-append o xs bs)) ∙ sym (first_after-append o (xs ++ bs) cs)
 
-pub first_of_two : (o p q : Option Broken) (as bs : List Broken) → p ≡ first_after o as → q ≡ first_after p bs → q ≡ first_after o (as ++ bs)
-first_of_two o p q as bs e f = f ∙ ap (λ x. first_after x bs) e ∙ sym (first_after-append o as bs)
+pub first_of_two : (o p q : Option Broken) (xs bs : List Broken) → p ≡ first_after o xs → q ≡ first_after p bs → q ≡ first_after o (xs ++ bs)
+first_of_two o p q xs bs e f = f ∙ ap (λ x. first_after x bs) e ∙ sym (first_after-append o xs bs)
