@@ -1,1 +1,2 @@
+pub mod FirstNames
 pub mod PartLists

@@ -22,6 +22,19 @@ impl Model for Names {
 }
 
 impl Names {
+    /// The names of the functions of a machine that have a body, of its tables and of those that are directories.
+    pub fn new(functions: NameIndex, tables: NameIndex, directories: NameIndex) -> Names
+        ensures functions { result.functions ≡ functions }
+        ensures tables { result.tables ≡ tables }
+        ensures directories { result.directories ≡ directories }
+    {
+        Names {
+            functions,
+            tables,
+            directories,
+        }
+    }
+
     /// The number of the machine's function of this name that has a body.
     pub fn function(&self, name: &[u8]) -> Option<u32>
         ensures { result ≡ number_in self.now.functions name.now }

@@ -66,13 +66,16 @@ fn add_first<'a>(names: &mut NameIndex, list: &mut Seq<Lent<'a>>, w: Option<Lent
     ensures names { OnOk result (names.new ≡ names_of_written (written_list list.new)) }
     ensures list { OnOk result (written_list list.new ≡ fold with_written (written_list list.old) (written_or_none w.entry)) }
 {
-    if let Some(w) = w {
-        if names.find(w.name).is_none() {
+    let Some(w) = w else {
+        return Ok(());
+    };
+    match names.find(w.name) {
+        Some(_) => Ok(()),
+        None => {
             names.add(w.name)?;
-            list.push(w)?;
+            list.push(w)
         }
     }
-    Ok(())
 }
 
 /// The functions of a machine with a body, and their names. Of several of one name it is the first.
