@@ -7,11 +7,11 @@ use Rattle.slicc_plan.specs.BodySizes.{large_bodies}
 use Rattle.slicc_plan.specs.CallsBetween.{call_circles}
 use Rattle.slicc_plan.specs.MachineParts.{missing_machine, missing_parts}
 use Rattle.slicc_plan.specs.Networks.{wrong_networks}
+use Rattle.slicc_plan.specs.ReadOnly.{reading_changes}
 use Rattle.slicc_plan.specs.StateFunctions.{wrong_state_functions}
 use Rattle.slicc_plan.specs.TwoTransitions.{shared_pairs}
 
--- That what only reads changes nothing isn't asked here yet.
 abbrev pub broken_machines : List Tree → List Broken
 broken_machines trees =
     call_circles trees ++ large_bodies trees ++ shared_pairs trees ++ wrong_state_functions trees
-    ++ wrong_networks trees ++ missing_machine trees ++ missing_parts trees
+    ++ wrong_networks trees ++ missing_machine trees ++ missing_parts trees ++ reading_changes trees

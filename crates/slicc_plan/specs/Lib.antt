@@ -1,6 +1,7 @@
 pub mod AllRules
 pub mod Attributes
 pub mod Blocks
+pub mod BodyParts
 pub mod BodySizes
 pub mod BrokenBodies
 pub mod BrokenDeclarations
@@ -26,10 +27,12 @@ pub mod MessageTypes
 pub mod Networks
 pub mod Order
 pub mod Prototypes
+pub mod ReadOnly
 pub mod Returns
 pub mod Scopes
 pub mod Setups
 pub mod StateFunctions
+pub mod TableNeeds
 pub mod TransitionNames
 pub mod TwiceDeclared
 pub mod TwoTransitions

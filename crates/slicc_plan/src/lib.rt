@@ -7,6 +7,7 @@ mod broken;
 mod built_in;
 mod laws;
 mod machine;
+mod part;
 mod plan;
 mod refusal;
 mod row;
@@ -17,6 +18,7 @@ pub use broken::{Broken, Rule, Subject, earlier_broken, earlier_of_two, first_br
 pub use built_in::BuiltInType;
 pub use laws::{first_is_found, first_is_one};
 pub use machine::machine_at;
+pub use part::{Body, Part};
 pub use plan::{Plan, copy_plan, same_plan};
 pub use refusal::Refusal;
 pub use row::{Counts, Row, Written};

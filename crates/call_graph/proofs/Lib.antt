@@ -1,0 +1,4 @@
+pub mod Caps
+pub mod FirstOf
+pub mod Marking
+pub mod Reaching
