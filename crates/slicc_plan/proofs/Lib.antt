@@ -2,7 +2,7 @@ mod Accepted
 pub mod Firsts
 mod MachinesFound
 mod NoReferences
-mod OneAnswer
+pub mod OneAnswer
 mod Phases
 mod Receivers
 mod Room

@@ -9,7 +9,7 @@ use Rattle.slicc_plan.specs.AllRules.{Common, rule, nothing, IsAccepted, IsPlanO
 use Rattle.slicc_plan.specs.Order.{IsFirstBroken, number_of, rank_in, rank_of, second_rank, subject_of}
 use Rattle.slicc_plan.proofs.Firsts.{first_rank}
 
-abbrev rule_at : Broken → Common
+abbrev pub rule_at : Broken → Common
 rule_at b = rule (number_of b.rule) b.place.file b.place.start (second_rank b.other)
 
 -- where the order looks at the same, the same is told
@@ -33,7 +33,7 @@ no_first : (all : List Broken) (b : Broken) → all ≡ [] → IsFirstBroken all
 no_first [] b e first = let (k, below, same) = first.is_among in omega (arith, below)
 no_first (a ∷ all) b e first = cc
 
-one_told : (trees : List Tree) (b c : Broken) → IsToldOf trees b → IsToldOf trees c → rule_at b ≡ rule_at c
+pub one_told : (trees : List Tree) (b c : Broken) → IsToldOf trees b → IsToldOf trees c → rule_at b ≡ rule_at c
 one_told trees b c (of_declarations first) (of_declarations other) = first_rule _ b c first other
 one_told trees b c (of_declarations first) (of_bodies e other) = absurd (no_first _ b e first)
 one_told trees b c (of_declarations first) (of_machines e f other) = absurd (no_first _ b e first)
@@ -44,7 +44,7 @@ one_told trees b c (of_machines e f first) (of_declarations other) = absurd (no_
 one_told trees b c (of_machines e f first) (of_bodies g other) = absurd (no_first _ c f other)
 one_told trees b c (of_machines e f first) (of_machines g h other) = first_rule _ b c first other
 
-none_told : (trees : List Tree) (b : Broken) → IsAccepted trees → IsToldOf trees b → ⊥
+pub none_told : (trees : List Tree) (b : Broken) → IsAccepted trees → IsToldOf trees b → ⊥
 none_told trees b accepted (of_declarations first) = no_first _ b accepted.of_declarations first
 none_told trees b accepted (of_bodies e first) = no_first _ b accepted.of_bodies first
 none_told trees b accepted (of_machines e f first) = no_first _ b accepted.of_machines first
