@@ -1,10 +1,10 @@
 -- The scopes in a statement by the lists of its parts.
-use Rattle.std.proofs.Common.{rules, ◌≡◌, List, [], ◌∷◌, ◌++◌, flat_map, Option, None, Some, refl, sym, ap, ◌∙◌, append_assoc, append-nil}
+use Rattle.std.proofs.Common.{rules, ◌≡◌, List, [], ◌++◌, flat_map, Option, None, Some, refl, ap}
 use Rattle.slicc_ast.specs.declared.tree.statement.Block.{Block}
 use Rattle.slicc_ast.specs.declared.tree.statement.If.{If, If', None', Some', Row_of-ElseIf, end_of-ElseIf, more_of-ElseIf, items-the_row-ElseIf, out-If}
-use Rattle.slicc_ast.specs.declared.tree.statement.Stmt.{Stmt, Row_of-Stmt, end_of-Stmt, more_of-Stmt, items-the_row-Stmt}
+use Rattle.slicc_ast.specs.declared.tree.statement.Stmt.{Row_of-Stmt, end_of-Stmt, more_of-Stmt, items-the_row-Stmt}
 use Rattle.slicc_ast.specs.declared.tree.statement.Stmt.TheViews.{the_lemmas}
-use Rattle.slicc_plan.specs.Blocks.{blocks_in, body_scopes, if_blocks, local_of, others_blocks, otherwise_blocks, row_blocks, row_locals}
+use Rattle.slicc_plan.specs.Blocks.{blocks_in, body_scopes, if_blocks, local_of, others_blocks, row_blocks, row_locals}
 use Rattle.slicc_plan.specs.Declarations.{Declaration}
 use Rattle.slicc_names.specs.Repeated.{else_if_scopes}
 

@@ -1,5 +1,5 @@
 -- The fields of a structure that isn't external.
-use Rattle.std.proofs.Common.{◌≡◌, List, [], false, cond, filter, flat_map, map, sym, ap, ◌∙◌}
+use Rattle.std.proofs.Common.{◌≡◌, [], false, cond, filter, flat_map, map, sym, ap, ◌∙◌}
 use Rattle.std.proofs.lemmas.List.Folds.{flat_map-map}
 use Rattle.slicc_ast.specs.declared.tree.declaration.Structure.{Structure}
 use Rattle.slicc_plan.specs.Declarations.{member, structure, is_external}

@@ -1,5 +1,5 @@
 -- Going through what is declared right in a protocol: what is told, and what is found afterwards.
-use Rattle.std.proofs.Common.{◌≡◌, ◌<◌, ◌+◌, ℕ, List, [], ◌∷◌, ◌++◌, map, flat_map, take, Option, None, Some, true, false, refl, sym, ap, subst, ◌∙◌, append-nil, append_assoc, add-one, slice_index_or, length}
+use Rattle.std.proofs.Common.{◌≡◌, ◌<◌, ◌+◌, ℕ, List, [], ◌∷◌, ◌++◌, map, take, Option, None, Some, true, false, refl, sym, ap, subst, ◌∙◌, append-nil, append_assoc, add-one, slice_index_or, length}
 use Rattle.std.proofs.Math.Seq.{take-suc}
 use Rattle.std.proofs.lemmas.List.{map-append}
 use Rattle.slicc_ast.specs.declared.tree.name.Name.{Name}
@@ -7,7 +7,7 @@ use Rattle.slicc_plan.proofs.Firsts.{first_after-append}
 use Rattle.slicc_plan.specs.declared.broken.Broken.{Broken}
 use Rattle.slicc_plan.specs.Declarations.{Declaration, name_of}
 use Rattle.slicc_plan.specs.Order.{first_after}
-use Rattle.slicc_plan.specs.TwiceDeclared.{declaration_told, first_with, globally_repeated_after, listed, names_of, takes_built_in_name, told_globally, told_with, twice_declared}
+use Rattle.slicc_plan.specs.TwiceDeclared.{declaration_told, first_with, globally_repeated_after, listed, names_of, takes_built_in_name, told_globally, told_with}
 use Rattle.slicc_names.proofs.Repeats.{found_behind, names_of-append}
 use Rattle.slicc_names.specs.Lookups.{FindSame}
 

@@ -1,5 +1,5 @@
 -- The places in a machine, and the limits of a machine, by its parts.
-use Rattle.std.proofs.Common.{◌≡◌, ℕ, Bool, List, [], ◌∷◌, ◌++◌, filter, find, flat_map, map, refl, sym, ap, ◌∙◌, append_assoc, Option}
+use Rattle.std.proofs.Common.{◌≡◌, ℕ, List, ◌++◌, filter, find, flat_map, map, refl, sym, ap, ◌∙◌, Option}
 use Rattle.std.proofs.lemmas.Grind.{flat_map-append}
 use Rattle.std.proofs.lemmas.List.Folds.{flat_map-map}
 use Rattle.slicc_ast.specs.declared.tree.item.Tree.{Tree}

@@ -1,5 +1,5 @@
 -- Parts of one kind that declare a name each, and parts that hold others.
-use Rattle.std.proofs.Common.{◌≡◌, List, [], ◌∷◌, ◌++◌, flat_map, map, Option, None, Some, refl, sym, ap, ◌∙◌, append-nil, append_assoc}
+use Rattle.std.proofs.Common.{◌≡◌, List, [], ◌∷◌, ◌++◌, flat_map, map, refl, ap, ◌∙◌}
 use Rattle.std.proofs.lemmas.Grind.{flat_map-append}
 use Rattle.std.proofs.lemmas.List.Concat.{flat_map_single}
 use Rattle.slicc_ast.specs.declared.tree.declaration.Formal.{Formal}
@@ -7,15 +7,12 @@ use Rattle.slicc_ast.specs.declared.tree.declaration.Member.{Member}
 use Rattle.slicc_ast.specs.declared.tree.declaration.State.{State}
 use Rattle.slicc_ast.specs.declared.tree.declaration.Symbol.{Symbol}
 use Rattle.slicc_ast.specs.declared.tree.item.Tree.{Tree}
-use Rattle.slicc_ast.specs.declared.tree.machine.Decl.{Decl}
 use Rattle.slicc_ast.specs.declared.tree.machine.Machine.{Machine}
 use Rattle.slicc_ast.specs.declared.tree.machine.Parameter.{Parameter}
-use Rattle.slicc_ast.specs.declared.tree.statement.Block.{Block}
 use Rattle.slicc_names.specs.Declaring.{one_formal, one_member, one_parameter, one_state, one_symbol}
-use Rattle.slicc_names.specs.Repeated.{item_scopes, machine_scopes, tree_scopes}
-use Rattle.slicc_plan.specs.Blocks.{body_scopes}
-use Rattle.slicc_plan.specs.Declarations.{Declaration, formal, item_declarations, machine_declarations, member, named_declarations, parameter, state, symbol}
-use Rattle.slicc_plan.specs.Scopes.{formal_declarations, global_scopes, inner_scopes, scopes_within}
+use Rattle.slicc_names.specs.Repeated.{tree_scopes}
+use Rattle.slicc_plan.specs.Declarations.{formal, item_declarations, machine_declarations, member, named_declarations, parameter, state, symbol}
+use Rattle.slicc_plan.specs.Scopes.{global_scopes, inner_scopes, scopes_within}
 
 pub each_symbol : (xs : List Symbol) → flat_map one_symbol xs ≡ map symbol xs
 each_symbol xs = flat_map_single symbol xs

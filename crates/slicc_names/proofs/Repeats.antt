@@ -1,5 +1,5 @@
 -- Going through the names of a scope: what is told, and what is found afterwards.
-use Rattle.std.proofs.Common.{◌≡◌, ◌<◌, ◌+◌, ℕ, List, [], ◌∷◌, ◌++◌, find, flat_map, take, Option, None, Some, refl, sym, ap, ◌∙◌, append-nil, append_assoc, add-one, slice_index_or, length}
+use Rattle.std.proofs.Common.{◌≡◌, ◌<◌, ◌+◌, ℕ, List, [], ◌∷◌, ◌++◌, flat_map, take, Option, refl, sym, ap, ◌∙◌, append-nil, append_assoc, add-one, slice_index_or, length}
 use Rattle.std.proofs.Math.Seq.{take-suc}
 use Rattle.std.proofs.lemmas.Grind.{flat_map-append}
 use Rattle.std.proofs.lemmas.List.Folds.{find-append}

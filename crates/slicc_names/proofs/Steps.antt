@@ -1,5 +1,5 @@
 -- Going through parts of a tree, of which each has scopes.
-use Rattle.std.proofs.Common.{◌≡◌, ◌<◌, ◌≤◌, ◌+◌, ℕ, List, [], ◌∷◌, ◌++◌, flat_map, take, Option, None, Some, refl, sym, ap, ◌∙◌, append-nil, add-one, slice_index_or, length}
+use Rattle.std.proofs.Common.{◌≡◌, ◌<◌, ◌≤◌, ◌+◌, ℕ, List, [], ◌∷◌, ◌++◌, flat_map, take, Option, refl, sym, ap, ◌∙◌, append-nil, add-one, slice_index_or, length}
 use Rattle.std.proofs.Math.Seq.{take-suc}
 use Rattle.std.proofs.lemmas.Grind.{flat_map-append}
 use Rattle.std.proofs.lemmas.List.{take_all}

@@ -1,6 +1,4 @@
-use Rattle.std.proofs.Common.{◌≡◌, flat_map, sym, ap, ◌∙◌}
-use Rattle.std.proofs.lemmas.List.Folds.{flat_map-map}
-use Rattle.slicc_names.specs.Counting.{decl_places, found_in}
+use Rattle.slicc_names.specs.Counting.{decl_places}
 use Rattle.slicc_names.proofs.Counts.{at_end, at_on, left_on}
 use Rattle.slicc_names.proofs.all.count_decls.Goals as goal
 

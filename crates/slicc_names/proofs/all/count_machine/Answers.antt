@@ -1,4 +1,4 @@
-use Rattle.std.proofs.Common.{◌≡◌, ◌++◌, flat_map, sym, ap, ◌∙◌}
+use Rattle.std.proofs.Common.{flat_map, sym, ap, ◌∙◌}
 use Rattle.slicc_names.specs.Counting.{decl_places, found_in, parameter_places}
 use Rattle.slicc_names.proofs.Counts.{found_before, found_behind}
 use Rattle.slicc_names.proofs.MachinePlaces.{machine_places}

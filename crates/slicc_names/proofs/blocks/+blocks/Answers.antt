@@ -1,9 +1,9 @@
-use Rattle.std.proofs.Common.{rules, ◌≡◌, ◌++◌, [], ap, ◌∙◌, sym, append-nil, flat_map}
+use Rattle.std.proofs.Common.{rules, ◌++◌, [], ap, ◌∙◌, sym, append-nil, flat_map}
 use Rattle.std.proofs.lemmas.Result.{IfOk-weaker}
 use Rattle.slicc_ast.specs.declared.tree.statement.If.{out-If}
 use Rattle.slicc_ast.specs.declared.tree.statement.Stmt.TheViews.{the_lemmas}
 use Rattle.slicc_names.specs.Repeated.{else_if_scopes}
-use Rattle.slicc_plan.specs.Blocks.{blocks_in, body_scopes, if_blocks, local_of}
+use Rattle.slicc_plan.specs.Blocks.{blocks_in, body_scopes, local_of}
 use Rattle.slicc_plan.specs.Order.{first_after}
 use Rattle.slicc_plan.specs.TwiceDeclared.{repeated}
 use Rattle.slicc_names.proofs.BlockScopes.{if_scopes, optional_scopes, locals_of_row, blocks_of_row}

@@ -1,4 +1,4 @@
-use Rattle.std.proofs.Common.{◌≡◌, ap, ◌∙◌, flat_map, ◌++◌}
+use Rattle.std.proofs.Common.{ap, ◌∙◌, flat_map, ◌++◌}
 use Rattle.std.proofs.lemmas.Result.{IfOk-weaker}
 use Rattle.slicc_names.specs.Declaring.{one_formal}
 use Rattle.slicc_plan.specs.Blocks.{local_of, blocks_in}

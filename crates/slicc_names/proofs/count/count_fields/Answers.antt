@@ -1,4 +1,4 @@
-use Rattle.std.proofs.Common.{◌≡◌, ap, ◌∙◌}
+use Rattle.std.proofs.Common.{ap, ◌∙◌}
 use Rattle.slicc_names.specs.Counting.{field_places, found_in}
 use Rattle.slicc_names.proofs.Counts.{at_on, left_on}
 use Rattle.slicc_names.proofs.count.count_fields.Goals as goal

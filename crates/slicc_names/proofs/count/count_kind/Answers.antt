@@ -1,4 +1,4 @@
-use Rattle.std.proofs.Common.{◌≡◌, flat_map, ap, sym, ◌∙◌}
+use Rattle.std.proofs.Common.{ap, sym, ◌∙◌}
 use Rattle.std.proofs.lemmas.List.Folds.{flat_map-map}
 use Rattle.declared_types.specs.Lent.{declaration_of}
 use Rattle.slicc_names.specs.Counting.{found_in, if_counted}

@@ -1,4 +1,4 @@
-use Rattle.std.proofs.Common.{[], map, take}
+use Rattle.std.proofs.Common.{map, take}
 use Rattle.declared_types.specs.Lent.{declaration_of}
 use Rattle.slicc_names.proofs.GlobalRepeats.{AfterDeclarations}
 use Rattle.slicc_names.proofs.globals.in_protocol.Given as goal

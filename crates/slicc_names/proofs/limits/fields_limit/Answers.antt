@@ -1,4 +1,4 @@
-use Rattle.std.proofs.Common.{◌≡◌, sym, ap, ◌∙◌, flat_map}
+use Rattle.std.proofs.Common.{sym, ap, ◌∙◌, flat_map}
 use Rattle.declared_types.specs.Lent.{declaration_of}
 use Rattle.slicc_plan.specs.Limits.{beyond, fields_in, most_fields}
 use Rattle.slicc_plan.specs.Order.{first_after}

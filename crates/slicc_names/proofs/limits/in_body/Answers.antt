@@ -1,4 +1,4 @@
-use Rattle.std.proofs.Common.{◌≡◌, sym, ap, ◌∙◌}
+use Rattle.std.proofs.Common.{sym, ap, ◌∙◌}
 use Rattle.slicc_plan.specs.Blocks.{body_locals}
 use Rattle.slicc_plan.specs.Order.{first_after}
 use Rattle.slicc_names.specs.Counting.{told_found}

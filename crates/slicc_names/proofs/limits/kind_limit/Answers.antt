@@ -1,4 +1,4 @@
-use Rattle.std.proofs.Common.{◌≡◌, sym, ap, ◌∙◌}
+use Rattle.std.proofs.Common.{sym, ap, ◌∙◌}
 use Rattle.declared_types.specs.Lent.{declarations_of}
 use Rattle.slicc_plan.specs.Order.{first_after}
 use Rattle.slicc_names.specs.Counting.{is_of_kind, told_found}

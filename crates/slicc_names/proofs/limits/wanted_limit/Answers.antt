@@ -1,4 +1,4 @@
-use Rattle.std.proofs.Common.{◌≡◌, sym, ap, ◌∙◌, find, map}
+use Rattle.std.proofs.Common.{sym, ap, ◌∙◌, find, map}
 use Rattle.std.proofs.lemmas.List.{take_all}
 use Rattle.declared_types.specs.Lent.{declaration_of}
 use Rattle.slicc_plan.specs.Limits.{beyond, members_of_found, most_of_each}

@@ -1,4 +1,4 @@
-use Rattle.std.proofs.Common.{rules, ◌≡◌, ◌++◌, map, flat_map, ap, sym, ◌∙◌}
+use Rattle.std.proofs.Common.{rules, ◌++◌, map, flat_map, ap, sym, ◌∙◌}
 use Rattle.slicc_ast.specs.declared.tree.statement.If.{out-If}
 use Rattle.slicc_ast.specs.declared.tree.statement.Stmt.TheViews.{the_lemmas}
 use Rattle.slicc_plan.specs.Blocks.{body_locals}

@@ -1,4 +1,4 @@
-use Rattle.std.proofs.Common.{◌≡◌, ap, ◌∙◌}
+use Rattle.std.proofs.Common.{ap, ◌∙◌}
 use Rattle.declared_types.specs.Scopes.{scope_at}
 use Rattle.slicc_plan.specs.Order.{first_after}
 use Rattle.slicc_names.proofs.MachinePlaces.{machine_told}

@@ -1,4 +1,4 @@
-use Rattle.std.proofs.Common.{◌≡◌, ap, ◌∙◌, flat_map}
+use Rattle.std.proofs.Common.{ap, ◌∙◌, flat_map}
 use Rattle.declared_types.specs.Scopes.{scope_at}
 use Rattle.slicc_plan.specs.Limits.{beyond_in_declaration}
 use Rattle.slicc_plan.specs.Order.{first_after}

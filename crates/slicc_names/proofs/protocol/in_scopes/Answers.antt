@@ -1,4 +1,4 @@
-use Rattle.std.proofs.Common.{◌≡◌, ◌<◌, length, arith, sym, ap, ◌∙◌}
+use Rattle.std.proofs.Common.{◌<◌, length, arith, sym, ap, ◌∙◌}
 use Rattle.declared_types.specs.Scopes.{scope_at}
 use Rattle.slicc_plan.proofs.Firsts.{first_after-flat_map}
 use Rattle.slicc_plan.specs.Declarations.{everywhere, wide_scopes}

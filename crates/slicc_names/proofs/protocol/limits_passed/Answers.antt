@@ -1,4 +1,4 @@
-use Rattle.std.proofs.Common.{◌≡◌, ap, ◌∙◌, filter}
+use Rattle.std.proofs.Common.{ap, ◌∙◌, filter}
 use Rattle.declared_types.specs.Lent.{declarations_of}
 use Rattle.slicc_plan.specs.Limits.{beyond, is_machine}
 use Rattle.slicc_plan.specs.Order.{first_after}

@@ -1,4 +1,4 @@
-use Rattle.std.proofs.Common.{◌≡◌, sym, ap, ◌∙◌}
+use Rattle.std.proofs.Common.{sym, ap, ◌∙◌}
 use Rattle.declared_types.specs.Scopes.{scope_at}
 use Rattle.slicc_plan.specs.Declarations.{declared_in}
 use Rattle.slicc_plan.specs.Order.{first_after}

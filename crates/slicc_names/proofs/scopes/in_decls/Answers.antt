@@ -1,4 +1,4 @@
-use Rattle.std.proofs.Common.{◌≡◌, flat_map, ap, sym, ◌∙◌}
+use Rattle.std.proofs.Common.{flat_map, ap, sym, ◌∙◌}
 use Rattle.slicc_plan.specs.Declarations.{named_declarations}
 use Rattle.slicc_plan.specs.Scopes.{inner_scopes}
 use Rattle.slicc_plan.specs.Order.{first_after}

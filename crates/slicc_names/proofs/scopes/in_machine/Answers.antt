@@ -1,4 +1,4 @@
-use Rattle.std.proofs.Common.{◌≡◌, ◌∷◌, [], flat_map, map, ap, sym, ◌∙◌}
+use Rattle.std.proofs.Common.{flat_map, ap, sym, ◌∙◌}
 use Rattle.std.proofs.lemmas.Result.{IfOk-weaker}
 use Rattle.slicc_plan.specs.Declarations.{machine_declarations, named_declarations}
 use Rattle.slicc_plan.specs.Order.{first_after}

@@ -1,7 +1,4 @@
-use Rattle.std.proofs.Common.{◌≡◌, flat_map, ap, sym, ◌∙◌}
 use Rattle.slicc_plan.specs.Scopes.{member_scopes}
-use Rattle.slicc_plan.specs.Order.{first_after}
-use Rattle.slicc_plan.specs.TwiceDeclared.{repeated}
 use Rattle.slicc_names.proofs.Steps.{told_in_taken}
 use Rattle.slicc_names.proofs.scopes.in_members.Goals as goal
 

@@ -1,4 +1,4 @@
-use Rattle.std.proofs.Common.{◌≡◌, ◌∷◌, [], true, false, flat_map, map, ap, sym, ◌∙◌, cond, append-nil}
+use Rattle.std.proofs.Common.{◌≡◌, ◌∷◌, [], false, flat_map, map, ap, sym, ◌∙◌, cond, append-nil}
 use Rattle.std.proofs.lemmas.Result.{IfOk-weaker}
 use Rattle.slicc_names.specs.Declaring.{one_member}
 use Rattle.slicc_plan.specs.Declarations.{is_external, member}

@@ -1,4 +1,4 @@
-use Rattle.std.proofs.Common.{◌≡◌, flat_map, ap, sym, ◌∙◌}
+use Rattle.std.proofs.Common.{flat_map, ap, sym, ◌∙◌}
 use Rattle.slicc_names.specs.Repeated.{item_scopes, tree_scopes}
 use Rattle.slicc_plan.specs.Order.{first_after}
 use Rattle.slicc_plan.specs.TwiceDeclared.{repeated}

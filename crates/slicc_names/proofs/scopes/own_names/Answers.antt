@@ -1,7 +1,7 @@
-use Rattle.std.proofs.Common.{◌≡◌, ◌++◌, flat_map, map, ap, sym, ◌∙◌}
+use Rattle.std.proofs.Common.{◌≡◌, ◌++◌, flat_map, ap, ◌∙◌}
 use Rattle.std.proofs.lemmas.Result.{IfOk-weaker}
 use Rattle.slicc_names.specs.Declaring.{one_parameter}
-use Rattle.slicc_plan.specs.Declarations.{named_declarations, parameter}
+use Rattle.slicc_plan.specs.Declarations.{named_declarations}
 use Rattle.slicc_plan.specs.Order.{first_after}
 use Rattle.slicc_plan.specs.TwiceDeclared.{names_of, repeated, repeated_after}
 use Rattle.slicc_names.proofs.Parts.{each_parameter}

@@ -1,4 +1,4 @@
-use Rattle.std.proofs.Common.{◌≡◌, flat_map, ap, sym, ◌∙◌, []}
+use Rattle.std.proofs.Common.{flat_map, ap, sym, ◌∙◌, []}
 use Rattle.std.proofs.lemmas.Result.{IfOk-weaker}
 use Rattle.slicc_plan.proofs.Firsts.{first_after-append}
 use Rattle.slicc_plan.specs.Declarations.{global_declarations}

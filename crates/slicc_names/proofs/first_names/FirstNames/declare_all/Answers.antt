@@ -1,5 +1,3 @@
-use Rattle.std.proofs.Common.{◌≡◌, ◌∷◌, ◌++◌, [], ap, sym, subst}
-use Rattle.slicc_names.specs.Lookups.{FindSame}
 use Rattle.slicc_names.proofs.Repeats.{one_step}
 use Rattle.slicc_names.proofs.first_names.FirstNames.declare_all.Goals as goal
 
