@@ -1,3 +1,4 @@
 pub mod Judging
+pub mod Members
 pub mod Numbers
 pub mod PairValues

@@ -4,6 +4,7 @@
 mod all;
 mod field_types;
 mod fields;
+mod members;
 mod numbers;
 mod prototypes;
 mod rule;
@@ -12,5 +13,6 @@ mod values;
 
 pub use all::{judge_field_types, judge_prototypes, judge_type_names};
 pub use field_types::nature_in;
+pub use members::has_member;
 pub use numbers::number_value;
 pub use values::{judge_literal, judge_object_attributes};
