@@ -1,0 +1,68 @@
+-- The bodies of all machines, and what is found in each.
+use Rattle.std.proofs.Common.{◌≡◌, ◌+◌, ◌<◌, ◌≤◌, ◌++◌, ◌∷◌, ℕ, List, [], Option, length, map, get_or, take, drop, drop-cons, add-one, flat_map, refl, sym, ap, ◌∙◌, append-nil}
+use Rattle.std.proofs.lemmas.List.{take_all, take_more}
+use Rattle.std.proofs.lemmas.Grind.{flat_map-append}
+use Rattle.slicc_ast.specs.declared.tree.item.Tree.{Tree}
+use Rattle.slicc_ast.specs.declared.tree.machine.Machine.{Machine}
+use Rattle.slicc_plan.specs.declared.broken.Broken.{Broken}
+use Rattle.slicc_plan.specs.Declarations.{Scope, declared_in, everywhere, within, machines_of, wide_scopes}
+use Rattle.slicc_plan.specs.Machines.{in_each_from}
+use Rattle.slicc_plan.specs.Order.{first_after}
+use Rattle.slicc_plan.proofs.Firsts.{first_after-append}
+use Rattle.std.specs.List.{fold}
+use Rattle.slicc_plan.specs.declared.built_in.BuiltInType.TheVariants.{Directory}
+use Rattle.slicc_plan.specs.BodyParts.{Names, directory_names, is_table_type, name_of_type, names_in, names_of_written, table_names, with_name, written_functions}
+use Rattle.slicc_plan.specs.BodySizes.{large_bodies}
+use Rattle.slicc_plan.specs.CallsBetween.{call_circles}
+use Rattle.slicc_plan.specs.ReadOnly.{reading_changes}
+use Rattle.slicc_plan.specs.Types.{is_built_in, type_in}
+use Rattle.declared_types.specs.Scopes.{scope_at}
+use Rattle.call_graph.proofs.FirstOf.{first_of_three}
+use Rattle.slicc_flow.specs.Tables.{is_directory_name, is_table_name}
+use Rattle.slicc_flow.specs.declared.machine.MachineBodies.{MachineBodies}
+use Rattle.slicc_flow.specs.Machines.{all_bodies, bodies_at, bodies_in, bodies_of_scope, changes_of, circles_of, each_from, large_of}
+
+pub each_same : (trees : List Tree) (found : ℕ → MachineBodies → List Broken) (number : ℕ) (ms : List Machine) → each_from found number (map (bodies_in trees) ms) ≡ in_each_from number (λ n m. found n (bodies_in trees m)) ms
+each_same trees found number [] = refl
+each_same trees found number (m ∷ ms) = ap (λ xs. found number (bodies_in trees m) ++ xs) (each_same trees found (number + 1) ms)
+
+within_all : (trees : List Tree) (ms : List Machine) → flat_map (bodies_of_scope trees) (map within ms) ≡ map (bodies_in trees) ms
+within_all trees [] = refl
+within_all trees (m ∷ ms) = ap (λ xs. bodies_in trees m ∷ xs) (within_all trees ms)
+
+pub scopes_all : (trees : List Tree) (n : ℕ) → length (wide_scopes trees) ≤ n → flat_map (bodies_of_scope trees) (take n (wide_scopes trees)) ≡ all_bodies trees
+scopes_all trees n le = ap (flat_map (bodies_of_scope trees)) (take_all n (wide_scopes trees) le) ∙ within_all trees (machines_of trees)
+
+pub scope_step : (trees : List Tree) (scope : ℕ) (old new : List MachineBodies) → scope < length (wide_scopes trees) → old ≡ flat_map (bodies_of_scope trees) (take scope (wide_scopes trees)) → new ≡ old ++ bodies_at trees scope → new ≡ flat_map (bodies_of_scope trees) (take (scope + 1) (wide_scopes trees))
+scope_step trees scope old new below is next =
+    next ∙ ap (λ xs. xs ++ bodies_at trees scope) is
+    ∙ ap (λ xs. flat_map (bodies_of_scope trees) (take scope (wide_scopes trees)) ++ xs) (sym (append-nil (bodies_at trees scope)))
+    ∙ sym (flat_map-append (bodies_of_scope trees) (take scope (wide_scopes trees)) (get_or (wide_scopes trees) scope everywhere ∷ []))
+    ∙ ap (flat_map (bodies_of_scope trees)) (sym (take_more (wide_scopes trees) scope everywhere below))
+
+pub each_step : (found : ℕ → MachineBodies → List Broken) (bs : List MachineBodies) (k : ℕ) (d : MachineBodies) (o p start : Option Broken) (all : List Broken) → k < length bs → first_after start all ≡ first_after o (each_from found k (drop k bs)) → p ≡ first_after o (found k (get_or bs k d)) → first_after start all ≡ first_after p (each_from found (k + 1) (drop (k + 1) bs))
+each_step found bs k d o p start all below is next =
+    let split : drop k bs ≡ get_or bs k d ∷ drop (k + 1) bs = rw (add-one) (drop-cons bs k d below) in
+    is ∙ ap (λ xs. first_after o (each_from found k xs)) split
+    ∙ first_after-append o (found k (get_or bs k d)) (each_from found (k + 1) (drop (k + 1) bs))
+    ∙ ap (λ q. first_after q (each_from found (k + 1) (drop (k + 1) bs))) (sym next)
+
+abbrev named_by : List (List ℕ) → List (List ℕ) → List (List ℕ) → Names
+named_by fs ts ds = record { functions = fs; tables = ts; directories = ds }
+
+-- what names stand for in the machine of a scope
+pub named : (trees : List Tree) (scope : ℕ) (m : Machine) (n : Names) (fs ts ds : List (List ℕ)) → scope_at trees scope ≡ within m → n.functions ≡ fs → n.tables ≡ ts → n.directories ≡ ds → fs ≡ names_of_written (written_functions m) → ts ≡ fold with_name [] (flat_map (name_of_type (is_table_name trees scope)) (declared_in trees (scope_at trees scope))) → ds ≡ fold with_name [] (flat_map (name_of_type (is_directory_name trees scope)) (declared_in trees (scope_at trees scope))) → n ≡ names_in trees m
+named trees scope m n fs ts ds at f t d fi ti di =
+    let tables : n.tables ≡ table_names trees m = t ∙ ti ∙ ap (λ s. fold with_name [] (flat_map (name_of_type (λ kind. is_table_type (type_in trees s kind))) (declared_in trees s))) at in
+    let directories : n.directories ≡ directory_names trees m = d ∙ di ∙ ap (λ s. fold with_name [] (flat_map (name_of_type (λ kind. is_built_in Directory (type_in trees s kind))) (declared_in trees s))) at in
+    let functions : n.functions ≡ names_of_written (written_functions m) = f ∙ fi in
+    ap (λ x. named_by x n.tables n.directories) functions ∙ ap (λ x. named_by (names_of_written (written_functions m)) x n.directories) tables
+    ∙ ap (λ x. named_by (names_of_written (written_functions m)) (table_names trees m) x) directories
+
+-- three lists one behind the other, found in machines
+pub judged : (first p q r : Option Broken) (trees : List Tree) (machines : List MachineBodies) → machines ≡ all_bodies trees → p ≡ first_after first (each_from circles_of 0 machines) → q ≡ first_after p (each_from large_of 0 machines) → r ≡ first_after q (each_from changes_of 0 machines) → r ≡ first_after first ((call_circles trees ++ large_bodies trees) ++ reading_changes trees)
+judged first p q r trees machines is c l h =
+    let one : p ≡ first_after first (call_circles trees) = c ∙ ap (λ ms. first_after first (each_from circles_of 0 ms)) is ∙ ap (first_after first) (each_same trees circles_of 0 (machines_of trees)) in
+    let two : q ≡ first_after p (large_bodies trees) = l ∙ ap (λ ms. first_after p (each_from large_of 0 ms)) is ∙ ap (first_after p) (each_same trees large_of 0 (machines_of trees)) in
+    let three : r ≡ first_after q (reading_changes trees) = h ∙ ap (λ ms. first_after q (each_from changes_of 0 ms)) is ∙ ap (first_after q) (each_same trees changes_of 0 (machines_of trees)) in
+    first_of_three first p q r (call_circles trees) (large_bodies trees) (reading_changes trees) one two three

@@ -1,0 +1,42 @@
+-- The bodies of machines, and what the rules of flow find in them. Machines are numbered in the order of the text.
+use Rattle.std.specs.Prelude.{ℕ, ◌+◌, ◌++◌, List, [], ◌∷◌, map}
+use Rattle.slicc_ast.specs.declared.tree.item.Tree.{Tree}
+use Rattle.slicc_ast.specs.declared.tree.machine.Machine.{Machine}
+use Rattle.slicc_plan.specs.declared.broken.Broken.{Broken}
+use Rattle.slicc_plan.specs.BodyParts.{action_bodies, function_bodies, port_bodies}
+use Rattle.slicc_plan.specs.BodySizes.{large_among}
+use Rattle.slicc_plan.specs.CallsBetween.{circles_among}
+use Rattle.slicc_plan.specs.Declarations.{Scope, everywhere, within, machines_of}
+use Rattle.slicc_plan.specs.ReadOnly.{changes_among, state_function}
+use Rattle.declared_types.specs.Scopes.{scope_at}
+use Rattle.slicc_flow.specs.declared.machine.MachineBodies.{MachineBodies}
+
+abbrev pub bodies_in : List Tree → Machine → MachineBodies
+bodies_in trees m =
+    record { functions = function_bodies trees m; actions = action_bodies trees m; ports = port_bodies trees m; state = state_function m }
+
+abbrev pub bodies_of_scope : List Tree → Scope → List MachineBodies
+bodies_of_scope trees everywhere = []
+bodies_of_scope trees (within m) = bodies_in trees m ∷ []
+
+abbrev pub bodies_at : List Tree → ℕ → List MachineBodies
+bodies_at trees scope = bodies_of_scope trees (scope_at trees scope)
+
+abbrev pub all_bodies : List Tree → List MachineBodies
+all_bodies trees = map (bodies_in trees) (machines_of trees)
+
+-- of these machines, which are numbered from here on
+abbrev pub each_from : (ℕ → MachineBodies → List Broken) → ℕ → List MachineBodies → List Broken
+each_from found number [] = []
+each_from found number (b ∷ bs) = found number b ++ each_from found (number + 1) bs
+
+abbrev pub circles_of : ℕ → MachineBodies → List Broken
+circles_of number b = circles_among number b.functions
+
+abbrev pub large_of : ℕ → MachineBodies → List Broken
+large_of number b =
+    large_among number b.functions b.functions ++ large_among number b.functions b.actions
+    ++ large_among number b.functions b.ports
+
+abbrev pub changes_of : ℕ → MachineBodies → List Broken
+changes_of number b = changes_among number b.functions b.ports b.state

@@ -1,0 +1,89 @@
+//! The rules of flow, over all machines.
+ghost use Rattle.std.specs.Prelude.{◌≡◌, ◌++◌, IfOk, OnOk};
+ghost use Rattle.slicc_plan.specs.BodySizes.{large_bodies};
+ghost use Rattle.slicc_plan.specs.CallsBetween.{call_circles};
+ghost use Rattle.slicc_plan.specs.Order.{first_after};
+ghost use Rattle.slicc_plan.specs.ReadOnly.{reading_changes};
+ghost use Rattle.slicc_flow.specs.Machines.{all_bodies, bodies_at, changes_of, circles_of, each_from, large_of};
+
+use crate::machine::{MachineBodies, machine_bodies};
+use call_graph::{circles, large_bodies, reading_changes};
+use declared_types::{Scope, Scopes};
+use ruby_base::{NoMemory, Seq};
+use slicc_plan::Broken;
+use std::alloc::Global;
+
+fn machine_number(number: usize) -> Result<u16, NoMemory>
+    ensures { IfOk result (λ r. r ≡ number) }
+{
+    if number > u16::MAX as usize {
+        return Err(NoMemory);
+    }
+    Ok(number as u16)
+}
+
+fn add_machine(
+    alloc: Global,
+    scopes: &Scopes<'_>,
+    scope: usize,
+    list: &mut Seq<MachineBodies>,
+) -> Result<(), NoMemory>
+    ensures { OnOk result (list.new ≡ list.old ++ bodies_at scopes.now.trees.now scope) }
+{
+    match scopes.scope(scope) {
+        Scope::Everywhere => Ok(()),
+        Scope::Within(m) => list.push(machine_bodies(alloc, scopes, scope, m)?),
+    }
+}
+
+/// The bodies of all machines.
+pub fn all_bodies(alloc: Global, scopes: &Scopes<'_>) -> Result<Seq<MachineBodies>, NoMemory>
+    ensures { IfOk result (λ r. r ≡ all_bodies scopes.now.trees.now) }
+{
+    let mut list = Seq::new(alloc);
+    for scope in 0..scopes.len() {
+        add_machine(alloc, scopes, scope, &mut list)?;
+    }
+    Ok(list)
+}
+
+fn all_circles(alloc: Global, first: Option<Broken>, machines: &[MachineBodies]) -> Result<Option<Broken>, NoMemory>
+    ensures { IfOk result (λ r. r ≡ first_after first (each_from circles_of 0 machines.now)) }
+{
+    let mut first = first;
+    for (number, b) in machines.iter().enumerate() {
+        first = circles(alloc, first, machine_number(number)?, &b.functions)?;
+    }
+    Ok(first)
+}
+
+fn all_large(alloc: Global, first: Option<Broken>, machines: &[MachineBodies]) -> Result<Option<Broken>, NoMemory>
+    ensures { IfOk result (λ r. r ≡ first_after first (each_from large_of 0 machines.now)) }
+{
+    let mut first = first;
+    for (number, b) in machines.iter().enumerate() {
+        first = large_bodies(alloc, first, machine_number(number)?, &b.functions, &b.actions, &b.ports)?;
+    }
+    Ok(first)
+}
+
+fn all_changes(alloc: Global, first: Option<Broken>, machines: &[MachineBodies]) -> Result<Option<Broken>, NoMemory>
+    ensures { IfOk result (λ r. r ≡ first_after first (each_from changes_of 0 machines.now)) }
+{
+    let mut first = first;
+    for (number, b) in machines.iter().enumerate() {
+        first = reading_changes(alloc, first, machine_number(number)?, &b.functions, &b.ports, b.state)?;
+    }
+    Ok(first)
+}
+
+/// The first broken rule after those of calls in circles, of bodies that are too large and of what only reads.
+pub fn flow_broken(alloc: Global, first: Option<Broken>, scopes: &Scopes<'_>) -> Result<Option<Broken>, NoMemory>
+    ensures { IfOk result (λ r. r ≡ first_after first (call_circles scopes.now.trees.now
+        ++ large_bodies scopes.now.trees.now ++ reading_changes scopes.now.trees.now)) }
+{
+    let machines = all_bodies(alloc, scopes)?;
+    let first = all_circles(alloc, first, &machines)?;
+    let first = all_large(alloc, first, &machines)?;
+    all_changes(alloc, first, &machines)
+}

@@ -1,0 +1,9 @@
+//! The rules of calls between the functions of a machine, of the sizes of bodies and of what only reads.
+#![tactic(auto)]
+
+mod judge;
+mod machine;
+mod tables;
+
+pub use judge::flow_broken;
+pub use machine::MachineBodies;

@@ -1,0 +1,79 @@
+//! The bodies of a machine.
+ghost use Rattle.std.specs.Prelude.{◌≡◌, IfOk, OnOk};
+ghost use Rattle.slicc_plan.specs.BodyParts.{action_bodies, bodies_of, function_bodies, names_in, port_bodies, written_actions, written_functions, written_ports};
+ghost use Rattle.slicc_plan.specs.Declarations.{within};
+ghost use Rattle.slicc_plan.specs.ReadOnly.{state_function};
+ghost use Rattle.declared_types.specs.Scopes.{scope_at};
+ghost use Rattle.body_parts.specs.Written.{written_list};
+ghost use Rattle.slicc_flow.specs.Machines.{bodies_in};
+
+use crate::tables::{directories, tables};
+use body_parts::{Lent, Names, actions, bodies, functions, ports};
+use declared_types::Scopes;
+use ruby_base::{NoMemory, Seq};
+use slicc_ast::tree::Machine;
+use slicc_plan::Body;
+use std::alloc::Global;
+
+/// The bodies of a machine by their parts.
+#[derive(Drop)]
+pub struct MachineBodies {
+    pub functions: Seq<Body>,
+    pub actions: Seq<Body>,
+    pub ports: Seq<Body>,
+    /// The number of the function `getState`, where there is one.
+    pub state: Option<u32>,
+}
+
+// What names stand for in the machine that has this scope, and its functions.
+fn names_of<'a>(
+    alloc: Global,
+    scopes: &Scopes<'_>,
+    scope: usize,
+    m: &'a Machine,
+) -> Result<(Names, Seq<Lent<'a>>), NoMemory>
+    requires { scope_at scopes.now.trees.now scope ≡ within m.now }
+    ensures names { IfOk result (λ r. r.0 ≡ names_in scopes.now.trees.now m.now) }
+    ensures functions { IfOk result (λ r. written_list r.1 ≡ written_functions m.now) }
+{
+    let tables = tables(alloc, scopes, scope)?;
+    let directories = directories(alloc, scopes, scope)?;
+    let (functions, written) = functions(alloc, m)?;
+    Ok((Names::new(functions, tables, directories), written))
+}
+
+fn actions_of(alloc: Global, names: &Names, m: &Machine) -> Result<Seq<Body>, NoMemory>
+    ensures { IfOk result (λ r. r ≡ bodies_of names.now (written_actions m.now)) }
+{
+    let (_, written) = actions(alloc, m)?;
+    bodies(alloc, names, &written)
+}
+
+fn ports_of(alloc: Global, names: &Names, m: &Machine) -> Result<Seq<Body>, NoMemory>
+    ensures { IfOk result (λ r. r ≡ bodies_of names.now (written_ports m.now)) }
+{
+    let written = ports(alloc, m)?;
+    bodies(alloc, names, &written)
+}
+
+/// The bodies of the machine that has this scope.
+pub fn machine_bodies(
+    alloc: Global,
+    scopes: &Scopes<'_>,
+    scope: usize,
+    m: &Machine,
+) -> Result<MachineBodies, NoMemory>
+    requires { scope_at scopes.now.trees.now scope ≡ within m.now }
+    ensures { IfOk result (λ r. r ≡ bodies_in scopes.now.trees.now m.now) }
+{
+    let (names, written) = names_of(alloc, scopes, scope, m)?;
+    let functions = bodies(alloc, &names, &written)?;
+    let actions = actions_of(alloc, &names, m)?;
+    let ports = ports_of(alloc, &names, m)?;
+    Ok(MachineBodies {
+        functions,
+        actions,
+        ports,
+        state: names.function("getState".as_bytes()),
+    })
+}
