@@ -6,3 +6,4 @@ mod NumbersOfNames
 mod Sharing
 mod OneRow
 pub mod TablesOfMachines
+mod Summing

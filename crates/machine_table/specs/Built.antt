@@ -12,6 +12,7 @@ use Rattle.machine_table.specs.TablesOf.{AreTablesOf}
 
 pub data IsBuilt (trees : List Tree) : Result Tables TableFault → Type 0 where
   tables : {t : Tables} → shared_pairs trees ≡ [] → AreTablesOf trees (answer t) → IsBuilt trees (Ok t)
-  shared : {b : Broken} → IsFirstBroken (shared_pairs trees) b → IsBuilt trees (Err (Duplicate (unwrap_or b.other b.place) b.place))
+  shared : {b : Broken} → IsFirstBroken (shared_pairs trees) b
+      → IsBuilt trees (Err (Duplicate (unwrap_or b.other b.place) b.place))
   -- memory may run out at any time
   no_memory : IsBuilt trees (Err NoMemory)

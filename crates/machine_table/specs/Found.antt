@@ -1,5 +1,6 @@
 -- The numbers of names. A number is found by a name where a name was given one, and the first counts.
-use Rattle.std.specs.Prelude.{◌≡◌, ℕ, Option, None, Some, List, cond, filter, filter_map, flat_map, option_and_then, position, slice_get}
+use Rattle.std.specs.Prelude.{◌≡◌, ℕ, Option, None, Some, List}
+use Rattle.std.specs.Prelude.{cond, filter, filter_map, flat_map, option_and_then, position, slice_get}
 use Rattle.std.specs.Option.{option_or}
 use Rattle.std.specs.Str.{bytes_eq}
 use Rattle.slicc_ast.specs.declared.tree.name.Name.{Name}

@@ -2,6 +2,7 @@
 #![tactic(auto)]
 
 mod by_name;
+mod counting;
 mod machine_list;
 mod making;
 mod numbers;
@@ -13,6 +14,7 @@ mod table;
 mod written;
 
 pub use by_name::kept_number;
+pub use counting::counts;
 pub use machine_list::machines;
 pub use making::{build, tabulate};
 pub use parts::{event_count, events, state_count, states};

@@ -93,7 +93,8 @@ pub fn tabulate(
 }
 
 /// The tables of a protocol's machines. `Duplicate` comes exactly where a state and an event of a machine have two written
-/// transitions, with the first such second one, in the order of machines and of the text, and the earliest that has a pair with it.
+/// transitions, with the first such second one, in the order of machines and of the text, and the earliest that has a pair
+/// with it.
 pub fn build(alloc: Global, trees: &[Tree]) -> Result<Tables, TableFault>
     ensures { IsBuilt trees.now result }
 {

@@ -65,10 +65,11 @@ pub fn event_numbers(alloc: Global, m: &Machine) -> Result<Numbers, NoMemory>
     }
 }
 
-fn add_actions<'a>(found: &mut Seq<&'a Action>, declarations: &'a [Decl]) -> Result<(), NoMemory>
-    ensures { OnOk result (map (λ a. action a.now) found.new ≡ map (λ a. action a.now) found.old ++ actions_among declarations.now) }
+// Adds the actions that are declared.
+fn add_actions<'a>(found: &mut Seq<&'a Action>, ds: &'a [Decl]) -> Result<(), NoMemory>
+    ensures { OnOk result (map (λ a. action a.now) found.new ≡ map (λ a. action a.now) found.old ++ actions_among ds.now) }
 {
-    for d in declarations {
+    for d in ds {
         if let Decl::Action(a) = d {
             found.push(a)?;
         }

@@ -1,15 +1,16 @@
 //! The states and the events of a machine.
 ghost use Rattle.std.specs.Prelude.{◌≡◌, find, flat_map, length};
 ghost use Rattle.std.specs.Option.{option_copied, option_map};
-ghost use Rattle.slicc_plan.specs.Declarations.{enumeration, machine_declarations, named_declarations, states as states_declaration};
+ghost use Rattle.slicc_plan.specs.Declarations.{enumeration, machine_declarations, named_declarations};
+ghost use Rattle.slicc_plan.specs.Declarations.{states as states_declaration};
 ghost use Rattle.slicc_plan.specs.Limits.{event_members, is_events, is_states, state_members};
 
 use slicc_ast::tree::{Decl, Enumeration, Machine, States};
 
-fn first_states(declarations: &[Decl]) -> Option<&States>
-    ensures { option_map states_declaration (option_copied result) ≡ find is_states (flat_map named_declarations declarations.now) }
+fn first_states(ds: &[Decl]) -> Option<&States>
+    ensures { option_map states_declaration (option_copied result) ≡ find is_states (flat_map named_declarations ds.now) }
 {
-    let mut rest = declarations;
+    let mut rest = ds;
     while let [d, others @ ..] = rest {
         if let Decl::States(s) = d {
             return Some(s);
@@ -25,10 +26,10 @@ fn is_of_events(e: &Enumeration) -> bool
     e.name.text.as_slice() == b"Event".as_slice()
 }
 
-fn first_events(declarations: &[Decl]) -> Option<&Enumeration>
-    ensures { option_map enumeration (option_copied result) ≡ find is_events (flat_map named_declarations declarations.now) }
+fn first_events(ds: &[Decl]) -> Option<&Enumeration>
+    ensures { option_map enumeration (option_copied result) ≡ find is_events (flat_map named_declarations ds.now) }
 {
-    let mut rest = declarations;
+    let mut rest = ds;
     while let [d, others @ ..] = rest {
         if let Decl::Enumeration(e) = d {
             if is_of_events(e) {

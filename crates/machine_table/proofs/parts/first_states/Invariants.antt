@@ -4,7 +4,7 @@ use Rattle.slicc_plan.specs.Limits.{is_states}
 use Rattle.machine_table.proofs.parts.first_states.Given as goal
 
 abbrev pub invariant-loop-rest : goal.invariant-loop-rest
-invariant-loop-rest l = find is_states (flat_map named_declarations l.fn.declarations) ≡ find is_states (flat_map named_declarations l.rest)
+invariant-loop-rest l = find is_states (flat_map named_declarations l.fn.ds) ≡ find is_states (flat_map named_declarations l.rest)
 
 abbrev pub decreases-loop-rest : goal.decreases-loop-rest
 decreases-loop-rest l = length l.rest
