@@ -5,6 +5,7 @@ mod Found
 mod GlobalRepeats
 mod LocalPlaces
 mod MachinePlaces
+mod Numbers
 mod Parts
 mod Places
 mod Repeats
