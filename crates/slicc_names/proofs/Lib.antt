@@ -5,7 +5,6 @@ mod Found
 mod GlobalRepeats
 mod LocalPlaces
 mod MachinePlaces
-mod Numbers
 mod Parts
 mod Places
 mod Repeats
