@@ -1,4 +1,5 @@
 pub mod Counting
 pub mod Declaring
 pub mod Lookups
+pub mod Names
 pub mod Repeated

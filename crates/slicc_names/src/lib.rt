@@ -10,10 +10,12 @@ mod globals;
 mod kinds;
 mod limits;
 mod locals;
+mod names;
 mod protocol;
 mod scopes;
 mod twice;
 
+pub use names::Names;
 pub use protocol::limits_passed;
 pub use slicc_plan::{NoMemory, Refusal};
 pub use twice::names_twice_declared;

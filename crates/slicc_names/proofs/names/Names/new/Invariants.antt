@@ -1,0 +1,7 @@
+use Rattle.std.proofs.Common.{◌≡◌, map, take}
+use Rattle.slicc_names.specs.Names.{scope_names}
+use Rattle.slicc_plan.specs.Declarations.{wide_scopes}
+use Rattle.slicc_names.proofs.names.Names.new.Given as goal
+
+abbrev pub invariant-loop-number : goal.invariant-loop-number
+invariant-loop-number l = l.all ≡ map (scope_names l.scopes.trees.now) (take l.number (wide_scopes l.scopes.trees.now))
