@@ -58,3 +58,7 @@ without_message messages number = filter (λ o. not (same_number o.number number
 -- the message arrives again at a cycle, and counts as recycled from then on
 abbrev pub recycled_message : Message → ℕ → Message
 recycled_message m arrival = record m { arrival = arrival; recycled = true }
+
+-- with the message put off to a cycle
+abbrev pub with_recycled : List Message → Message → ℕ → List Message
+with_recycled messages m arrival = with_message (without_message messages m.number) (recycled_message m arrival)

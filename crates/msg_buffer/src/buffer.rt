@@ -2,7 +2,7 @@ ghost use Rattle.std.specs.Prelude.{◌≡◌, ◌<◌, ◌≤◌, ◌+◌, ◌�
 ghost use Rattle.std.specs.Option.{option_copied};
 ghost use Rattle.std.specs.VecDeque.{deque_len, deque_capacity};
 ghost use Rattle.ruby_value.specs.declared.message.Message.{Message as MessageRecord};
-ghost use Rattle.msg_buffer.specs.Queue.{IsFront, IsNew, IsQueue, front, is_after, next_after, recycled_message, with_message, without_message};
+ghost use Rattle.msg_buffer.specs.Queue.{IsFront, IsNew, IsQueue, front, is_after, next_after, with_message, with_recycled, without_message};
 
 use crate::{Message, MsgNo, NoMemory};
 use std::alloc::Global;
@@ -144,8 +144,8 @@ impl Buffer {
     /// Gives the front another arrival, with which it takes its place again, and counts as recycled; its number, which stays,
     /// is the answer. It is `NotReady` exactly where there is no front, and then the buffer is as it was. It takes no memory.
     pub fn recycle(&mut self, now: u64, arrival: u64) -> Result<MsgNo, NotReady>
-        ensures number { IfOk result (λ number. IfSome (front self.old.kept now) (λ m. number ≡ m.number)) }
-        ensures after { IfOk result (λ number. IfSome (front self.old.kept now) (λ m. self.new.kept ≡ with_message (without_message self.old.kept number) (recycled_message m arrival))) }
+        ensures number { IfOk result (λ n. IfSome (front self.old.kept now) (λ m. n ≡ m.number)) }
+        ensures after { OnOk result (IfSome (front self.old.kept now) (λ m. self.new.kept ≡ with_recycled self.old.kept m arrival)) }
         ensures not_ready { OnErr result (front self.old.kept now ≡ None) }
         ensures ready { IsOk result ↔ IsSome (front self.old.kept now) }
         ensures refused { OnErr result (self.new.kept ≡ self.old.kept) }
@@ -163,8 +163,8 @@ impl Buffer {
         }
     }
 
-    /// The least message by arrival and number that comes after the given pair and has an arrival up to `now`, or `None` exactly
-    /// where there is none.
+    /// The least message by arrival and number that comes after the given pair and has an arrival up to `now`, or `None`
+    /// exactly where there is none.
     pub fn next_after(&self, now: u64, arrival: u64, number: MsgNo) -> Option<&Message>
         ensures { option_copied result ≡ next_after self.now.kept now arrival number }
     {

@@ -1,6 +1,6 @@
--- That waking a line takes no memory, since for each line an empty list is kept with places for all messages under it, and that
--- a message can be put under any line without memory while there is room: an empty list is then ready for it, with places for as
--- many as that line will have. `longest` is a bound on what any line has.
+-- That waking a line takes no memory, since for each line an empty list is kept with places for all messages under it; and
+-- that a message can be put under any line without memory while there is room: an empty list is then ready for it, with
+-- places for as many as that line will have. `longest` is a bound on what any line has.
 use Rattle.std.specs.Prelude.{◌≡◌, ◌<◌, ◌≤◌, ◌+◌, ℕ, Option, None, Some, List, [], length, vec_capacity}
 use Rattle.std.specs.List.{All, filter}
 use Rattle.std.specs.Ordering.{nat_cmp}
@@ -36,8 +36,11 @@ pub record IsWide (wanted : ℕ) (places : Vec Message Global) : Type 0 where
   pub empty : places.items ≡ []
   pub enough : wanted ≤ vec_capacity places
 
--- the parts of a stall map that has room for so many more messages
-pub record IsPrepared (stalled : List Stalled) (entries : ℕ) (lanes : map.FinMap nat_cmp Lane) (lines : ℕ) (pool : List (Vec Message Global)) (longest room : ℕ) : Type 0 where
+-- the parts of a stall map with room for `room` more messages: its list has places for `entries` more, its map from lines for
+-- `lines` more, and its pool holds empty lists
+pub record IsPrepared
+    (stalled : List Stalled) (entries : ℕ) (lanes : map.FinMap nat_cmp Lane) (lines : ℕ)
+    (pool : List (Vec Message Global)) (longest room : ℕ) : Type 0 where
   pub ascends : Ascends stalled
   pub serves : ServesAll stalled longest lanes
   pub entries_left : room ≤ entries

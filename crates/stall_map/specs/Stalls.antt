@@ -1,6 +1,6 @@
 -- The messages that wait under lines, as the list in which their numbers ascend, each with its line. A message keeps its
 -- arrival and its number while it waits, and woken ones come in increasing number; both are this project's own.
-use Rattle.std.specs.Prelude.{◌≢◌, ℕ, Bool, true, Option, None, Some, List, ◌==◌, not, map, slice_get}
+use Rattle.std.specs.Prelude.{◌≡◌, ◌≢◌, ℕ, Bool, true, Option, None, Some, List, ◌==◌, not, insert, map, slice_get}
 use Rattle.std.specs.List.{All, AllPairs, filter}
 use Rattle.ruby_value.specs.declared.message.Message.{Message}
 use Rattle.ruby_value.specs.declared.message.MsgNo.{MsgNo}
@@ -22,6 +22,11 @@ IsNew stalled number = All (λ o. o.message.number ≢ number) stalled
 -- with a message whose number is new, under a line
 abbrev pub with_stalled : List Stalled → ℕ → Message → List Stalled
 with_stalled stalled line m = inserted comes_before stalled (record { line = line; message = m })
+
+-- the place at which a message of a number goes into the list
+abbrev pub IsPlaceOf : List Stalled → MsgNo → ℕ → Type 0
+IsPlaceOf stalled number at =
+    (s : Stalled) → s.message.number ≡ number → insert stalled at s ≡ with_stalled stalled s.line s.message
 
 abbrev pub is_under : ℕ → Stalled → Bool
 is_under line s = s.line == line

@@ -1,8 +1,7 @@
 // Messages that wait, in the order of their numbers.
-ghost use Rattle.std.specs.Prelude.{◌≡◌, ◌≤◌, ◌+◌, [], not, length, filter, insert, vec_capacity};
+ghost use Rattle.std.specs.Prelude.{◌≡◌, ◌≤◌, [], length, filter, vec_capacity};
 ghost use Rattle.std.specs.VecDeque.{deque_len, deque_capacity};
-ghost use Rattle.stall_map.specs.declared.stalled.Stalled.{Stalled as StalledRecord};
-ghost use Rattle.stall_map.specs.Stalls.{Ascends, IsNew, is_under, messages_under, with_stalled, without_line};
+ghost use Rattle.stall_map.specs.Stalls.{Ascends, IsNew, IsPlaceOf, is_under, messages_under, without_line};
 
 use crate::{Message, MsgNo, Stalled};
 use std::collections::VecDeque;
@@ -12,7 +11,7 @@ pub(crate) fn place_of(stalled: &VecDeque<Stalled>, number: MsgNo) -> usize
     requires ascends { Ascends stalled.now.items }
     requires new { IsNew stalled.now.items number }
     ensures bound { result ≤ deque_len stalled.now }
-    ensures place { (s : StalledRecord) → s.message.number ≡ number → insert stalled.now.items result s ≡ with_stalled stalled.now.items s.line s.message }
+    ensures place { IsPlaceOf stalled.now.items number result }
 {
     let mut at = stalled.len();
     while at > 0 && number.is_before(stalled[at - 1].message.number) {

@@ -71,8 +71,8 @@ impl StallMap {
         !self.stalled.iter().any(|s| s.message.number == number)
     }
 
-    /// Makes room for so many more messages, under whatever lines, or answers that there is no memory for them. The messages stay
-    /// as they are.
+    /// Makes room for so many more messages, under whatever lines, or answers that there is no memory for them. The messages
+    /// stay as they are.
     pub fn reserve(&mut self, more: usize) -> Result<(), NoMemory>
         ensures same { self.new.kept ≡ self.old.kept }
         ensures ok { OnOk result (more ≤ self.new.room) }
@@ -120,8 +120,8 @@ impl StallMap {
         }
     }
 
-    /// Lets a message with a new number wait under a line. Without memory for it the map is as it was, and the message comes back;
-    /// where there is room, none is wanted.
+    /// Lets a message with a new number wait under a line. Without memory for it the map is as it was, and the message comes
+    /// back; where there is room, none is wanted.
     pub fn put(&mut self, line: u64, m: Message) -> Result<(), (NoMemory, Message)>
         requires new { IsNew self.old.kept m.number }
         ensures ok { OnOk result (self.new.kept ≡ with_stalled self.old.kept line m) }
@@ -150,8 +150,8 @@ impl StallMap {
         }
     }
 
-    /// Takes out all messages that wait, in increasing number, with their old arrivals and numbers. Without memory for the list of
-    /// them the map is as it was.
+    /// Takes out all messages that wait, in increasing number, with their old arrivals and numbers. Without memory for the list
+    /// of them the map is as it was.
     pub fn wake_all(&mut self) -> Result<Seq<Message>, NoMemory>
         ensures woken { IfOk result (λ all. all ≡ messages_of self.old.kept) }
         ensures after { OnOk result (self.new.kept ≡ []) }
@@ -166,8 +166,8 @@ impl StallMap {
         Ok(Seq::of(all))
     }
 
-    /// The message of the least number above the given one, or of the least number, with its line, or `None` exactly where there
-    /// is none.
+    /// The message of the least number above the given one, or of the least number, with its line, or `None` exactly where
+    /// there is none.
     pub fn next_after(&self, number: Option<MsgNo>) -> Option<(u64, &Message)>
         ensures { option_map (λ r. record { line = r.0; message = r.1.now }) result ≡ next_after self.now.kept number }
     {
