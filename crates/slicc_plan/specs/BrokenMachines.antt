@@ -13,5 +13,5 @@ use Rattle.slicc_plan.specs.TwoTransitions.{shared_pairs}
 
 abbrev pub broken_machines : List Tree → List Broken
 broken_machines trees =
-    call_circles trees ++ large_bodies trees ++ shared_pairs trees ++ wrong_state_functions trees
-    ++ wrong_networks trees ++ missing_machine trees ++ missing_parts trees ++ reading_changes trees
+    call_circles trees ++ large_bodies trees ++ reading_changes trees ++ shared_pairs trees ++ wrong_state_functions trees
+    ++ wrong_networks trees ++ missing_machine trees ++ missing_parts trees
