@@ -1,13 +1,14 @@
 //! How many lines of its tables a transition needs.
-ghost use Rattle.std.specs.Prelude.{◌≡◌, ◌++◌, ◌==◌, IfOk, OnOk};
+ghost use Rattle.std.specs.Prelude.{◌≡◌, ◌++◌, ◌==◌, IfOk, OnOk, map};
 ghost use Rattle.std.specs.List.{count_by};
 ghost use Rattle.slicc_plan.specs.BodyParts.{number_in};
+ghost use Rattle.slicc_plan.specs.Machines.{transitions_of};
 ghost use Rattle.slicc_plan.specs.TableNeeds.{checks_at};
 ghost use Rattle.slicc_flow.specs.Checks.{count_in, decl_checks, transition_checks};
 
 use name_index::NameIndex;
 use ruby_base::{NoMemory, Seq};
-use slicc_ast::tree::{Decl, Transition};
+use slicc_ast::tree::{Decl, Machine, Transition};
 use slicc_plan::Body;
 use std::alloc::Global;
 use std::marker::Model;
@@ -84,8 +85,8 @@ fn transition_checks(
     Ok(checks)
 }
 
-/// Adds those of a transition, where the declaration is one.
-pub fn add_checks(
+// Adds those of a transition, where the declaration is one.
+fn add_checks(
     alloc: Global,
     list: &mut Seq<Seq<u32>>,
     names: &NameIndex,
@@ -98,4 +99,20 @@ pub fn add_checks(
         Decl::Transition(t) => list.push(transition_checks(alloc, names, actions, t)?),
         _ => Ok(()),
     }
+}
+
+// Those of the written transitions of a machine.
+pub fn machine_checks(
+    alloc: Global,
+    names: &NameIndex,
+    actions: &[Body],
+    m: &Machine,
+) -> Result<Seq<Seq<u32>>, NoMemory>
+    ensures { IfOk result (λ r. r ≡ map (transition_checks names.now actions.now) (transitions_of m.now)) }
+{
+    let mut list = Seq::new(alloc);
+    for d in &m.declarations {
+        add_checks(alloc, &mut list, names, actions, d)?;
+    }
+    Ok(list)
 }
