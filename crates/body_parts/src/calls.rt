@@ -8,7 +8,12 @@ ghost use Rattle.slicc_plan.specs.BodyParts.{changes_more, free_changes, is_one_
 use crate::names::Names;
 
 // Calls without a receiver that change more than a local.
-const FREE_CHANGES: [&str; 4] = ["set_cache_entry", "unset_cache_entry", "set_tbe", "unset_tbe"];
+const FREE_CHANGES: [&str; 4] = [
+    "set_cache_entry",
+    "unset_cache_entry",
+    "set_tbe",
+    "unset_tbe",
+];
 
 // Calls with a receiver that change more than a local. A name is there for each sort of receiver.
 const TABLE_CHANGES: [&str; 6] = [

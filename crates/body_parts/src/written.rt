@@ -20,12 +20,14 @@ fn function_in<'a>(d: &'a Decl) -> Option<Lent<'a>>
     ensures { written_or_none result ≡ function_in d.now }
 {
     match d {
-        Decl::Function(Function::Plain {
-            name,
-            body: Some(block),
-            span,
-            ..
-        }) => Some(Lent {
+        Decl::Function(
+            Function::Plain {
+                name,
+                body: Some(block),
+                span,
+                ..
+            },
+        ) => Some(Lent {
             name: name.text.as_slice(),
             block,
             place: *span,
@@ -61,7 +63,11 @@ fn port_in<'a>(d: &'a Decl) -> Option<Lent<'a>>
 }
 
 // Adds what is written where it is the first of its name.
-fn add_first<'a>(names: &mut NameIndex, list: &mut Seq<Lent<'a>>, w: Option<Lent<'a>>) -> Result<(), NoMemory>
+fn add_first<'a>(
+    names: &mut NameIndex,
+    list: &mut Seq<Lent<'a>>,
+    w: Option<Lent<'a>>,
+) -> Result<(), NoMemory>
     requires { names.old ≡ names_of_written (written_list list.old) }
     ensures names { OnOk result (names.new ≡ names_of_written (written_list list.new)) }
     ensures list { OnOk result (written_list list.new ≡ fold with_written (written_list list.old) (written_or_none w.entry)) }

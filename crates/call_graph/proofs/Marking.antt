@@ -79,7 +79,6 @@ pub record After (functions : List Body) (calls : List ℕ) (f : Found) (cs : Li
 kept_self : (f : Found) → Kept f f
 kept_self f = record { seen = λ k h. h; queue = λ i h. refl; longer = omega arith }
 
-
 one_sound : (functions : List Body) (calls : List ℕ) (f : Found) (c : ℕ) → Sound functions calls f → is_unseen f.seen c ≡ true → reaches_within (suc (length f.queue)) functions c calls ≡ true → Sound functions calls (record { seen = set f.seen c true; queue = f.queue ++ c ∷ [] })
 one_sound functions calls f c s new way =
     record {
@@ -139,7 +138,7 @@ after_calls functions calls f [] s ways = record { sound = s; kept = kept_self f
 after_calls functions calls f (c ∷ cs) s ways =
     let first = one functions calls f c s (ways c (has_first c cs)) in
     let others = after_calls functions calls (with_call f c) cs first.sound
-        (λ d among. within_le (suc (length f.queue)) (suc (length (with_call f c).queue)) functions d calls (let more = first.kept.longer in omega arith) (ways d (has_more d c cs among))) in
+    (λ d among. within_le (suc (length f.queue)) (suc (length (with_call f c).queue)) functions d calls (let more = first.kept.longer in omega arith) (ways d (has_more d c cs among))) in
     record {
       sound = others.sound;
       kept = kept_both f (with_call f c) (with_calls (with_call f c) cs) first.kept others.kept;
@@ -175,7 +174,7 @@ next_closed : (functions : List Body) (calls : List ℕ) (n x : ℕ) (f : Found)
 next_closed functions calls n x f inside is k =
     let way : reaches_within (suc n) functions x calls ≡ true = subst (λ y. reaches_within (suc n) functions y calls ≡ true) is (k.sound.reached n inside) in
     let after = after_calls functions calls f (calls_at functions x) k.sound
-        (λ c among. within_le (suc (suc n)) (suc (length f.queue)) functions c calls (omega arith) (within_then (suc n) functions x c calls way among)) in
+    (λ c among. within_le (suc (suc n)) (suc (length f.queue)) functions c calls (omega arith) (within_then (suc n) functions x c calls way among)) in
     record {
       sound = after.sound;
       roots = λ c among below. after.kept.seen c (k.roots c among below);

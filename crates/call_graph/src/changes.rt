@@ -29,7 +29,11 @@ fn changes_of(first: Option<Broken>, machine: u16, b: &Body) -> Option<Broken>
 fn changes_if(is_reader: bool, first: Option<Broken>, machine: u16, b: &Body) -> Option<Broken>
     ensures { result ≡ first_after first (cond is_reader (changes_at machine b.now) []) }
 {
-    if is_reader { changes_of(first, machine, b) } else { first }
+    if is_reader {
+        changes_of(first, machine, b)
+    } else {
+        first
+    }
 }
 
 fn port_changes(first: Option<Broken>, machine: u16, ports: &[Body]) -> Option<Broken>

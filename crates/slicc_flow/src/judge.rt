@@ -47,7 +47,11 @@ pub fn all_bodies(alloc: Global, scopes: &Scopes<'_>) -> Result<Seq<MachineBodie
     Ok(list)
 }
 
-fn all_circles(alloc: Global, first: Option<Broken>, machines: &[MachineBodies]) -> Result<Option<Broken>, NoMemory>
+fn all_circles(
+    alloc: Global,
+    first: Option<Broken>,
+    machines: &[MachineBodies],
+) -> Result<Option<Broken>, NoMemory>
     ensures { IfOk result (λ r. r ≡ first_after first (each_from circles_of 0 machines.now)) }
 {
     let mut first = first;
@@ -57,28 +61,54 @@ fn all_circles(alloc: Global, first: Option<Broken>, machines: &[MachineBodies])
     Ok(first)
 }
 
-fn all_large(alloc: Global, first: Option<Broken>, machines: &[MachineBodies]) -> Result<Option<Broken>, NoMemory>
+fn all_large(
+    alloc: Global,
+    first: Option<Broken>,
+    machines: &[MachineBodies],
+) -> Result<Option<Broken>, NoMemory>
     ensures { IfOk result (λ r. r ≡ first_after first (each_from large_of 0 machines.now)) }
 {
     let mut first = first;
     for (number, b) in machines.iter().enumerate() {
-        first = large_bodies(alloc, first, machine_number(number)?, &b.functions, &b.actions, &b.ports)?;
+        first = large_bodies(
+            alloc,
+            first,
+            machine_number(number)?,
+            &b.functions,
+            &b.actions,
+            &b.ports,
+        )?;
     }
     Ok(first)
 }
 
-fn all_changes(alloc: Global, first: Option<Broken>, machines: &[MachineBodies]) -> Result<Option<Broken>, NoMemory>
+fn all_changes(
+    alloc: Global,
+    first: Option<Broken>,
+    machines: &[MachineBodies],
+) -> Result<Option<Broken>, NoMemory>
     ensures { IfOk result (λ r. r ≡ first_after first (each_from changes_of 0 machines.now)) }
 {
     let mut first = first;
     for (number, b) in machines.iter().enumerate() {
-        first = reading_changes(alloc, first, machine_number(number)?, &b.functions, &b.ports, b.state)?;
+        first = reading_changes(
+            alloc,
+            first,
+            machine_number(number)?,
+            &b.functions,
+            &b.ports,
+            b.state,
+        )?;
     }
     Ok(first)
 }
 
 /// The first broken rule after those of calls in circles, of bodies that are too large and of what only reads.
-pub fn flow_broken(alloc: Global, first: Option<Broken>, scopes: &Scopes<'_>) -> Result<Option<Broken>, NoMemory>
+pub fn flow_broken(
+    alloc: Global,
+    first: Option<Broken>,
+    scopes: &Scopes<'_>,
+) -> Result<Option<Broken>, NoMemory>
     ensures { IfOk result (λ r. r ≡ first_after first (call_circles scopes.now.trees.now
         ++ large_bodies scopes.now.trees.now ++ reading_changes scopes.now.trees.now)) }
 {

@@ -3,7 +3,9 @@
 
 mod judge;
 mod machine;
+mod needs;
 mod tables;
 
 pub use judge::flow_broken;
 pub use machine::MachineBodies;
+pub use needs::Flow;

@@ -45,7 +45,12 @@ fn add_if(is_meant: bool, names: &mut NameIndex, name: &[u8]) -> Result<(), NoMe
     Ok(())
 }
 
-fn add_table(names: &mut NameIndex, scopes: &Scopes<'_>, scope: usize, d: Declared<'_>) -> Result<(), NoMemory>
+fn add_table(
+    names: &mut NameIndex,
+    scopes: &Scopes<'_>,
+    scope: usize,
+    d: Declared<'_>,
+) -> Result<(), NoMemory>
     ensures { OnOk result (names.new ≡ fold with_name names.old
         (name_of_type (is_table_name scopes.now.trees.now scope) (declaration_of d.entry))) }
 {
@@ -62,7 +67,12 @@ fn add_table(names: &mut NameIndex, scopes: &Scopes<'_>, scope: usize, d: Declar
     }
 }
 
-fn add_directory(names: &mut NameIndex, scopes: &Scopes<'_>, scope: usize, d: Declared<'_>) -> Result<(), NoMemory>
+fn add_directory(
+    names: &mut NameIndex,
+    scopes: &Scopes<'_>,
+    scope: usize,
+    d: Declared<'_>,
+) -> Result<(), NoMemory>
     ensures { OnOk result (names.new ≡ fold with_name names.old
         (name_of_type (is_directory_name scopes.now.trees.now scope) (declaration_of d.entry))) }
 {
