@@ -2,6 +2,7 @@
 #![tactic(auto)]
 
 mod all;
+mod defaults;
 mod field_types;
 mod fields;
 mod members;
@@ -12,6 +13,7 @@ mod unknown_types;
 mod values;
 
 pub use all::{judge_field_types, judge_prototypes, judge_type_names};
+pub use defaults::judge_defaults;
 pub use field_types::nature_in;
 pub use members::has_member;
 pub use numbers::number_value;
