@@ -50,16 +50,16 @@ pub parts_joined : (machine own member : List ℕ) → default_name (default_nam
 parts_joined machine own member = simp append_assoc
 
 pub machine_so : (members : List (List ℕ)) (text machine own rest : List ℕ) → text ≡ default_name machine rest
-  → list_any (λ word. bytes_eq rest word) (map (default_name own) members) ≡ list_any (λ word. bytes_eq text word) (map (default_name (default_name machine own)) members)
+    → list_any (λ word. bytes_eq rest word) (map (default_name own) members) ≡ list_any (λ word. bytes_eq text word) (map (default_name (default_name machine own)) members)
 machine_so members text machine own rest e =
     list_any_map (λ word. bytes_eq rest word) (default_name own) members
     ∙ list_any_same (λ name. bytes_eq rest (default_name own name)) (λ name. bytes_eq text (default_name (default_name machine own) name)) members
-      (λ name. sym (same_prefix (machine ++ codes "_") rest (default_name own name)) ∙ ap (λ x. bytes_eq x (default_name machine (default_name own name))) (sym e)
-       ∙ ap (bytes_eq text) (sym (parts_joined machine own name)))
+    (λ name. sym (same_prefix (machine ++ codes "_") rest (default_name own name)) ∙ ap (λ x. bytes_eq x (default_name machine (default_name own name))) (sym e)
+    ∙ ap (bytes_eq text) (sym (parts_joined machine own name)))
     ∙ sym (list_any_map (λ word. bytes_eq text word) (default_name (default_name machine own)) members)
 
 pub not_machine : (members : List (List ℕ)) (text machine own : List ℕ) → ((rest : List ℕ) → bytes_eq (default_name machine rest) text ≡ false) → false ≡ list_any (λ word. bytes_eq text word) (map (default_name (default_name machine own)) members)
 not_machine members text machine own differs =
     sym (list_any_map (λ word. bytes_eq text word) (default_name (default_name machine own)) members
     ∙ list_any_none (λ name. bytes_eq text (default_name (default_name machine own) name)) members
-      (λ name. ap (bytes_eq text) (parts_joined machine own name) ∙ bytes_eq-swapped text (default_name machine (default_name own name)) ∙ differs (default_name own name)))
+    (λ name. ap (bytes_eq text) (parts_joined machine own name) ∙ bytes_eq-swapped text (default_name machine (default_name own name)) ∙ differs (default_name own name)))

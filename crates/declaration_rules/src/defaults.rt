@@ -17,7 +17,13 @@ use declared_types::{KnownType, Scope, Scopes, attribute_in};
 use slicc_ast::tree::{Pair, PairValue, Pairs};
 use slicc_plan::{Broken, BuiltInType};
 
-fn is_member_word(scopes: &Scopes<'_>, scope: Scope<'_>, t: KnownType<'_>, own: &[u8], value: &PairValue) -> bool
+fn is_member_word(
+    scopes: &Scopes<'_>,
+    scope: Scope<'_>,
+    t: KnownType<'_>,
+    own: &[u8],
+    value: &PairValue,
+) -> bool
     ensures { result ≡ is_member_word (scope_of scope.entry) own.now (members_in (machine_names scopes.now.trees.now) (type_of t.entry)) value.now }
 {
     match value {
@@ -27,7 +33,13 @@ fn is_member_word(scopes: &Scopes<'_>, scope: Scope<'_>, t: KnownType<'_>, own: 
     }
 }
 
-fn is_default_by_nature(scopes: &Scopes<'_>, b: BuiltInType, n: Nature, own: &[u8], value: &PairValue) -> bool
+fn is_default_by_nature(
+    scopes: &Scopes<'_>,
+    b: BuiltInType,
+    n: Nature,
+    own: &[u8],
+    value: &PairValue,
+) -> bool
     ensures { result ≡ is_built_in_default (machine_names scopes.now.trees.now) b own.now (as_nature n) value.now }
 {
     match n {
@@ -57,7 +69,13 @@ fn is_right_default(scopes: &Scopes<'_>, own: &[u8], t: KnownType<'_>, value: &P
     }
 }
 
-fn judge_pair(first: Option<Broken>, scopes: &Scopes<'_>, own: &[u8], t: KnownType<'_>, p: &Pair) -> Option<Broken>
+fn judge_pair(
+    first: Option<Broken>,
+    scopes: &Scopes<'_>,
+    own: &[u8],
+    t: KnownType<'_>,
+    p: &Pair,
+) -> Option<Broken>
     ensures { result ≡ first_after first (bad_pair (codes "default") (is_right_default (machine_names scopes.now.trees.now) own.now (type_of t.entry)) p.now) }
 {
     match attribute_in(p, b"default") {
@@ -66,7 +84,13 @@ fn judge_pair(first: Option<Broken>, scopes: &Scopes<'_>, own: &[u8], t: KnownTy
     }
 }
 
-fn judge_pairs(first: Option<Broken>, scopes: &Scopes<'_>, own: &[u8], t: KnownType<'_>, pairs: &[Pair]) -> Option<Broken>
+fn judge_pairs(
+    first: Option<Broken>,
+    scopes: &Scopes<'_>,
+    own: &[u8],
+    t: KnownType<'_>,
+    pairs: &[Pair],
+) -> Option<Broken>
     ensures { result ≡ first_after first (flat_map (bad_pair (codes "default") (is_right_default (machine_names scopes.now.trees.now) own.now (type_of t.entry))) pairs.now) }
 {
     let mut first = first;
@@ -77,7 +101,13 @@ fn judge_pairs(first: Option<Broken>, scopes: &Scopes<'_>, own: &[u8], t: KnownT
 }
 
 /// The first broken rule, after the defaults of a field of this type, whose name this is.
-pub fn judge_defaults(first: Option<Broken>, scopes: &Scopes<'_>, own: &[u8], t: KnownType<'_>, pairs: &Pairs) -> Option<Broken>
+pub fn judge_defaults(
+    first: Option<Broken>,
+    scopes: &Scopes<'_>,
+    own: &[u8],
+    t: KnownType<'_>,
+    pairs: &Pairs,
+) -> Option<Broken>
     ensures { result ≡ first_after first (bad_attributes (codes "default") (is_right_default (machine_names scopes.now.trees.now) own.now (type_of t.entry)) pairs.now) }
 {
     judge_pairs(first, scopes, own, t, &pairs.items)

@@ -111,7 +111,13 @@ fn is_default_name(scopes: &Scopes<'_>, t: KnownType<'_>, own: &[u8], text: &[u8
 }
 
 // Whether a text names a member of a type of this name in a machine, with the machine's name before both.
-fn is_machine_default(scopes: &Scopes<'_>, machine: &[u8], t: KnownType<'_>, own: &[u8], text: &[u8]) -> bool
+fn is_machine_default(
+    scopes: &Scopes<'_>,
+    machine: &[u8],
+    t: KnownType<'_>,
+    own: &[u8],
+    text: &[u8],
+) -> bool
     ensures { result ≡ list_any (λ word. bytes_eq text.now word) (map (default_name (default_name machine.now own.now)) (members_in (machine_names scopes.now.trees.now) (type_of t.entry))) }
 {
     match default_part(text, machine) {
@@ -121,7 +127,13 @@ fn is_machine_default(scopes: &Scopes<'_>, machine: &[u8], t: KnownType<'_>, own
 }
 
 /// Whether a text names a member of a type that is declared in a scope under this name, as a default does.
-pub fn is_default_text(scopes: &Scopes<'_>, scope: Scope<'_>, t: KnownType<'_>, own: &[u8], text: &[u8]) -> bool
+pub fn is_default_text(
+    scopes: &Scopes<'_>,
+    scope: Scope<'_>,
+    t: KnownType<'_>,
+    own: &[u8],
+    text: &[u8],
+) -> bool
     ensures { result ≡ list_any (λ word. bytes_eq text.now word) (default_names (scope_of scope.entry) own.now (members_in (machine_names scopes.now.trees.now) (type_of t.entry))) }
 {
     match scope {
