@@ -5,7 +5,8 @@ use Rattle.slicc_plan.specs.declared.broken.Broken.{Broken}
 use Rattle.slicc_plan.specs.Declarations.{Declaration, Scope, declared_in, wide_scopes}
 use Rattle.slicc_plan.specs.FieldTypes.{FieldIn, all_fields, fields_of, fields_within, refused_field, refused_field_types}
 use Rattle.slicc_plan.specs.UnknownTypes.{unknown_in, unknown_types, unknown_use, uses_in}
-use Rattle.declaration_rules.specs.Judging.{broken_in, refused_of, unknown_of}
+use Rattle.slicc_plan.specs.Values.{bad_field_defaults}
+use Rattle.declaration_rules.specs.Judging.{broken_in, field_default, field_defaults_of, refused_of, unknown_of}
 use Rattle.declaration_rules.proofs.Steps.{flat_map-flat_map, flat_map_same}
 
 pub unknown_by_each : (trees : List Tree) → flat_map (broken_in unknown_of trees) (wide_scopes trees) ≡ unknown_types trees
@@ -22,3 +23,6 @@ fields_by_each trees f =
 
 pub refused_by_each : (trees : List Tree) → flat_map (broken_in refused_of trees) (wide_scopes trees) ≡ refused_field_types trees
 refused_by_each trees = fields_by_each trees (refused_field trees)
+
+pub defaults_by_each : (trees : List Tree) → flat_map (broken_in field_defaults_of trees) (wide_scopes trees) ≡ bad_field_defaults trees
+defaults_by_each trees = fields_by_each trees (field_default trees)

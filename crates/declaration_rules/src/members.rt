@@ -6,13 +6,13 @@ ghost use Rattle.slicc_ast.specs.declared.tree.declaration.State.{State as State
 ghost use Rattle.slicc_ast.specs.declared.tree.declaration.Symbol.{Symbol as SymbolRecord};
 ghost use Rattle.slicc_plan.specs.BuiltIn.{is_among, members_of};
 ghost use Rattle.slicc_plan.specs.Declarations.{machine_names};
-ghost use Rattle.slicc_plan.specs.Values.{default_name};
+ghost use Rattle.slicc_plan.specs.Values.{default_name, default_names};
 ghost use Rattle.built_ins.specs.Types.{texts_of};
-ghost use Rattle.declared_types.specs.Lent.{type_of};
+ghost use Rattle.declared_types.specs.Lent.{scope_of, type_of};
 ghost use Rattle.declaration_rules.specs.Members.{members_in};
 
 use built_ins::fixed_members;
-use declared_types::{KnownType, Scopes, after_prefix};
+use declared_types::{KnownType, Scope, Scopes, after_prefix};
 use slicc_ast::tree::{State, Symbol};
 use slicc_plan::BuiltInType;
 
@@ -107,5 +107,41 @@ fn is_default_name(scopes: &Scopes<'_>, t: KnownType<'_>, own: &[u8], text: &[u8
     match default_part(text, own) {
         None => false,
         Some(member) => has_member(scopes, t, member),
+    }
+}
+
+// Whether a text names a member of a type of this name in a machine, with the machine's name before both.
+fn is_machine_default(
+    scopes: &Scopes<'_>,
+    machine: &[u8],
+    t: KnownType<'_>,
+    own: &[u8],
+    text: &[u8],
+) -> bool
+    ensures { result ≡ list_any (λ word. bytes_eq text.now word) (map (default_name (default_name machine.now own.now)) (members_in (machine_names scopes.now.trees.now) (type_of t.entry))) }
+{
+    match default_part(text, machine) {
+        None => false,
+        Some(rest) => is_default_name(scopes, t, own, rest),
+    }
+}
+
+/// Whether a text names a member of a type that is declared in a scope under this name, as a default does.
+pub fn is_default_text(
+    scopes: &Scopes<'_>,
+    scope: Scope<'_>,
+    t: KnownType<'_>,
+    own: &[u8],
+    text: &[u8],
+) -> bool
+    ensures { result ≡ list_any (λ word. bytes_eq text.now word) (default_names (scope_of scope.entry) own.now (members_in (machine_names scopes.now.trees.now) (type_of t.entry))) }
+{
+    match scope {
+        Scope::Everywhere => is_default_name(scopes, t, own, text),
+        Scope::Within(m) => {
+            let plain = is_default_name(scopes, t, own, text);
+            let machined = is_machine_default(scopes, &m.name.text, t, own, text);
+            plain || machined
+        }
     }
 }

@@ -34,7 +34,7 @@ pub fn told_bad(first: Option<Broken>, is_right: bool, place: Span) -> Option<Br
     )
 }
 
-fn is_either(value: &PairValue, one: &[u8], other: &[u8]) -> bool
+pub fn is_either(value: &PairValue, one: &[u8], other: &[u8]) -> bool
     ensures { result ≡ is_either one.now other.now value.now }
 {
     is_word(value, one) || is_word(value, other)

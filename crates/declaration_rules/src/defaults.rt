@@ -1,0 +1,114 @@
+//! The defaults of enumerations, of state declarations and of fields.
+ghost use Rattle.std.specs.Prelude.{◌≡◌, flat_map, codes};
+ghost use Rattle.slicc_plan.specs.Declarations.{machine_names};
+ghost use Rattle.slicc_plan.specs.Order.{first_after};
+ghost use Rattle.slicc_plan.specs.Values.{bad_attributes, is_built_in_default, is_member_word, is_right_default};
+ghost use Rattle.built_ins.specs.Types.{as_nature};
+ghost use Rattle.slicc_plan.specs.BuiltIn.{nature_of};
+ghost use Rattle.declared_types.specs.Lent.{scope_of, type_of};
+ghost use Rattle.declaration_rules.specs.Members.{members_in};
+ghost use Rattle.declaration_rules.specs.PairValues.{bad_pair};
+
+use crate::members::is_default_text;
+use crate::numbers::number_value;
+use crate::values::{is_either, told_bad};
+use built_ins::{Nature, nature_of};
+use declared_types::{KnownType, Scope, Scopes, attribute_in};
+use slicc_ast::tree::{Pair, PairValue, Pairs};
+use slicc_plan::{Broken, BuiltInType};
+
+fn is_member_word(
+    scopes: &Scopes<'_>,
+    scope: Scope<'_>,
+    t: KnownType<'_>,
+    own: &[u8],
+    value: &PairValue,
+) -> bool
+    ensures { result ≡ is_member_word (scope_of scope.entry) own.now (members_in (machine_names scopes.now.trees.now) (type_of t.entry)) value.now }
+{
+    match value {
+        PairValue::Quoted(text) => is_default_text(scopes, scope, t, own, text),
+        PairValue::Number(_) => false,
+        PairValue::Name(name) => is_default_text(scopes, scope, t, own, &name.text),
+    }
+}
+
+fn is_default_by_nature(
+    scopes: &Scopes<'_>,
+    b: BuiltInType,
+    n: Nature,
+    own: &[u8],
+    value: &PairValue,
+) -> bool
+    ensures { result ≡ is_built_in_default (machine_names scopes.now.trees.now) b own.now (as_nature n) value.now }
+{
+    match n {
+        Nature::Number | Nature::Address => number_value(value).is_some(),
+        Nature::Boolean => is_either(value, b"true", b"false"),
+        Nature::Enumeration => {
+            is_member_word(scopes, Scope::Everywhere, KnownType::BuiltIn(b), own, value)
+        }
+        Nature::OtherValue | Nature::Structure | Nature::Table | Nature::Nothing => false,
+    }
+}
+
+fn is_built_in_default(scopes: &Scopes<'_>, b: BuiltInType, own: &[u8], value: &PairValue) -> bool
+    ensures { result ≡ is_built_in_default (machine_names scopes.now.trees.now) b own.now (nature_of b) value.now }
+{
+    is_default_by_nature(scopes, b, nature_of(b), own, value)
+}
+
+fn is_right_default(scopes: &Scopes<'_>, own: &[u8], t: KnownType<'_>, value: &PairValue) -> bool
+    ensures { result ≡ is_right_default (machine_names scopes.now.trees.now) own.now (type_of t.entry) value.now }
+{
+    match t {
+        KnownType::BuiltIn(b) => is_built_in_default(scopes, b, own, value),
+        KnownType::Enumeration(scope, e) => is_member_word(scopes, scope, t, &e.name.text, value),
+        KnownType::States(scope, s) => is_member_word(scopes, scope, t, &s.name.text, value),
+        KnownType::Structure(..) => false,
+    }
+}
+
+fn judge_pair(
+    first: Option<Broken>,
+    scopes: &Scopes<'_>,
+    own: &[u8],
+    t: KnownType<'_>,
+    p: &Pair,
+) -> Option<Broken>
+    ensures { result ≡ first_after first (bad_pair (codes "default") (is_right_default (machine_names scopes.now.trees.now) own.now (type_of t.entry)) p.now) }
+{
+    match attribute_in(p, b"default") {
+        None => first,
+        Some(a) => told_bad(first, is_right_default(scopes, own, t, a.value), a.place),
+    }
+}
+
+fn judge_pairs(
+    first: Option<Broken>,
+    scopes: &Scopes<'_>,
+    own: &[u8],
+    t: KnownType<'_>,
+    pairs: &[Pair],
+) -> Option<Broken>
+    ensures { result ≡ first_after first (flat_map (bad_pair (codes "default") (is_right_default (machine_names scopes.now.trees.now) own.now (type_of t.entry))) pairs.now) }
+{
+    let mut first = first;
+    for p in pairs {
+        first = judge_pair(first, scopes, own, t, p);
+    }
+    first
+}
+
+/// The first broken rule, after the defaults of a field of this type, whose name this is.
+pub fn judge_defaults(
+    first: Option<Broken>,
+    scopes: &Scopes<'_>,
+    own: &[u8],
+    t: KnownType<'_>,
+    pairs: &Pairs,
+) -> Option<Broken>
+    ensures { result ≡ first_after first (bad_attributes (codes "default") (is_right_default (machine_names scopes.now.trees.now) own.now (type_of t.entry)) pairs.now) }
+{
+    judge_pairs(first, scopes, own, t, &pairs.items)
+}
