@@ -23,7 +23,7 @@ use Rattle.slicc_plan.specs.BuiltIn.{Nature, number, boolean, address, enumerati
 use Rattle.slicc_plan.specs.CallTypes.{Written, a_local, a_field, no_place, Typed, plain, Given, index_call, is_told, method_call, named_call}
 use Rattle.slicc_plan.specs.Declarations.{Declaration, member, Scope, first_named, machine_names}
 use Rattle.slicc_plan.specs.Environment.{Bound, Environment, type_named, value_named, wrong_type_name}
-use Rattle.slicc_plan.specs.Meanings.{Meaning, value, no_line, new_line, incoming, outgoing, unknown, Wanted, one_of, any_line, comparable, like_it, of_built_in, told, unfit, value_of_type}
+use Rattle.slicc_plan.specs.Meanings.{Meaning, value, no_line, new_line, incoming, outgoing, unknown, Wanted, one_of, any_line, comparable, fits, like_it, of_built_in, told, unfit, value_of_type}
 use Rattle.slicc_plan.specs.Types.{KnownType, built_in, enumerated, structured, type_in}
 
 abbrev pub span_of : Expr → Span
@@ -150,11 +150,15 @@ abbrev pub from_operand : Environment → Wanted → BuiltInType → Given → T
 from_operand env wanted answered g =
     plain (value (built_in answered)) (g.typed.broken ++ unfit env.machine wanted g.place g.typed.meaning)
 
+-- a value of this type, unless it is told that it is none
+abbrev pub cast_meaning : Machine → KnownType → Meaning → Meaning
+cast_meaning m t meaning = cond (fits m (one_of (t ∷ [])) meaning) (value_of_type m (Some t)) unknown
+
 -- a value of the type whose name this is
 abbrev pub cast_to : Environment → TypeName → Given → Option KnownType → Typed
 cast_to env target g None = plain unknown (wrong_type_name env target.text target.span ++ g.typed.broken)
 cast_to env target g (Some t) =
-    plain (value_of_type env.machine (Some t))
+    plain (cast_meaning env.machine t g.typed.meaning)
     (g.typed.broken ++ unfit env.machine (one_of (t ∷ [])) g.place g.typed.meaning)
 
 abbrev pub given_at : Span → Typed → Given
