@@ -1,11 +1,11 @@
 -- The index from names to first declarations is right.
-use Rattle.std.proofs.Common.{◌≡◌, ◌<◌, ◌≤◌, ◌++◌, ◌||◌, ◌+◌, ℕ, Bool, true, false, cond, Option, None, Some, List, [], ◌∷◌, map, refl, sym, take, length, suc, zero, arith, slice_get, nat_lt, option_and_then, find, position, is_some, get_or, ap, subst, ◌∙◌, add-one, length-append}
+use Rattle.std.proofs.Common.{◌≡◌, ◌<◌, ◌≤◌, ◌++◌, ◌||◌, ◌+◌, ℕ, Bool, true, false, cond, Option, None, Some, List, [], ◌∷◌, refl, sym, take, length, suc, zero, arith, slice_get, option_and_then, is_some, get_or, ap, subst, ◌∙◌, add-one, length-append}
 use Rattle.std.proofs.Math.Seq.{take-suc}
 use Rattle.std.proofs.lemmas.Bool.Decides.{nat_tests}
 use Rattle.std.proofs.lemmas.Option.{slice_get-get_or}
 use Rattle.std.proofs.lemmas.Slice.Eq.{bytes_eq-Decides}
 use Rattle.std.proofs.lemmas.List.{length-map, length-take-le, map-append}
-use Rattle.std.specs.List.{list_any, position_or_len}
+use Rattle.std.specs.List.{list_any}
 use Rattle.std.specs.Option.{option_map, option_or}
 use Rattle.std.specs.Str.{bytes_eq}
 use Rattle.name_index.specs.Numbering.{is_name, number_among, with_name}
@@ -41,7 +41,7 @@ at_number_suc d ds None = refl
 at_number_suc d ds (Some n) = refl
 
 pub found_cons : (text : List ℕ) (d : Declared) (ds : List Declared) (v : Bool) → at_number ds (number_among (texts_of ds) text) ≡ first_named text (declarations_of ds)
-  → at_number (d ∷ ds) (cond v (Some 0) (option_map (λ n. suc n) (number_among (texts_of ds) text))) ≡ cond v (Some (declaration_of d)) (first_named text (declarations_of ds))
+    → at_number (d ∷ ds) (cond v (Some 0) (option_map (λ n. suc n) (number_among (texts_of ds) text))) ≡ cond v (Some (declaration_of d)) (first_named text (declarations_of ds))
 found_cons text d ds true h = refl
 found_cons text d ds false h = let e = at_number_suc d ds (number_among (texts_of ds) text) in cc
 
@@ -124,7 +124,7 @@ pub pushed_at : (ts : List (List ℕ)) (t q : List ℕ) (k : ℕ) → k ≡ leng
 pushed_at ts t q k e = number_among-push ts t q ∙ ap (λ n. option_or (number_among ts q) (cond (bytes_eq t q) (Some n) None)) (sym e)
 
 pub index_step : (names all : List (List ℕ)) (firsts : List ℕ) (t : List ℕ) (i : ℕ) (w : Bool) → w ≡ list_any (is_name t) names → length firsts ≡ length names → i ≡ length all → IsIndexed names firsts all
-  → IsIndexed (cond w names (names ++ t ∷ [])) (cond w firsts (firsts ++ i ∷ [])) (all ++ t ∷ [])
+    → IsIndexed (cond w names (names ++ t ∷ [])) (cond w firsts (firsts ++ i ∷ [])) (all ++ t ∷ [])
 index_step names all firsts t i true e same at indexed = λ q.
     let base = known_step firsts (number_among names q) (number_among all q) (bytes_eq t q) i (λ n h. let below = number_among-within names q n h in omega arith) (indexed q) (not_same names t q (bytes_eq t q) refl (sym e)) in
     base ∙ sym (pushed_at all t q i at)
@@ -155,7 +155,7 @@ lengths_after names names' firsts firsts' t i n f same =
     ap length f ∙ lengths_step names firsts t i (list_any (is_name t) names) same ∙ ap length (sym n)
 
 pub indexed_after : (names names' : List (List ℕ)) (firsts firsts' : List ℕ) (ds : List Declared) (i : ℕ) (d : Declared) (t : List ℕ) → i < length ds → d ≡ get_or ds i d → t ≡ text_of d → names' ≡ with_name names t → firsts' ≡ with_first names firsts t i
-  → length firsts ≡ length names → IsIndexed names firsts (texts_of (take i ds)) → IsIndexed names' firsts' (texts_of (take (i + 1) ds))
+    → length firsts ≡ length names → IsIndexed names firsts (texts_of (take i ds)) → IsIndexed names' firsts' (texts_of (take (i + 1) ds))
 indexed_after names names' firsts firsts' ds i d t below at e n f same indexed =
     let all = texts_taken ds i d below ∙ ap (λ x. texts_of (take i ds) ++ x ∷ []) (ap text_of (sym at) ∙ sym e) in
     let step = index_step names (texts_of (take i ds)) firsts t i (list_any (is_name t) names) refl same (texts_length ds i (omega arith)) indexed in

@@ -1,15 +1,15 @@
 -- There is a table of each scope, and it is found by the scope's number.
-use Rattle.std.proofs.Common.{◌≡◌, ◌<◌, ◌≤◌, ◌⊎◌, ℕ, Option, Some, List, [], ◌∷◌, map, flat_map, refl, sym, ◌∙◌, ap, subst, length, slice_get, slice_index_or, arith, get_or, insert, inl, inr, ◌++◌}
+use Rattle.std.proofs.Common.{◌≡◌, ◌<◌, ◌≤◌, ◌⊎◌, ℕ, Some, List, [], ◌∷◌, map, flat_map, refl, sym, ◌∙◌, ap, subst, length, slice_get, arith, insert, inl, inr, ◌++◌}
 use Rattle.std.specs.Option.{option_map}
 use Rattle.std.proofs.lemmas.Option.{slice_get-get_or, slice_get-map, slice_get_within}
 use Rattle.std.proofs.lemmas.List.{get_or_past, length-map}
 use Rattle.slicc_ast.specs.declared.tree.item.Tree.{Tree}
 use Rattle.slicc_ast.specs.declared.tree.machine.Machine.{Machine}
-use Rattle.slicc_plan.specs.Declarations.{Scope, everywhere, within, global_declarations, machine_in, machines_of, wide_scopes}
+use Rattle.slicc_plan.specs.Declarations.{everywhere, within, global_declarations, machine_in, machines_of, wide_scopes}
 use Rattle.declared_types.specs.declared.lent.Declared.{Declared}
 use Rattle.declared_types.specs.declared.table.Table.{Table}
 use Rattle.declared_types.specs.Lent.{declarations_of, scope_of}
-use Rattle.declared_types.specs.Scopes.{AreTables, ScopeTable, machine_table, scope_at, summaries, summary, table_in}
+use Rattle.declared_types.specs.Scopes.{AreTables, machine_table, scope_at, summaries, summary, table_in}
 
 pub machine_tables : (trees : List Tree) (ms : List Machine) → map machine_table ms ≡ map (table_in trees) (map within ms)
 machine_tables trees [] = refl
@@ -19,13 +19,13 @@ pub insert_first : (ms : List Table) (p : Table) → insert ms 0 p ≡ p ∷ ms
 insert_first ms p = grind arith
 
 pub tables_right : (trees : List Tree) (ms tables : List Table) (p : Table) (ds : List Declared) → declarations_of ds ≡ global_declarations trees → summaries ms ≡ map machine_table (flat_map machine_in (declarations_of ds))
-  → scope_of p.scope ≡ everywhere → declarations_of p.declarations ≡ declarations_of ds → tables ≡ insert ms 0 p → AreTables trees tables
+    → scope_of p.scope ≡ everywhere → declarations_of p.declarations ≡ declarations_of ds → tables ≡ insert ms 0 p → AreTables trees tables
 tables_right trees ms tables p ds global machines at declared inserted = record {
   all =
-    let first : summary p ≡ table_in trees everywhere = cc in
-    let others : summaries ms ≡ map (table_in trees) (map within (machines_of trees)) =
-        machines ∙ ap (λ gs. map machine_table (flat_map machine_in gs)) global ∙ machine_tables trees (machines_of trees) in
-    ap summaries (inserted ∙ insert_first ms p) ∙ ap (λ s. s ∷ summaries ms) first ∙ ap (λ ss. table_in trees everywhere ∷ ss) others;
+      let first : summary p ≡ table_in trees everywhere = cc in
+      let others : summaries ms ≡ map (table_in trees) (map within (machines_of trees)) =
+      machines ∙ ap (λ gs. map machine_table (flat_map machine_in gs)) global ∙ machine_tables trees (machines_of trees) in
+      ap summaries (inserted ∙ insert_first ms p) ∙ ap (λ s. s ∷ summaries ms) first ∙ ap (λ ss. table_in trees everywhere ∷ ss) others;
 }
 
 pub table_at : (trees : List Tree) (tables : List Table) (number : ℕ) (t : Table) → AreTables trees tables → slice_get tables number ≡ Some t → summary t ≡ table_in trees (scope_at trees number)
@@ -33,11 +33,11 @@ table_at trees tables number t right found =
     let all = right.all in
     let scopes = wide_scopes trees in
     let below : number < length scopes =
-        let within_tables = slice_get_within tables number t found in
-        omega (arith, length-map tables summary, length-map scopes (table_in trees), ap length all) in
+    let within_tables = slice_get_within tables number t found in
+    omega (arith, length-map tables summary, length-map scopes (table_in trees), ap length all) in
     let left : slice_get (summaries tables) number ≡ Some (summary t) = slice_get-map summary tables number ∙ ap (option_map summary) found in
     let right_side : slice_get (map (table_in trees) scopes) number ≡ Some (table_in trees (scope_at trees number)) =
-        slice_get-map (table_in trees) scopes number ∙ ap (option_map (table_in trees)) (slice_get-get_or scopes number everywhere below) in
+    slice_get-map (table_in trees) scopes number ∙ ap (option_map (table_in trees)) (slice_get-get_or scopes number everywhere below) in
     let both : Some (summary t) ≡ Some (table_in trees (scope_at trees number)) = sym left ∙ ap (λ ts. slice_get ts number) all ∙ right_side in
     cc both
 
@@ -45,7 +45,7 @@ pub table_beyond : (trees : List Tree) (tables : List Table) (number : ℕ) (t :
 table_beyond trees tables number t right far found =
     let scopes = wide_scopes trees in
     let beyond : length scopes ≤ number =
-        omega (arith, length-map tables summary, length-map scopes (table_in trees), ap length right.all) in
+    omega (arith, length-map tables summary, length-map scopes (table_in trees), ap length right.all) in
     table_at trees tables 0 t right found ∙ ap (table_in trees) (sym (get_or_past scopes number everywhere beyond))
 
 pub table_known : (trees : List Tree) (tables : List Table) (number known : ℕ) (t : Table) → AreTables trees tables → (number < length tables) × (known ≡ number) ⊎ (length tables ≤ number) × (known ≡ 0) → slice_get tables known ≡ Some t → summary t ≡ table_in trees (scope_at trees number)

@@ -1,3 +1,4 @@
+pub mod Attributes
 pub mod Lent
 pub mod Scopes
 pub mod Table

@@ -1,11 +1,15 @@
 //! What the names of types stand for in each scope of a protocol, and the rules of declarations that need to know it.
 #![tactic(auto)]
 
+mod attributes;
 mod lent;
 mod lists;
 mod scopes;
 mod table;
 mod tables;
+mod types;
 
+pub use attributes::{Attribute, first_attribute, has_attribute, is_external, is_word};
 pub use lent::{Declared, KnownType, Scope};
 pub use scopes::Scopes;
+pub use types::{declared_type, table_named};

@@ -39,7 +39,10 @@ pub fn global_list<'a>(alloc: Global, trees: &'a [Tree]) -> Result<Seq<Declared<
     Ok(list)
 }
 
-fn add_parameters<'a>(list: &mut Seq<Declared<'a>>, parameters: &'a [Parameter]) -> Result<(), NoMemory>
+fn add_parameters<'a>(
+    list: &mut Seq<Declared<'a>>,
+    parameters: &'a [Parameter],
+) -> Result<(), NoMemory>
     ensures { OnOk result (declarations_of list.new ≡ declarations_of list.old ++ map parameter parameters.now) }
 {
     for p in parameters {
@@ -64,7 +67,10 @@ fn add_declaration<'a>(list: &mut Seq<Declared<'a>>, d: &'a Decl) -> Result<(), 
     }
 }
 
-fn add_declarations<'a>(list: &mut Seq<Declared<'a>>, declarations: &'a [Decl]) -> Result<(), NoMemory>
+fn add_declarations<'a>(
+    list: &mut Seq<Declared<'a>>,
+    declarations: &'a [Decl],
+) -> Result<(), NoMemory>
     ensures { OnOk result (declarations_of list.new ≡ declarations_of list.old ++ flat_map named_declarations declarations.now) }
 {
     for d in declarations {

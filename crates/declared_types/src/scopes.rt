@@ -9,9 +9,11 @@ ghost use Rattle.slicc_ast.specs.contracts.tree.declaration.Structure as structu
 ghost use Rattle.slicc_ast.specs.contracts.tree.declaration.Member as member_type;
 ghost use Rattle.declared_types.specs.Scopes.{AreTables};
 
-use crate::lent::{Declared, Scope};
+use crate::lent::{Declared, KnownType, Scope};
 use crate::table::Table;
 use crate::tables::all_tables;
+use crate::types::declared_type;
+use built_ins::built_in_type;
 use ruby_base::{NoMemory, Seq};
 use slicc_ast::tree::Tree;
 use std::alloc::Global;
@@ -53,7 +55,11 @@ impl<'a> Scopes<'a> {
     fn table(&self, number: usize) -> &Table<'a>
         ensures { summary result.now ≡ table_in self.now.trees.now (scope_at self.now.trees.now number) }
     {
-        let known = if number < self.tables.len() { number } else { 0 };
+        let known = if number < self.tables.len() {
+            number
+        } else {
+            0
+        };
         &self.tables[known]
     }
 
@@ -76,5 +82,32 @@ impl<'a> Scopes<'a> {
         ensures { option_map declaration_of result ≡ first_named name.now (declared_in self.now.trees.now (scope_at self.now.trees.now number)) }
     {
         self.table(number).first_named(name)
+    }
+
+    /// What the name of a type stands for right in the protocol, where it stands for one.
+    pub fn global_type(&self, name: &[u8]) -> Option<KnownType<'a>>
+        ensures { option_map type_of result ≡ global_type self.now.trees.now name.now }
+    {
+        match built_in_type(name) {
+            Some(b) => Some(KnownType::BuiltIn(b)),
+            None => match self.first_named(0, name) {
+                None => None,
+                Some(d) => declared_type(Scope::Everywhere, d),
+            },
+        }
+    }
+
+    /// What the name of a type stands for in the scope of a number, where it stands for one.
+    pub fn type_in(&self, number: usize, name: &[u8]) -> Option<KnownType<'a>>
+        ensures { option_map type_of result ≡ type_in self.now.trees.now (scope_at self.now.trees.now number) name.now }
+    {
+        let scope = self.scope(number);
+        match scope {
+            Scope::Everywhere => self.global_type(name),
+            Scope::Within(_) => match self.first_named(number, name) {
+                None => self.global_type(name),
+                Some(d) => declared_type(scope, d),
+            },
+        }
     }
 }

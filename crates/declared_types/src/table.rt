@@ -52,7 +52,12 @@ pub fn name_text<'a>(d: Declared<'a>) -> &'a [u8]
 }
 
 // Notes a declaration's name and number where it is the first one of that name.
-fn add_first(names: &mut NameIndex, firsts: &mut Seq<usize>, text: &[u8], number: usize) -> Result<(), NoMemory>
+fn add_first(
+    names: &mut NameIndex,
+    firsts: &mut Seq<usize>,
+    text: &[u8],
+    number: usize,
+) -> Result<(), NoMemory>
     requires { length firsts.old ≡ length names.old }
     ensures names { OnOk result (names.new ≡ with_name names.old text.now) }
     ensures firsts { OnOk result (firsts.new ≡ with_first names.old firsts.old text.now number) }
@@ -64,7 +69,11 @@ fn add_first(names: &mut NameIndex, firsts: &mut Seq<usize>, text: &[u8], number
     Ok(())
 }
 
-fn add_firsts<'a>(names: &mut NameIndex, firsts: &mut Seq<usize>, declarations: &[Declared<'a>]) -> Result<(), NoMemory>
+fn add_firsts<'a>(
+    names: &mut NameIndex,
+    firsts: &mut Seq<usize>,
+    declarations: &[Declared<'a>],
+) -> Result<(), NoMemory>
     requires names { names.old ≡ [] }
     requires firsts { firsts.old ≡ [] }
     ensures same_length { OnOk result (length firsts.new ≡ length names.new) }
@@ -77,7 +86,11 @@ fn add_firsts<'a>(names: &mut NameIndex, firsts: &mut Seq<usize>, declarations: 
 }
 
 /// The table of a scope with these declarations.
-pub fn table_of<'a>(alloc: Global, scope: Scope<'a>, declarations: Seq<Declared<'a>>) -> Result<Table<'a>, NoMemory>
+pub fn table_of<'a>(
+    alloc: Global,
+    scope: Scope<'a>,
+    declarations: Seq<Declared<'a>>,
+) -> Result<Table<'a>, NoMemory>
     ensures scope { IfOk result (λ t. t.scope ≡ scope.entry) }
     ensures declarations { IfOk result (λ t. t.declarations ≡ declarations.entry) }
 {

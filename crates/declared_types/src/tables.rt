@@ -11,7 +11,11 @@ use ruby_base::{NoMemory, Seq};
 use slicc_ast::tree::{Machine, Tree};
 use std::alloc::Global;
 
-fn add_machine<'a>(alloc: Global, tables: &mut Seq<Table<'a>>, m: &'a Machine) -> Result<(), NoMemory>
+fn add_machine<'a>(
+    alloc: Global,
+    tables: &mut Seq<Table<'a>>,
+    m: &'a Machine,
+) -> Result<(), NoMemory>
     ensures { OnOk result (summaries tables.new ≡ summaries tables.old ++ machine_table m.now ∷ []) }
 {
     let declarations = machine_list(alloc, m)?;
@@ -19,7 +23,11 @@ fn add_machine<'a>(alloc: Global, tables: &mut Seq<Table<'a>>, m: &'a Machine) -
     tables.push(table)
 }
 
-fn add_declared<'a>(alloc: Global, tables: &mut Seq<Table<'a>>, d: Declared<'a>) -> Result<(), NoMemory>
+fn add_declared<'a>(
+    alloc: Global,
+    tables: &mut Seq<Table<'a>>,
+    d: Declared<'a>,
+) -> Result<(), NoMemory>
     ensures { OnOk result (summaries tables.new ≡ summaries tables.old ++ map machine_table (machine_in (declaration_of d.entry))) }
 {
     match d {
@@ -28,7 +36,11 @@ fn add_declared<'a>(alloc: Global, tables: &mut Seq<Table<'a>>, d: Declared<'a>)
     }
 }
 
-fn add_machines<'a>(alloc: Global, tables: &mut Seq<Table<'a>>, declarations: &[Declared<'a>]) -> Result<(), NoMemory>
+fn add_machines<'a>(
+    alloc: Global,
+    tables: &mut Seq<Table<'a>>,
+    declarations: &[Declared<'a>],
+) -> Result<(), NoMemory>
     ensures { OnOk result (summaries tables.new ≡ summaries tables.old ++ map machine_table (flat_map machine_in (declarations_of declarations.now))) }
 {
     for d in declarations {

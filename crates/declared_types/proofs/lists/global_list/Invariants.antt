@@ -1,4 +1,4 @@
-use Rattle.std.proofs.Common.{◌≡◌, ◌++◌, take, flat_map}
+use Rattle.std.proofs.Common.{◌≡◌, take}
 use Rattle.slicc_plan.specs.Declarations.{global_declarations}
 use Rattle.declared_types.specs.Lent.{declarations_of}
 use Rattle.declared_types.proofs.lists.global_list.Given as goal
