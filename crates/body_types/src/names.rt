@@ -23,7 +23,7 @@ pub fn bound_as<'a>(bound: &[Bound<'a>], name: &[u8]) -> Option<Bound<'a>>
     ensures { option_map bound_of result ≡ bound_as_of name.now (reverse (map bound_of bound.now)) }
 {
     let mut left = bound;
-    while let [outer @ .., last] = left {
+    while let Some((last, outer)) = left.split_last() {
         if last.name == name {
             return Some(*last);
         }
@@ -47,10 +47,10 @@ fn fixed<'a>(name: &'a [u8], meaning: Meaning<'a>) -> Bound<'a>
 fn name_everywhere<'a>(name: &[u8]) -> Option<Bound<'a>>
     ensures { option_map bound_of result ≡ bound_as_of name.now names_everywhere_of }
 {
-    if name == b"machineID".as_slice() {
+    if b"machineID".as_slice() == name {
         return Some(fixed(b"machineID", Meaning::Value(KnownType::BuiltIn(BuiltInType::MachineId))));
     }
-    if name == b"recycle_latency".as_slice() {
+    if b"recycle_latency".as_slice() == name {
         return Some(fixed(b"recycle_latency", Meaning::Value(KnownType::BuiltIn(BuiltInType::Int))));
     }
     None
