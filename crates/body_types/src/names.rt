@@ -19,15 +19,17 @@ use slicc_ast::tree::{Name, Span};
 use slicc_plan::{Broken, BuiltInType, Rule};
 
 /// The innermost of the names of a body that is written so, the outermost being first.
+#[tactic(auto, using(crate::proofs::Innermost::innermost))]
 pub fn bound_as<'a>(bound: &[Bound<'a>], name: &[u8]) -> Option<Bound<'a>>
     ensures { option_map bound_of result ≡ bound_as_of name.now (reverse (map bound_of bound.now)) }
 {
-    let mut left = bound;
-    while let Some((last, outer)) = left.split_last() {
-        if last.name == name {
-            return Some(*last);
+    let mut left = bound.len();
+    while left > 0 {
+        left -= 1;
+        let b = bound[left];
+        if b.name == name {
+            return Some(b);
         }
-        left = outer;
     }
     None
 }

@@ -18,7 +18,7 @@ fn is_permission_call(machine: &[u8], text: &[u8]) -> bool
         return false;
     }
     let (front, back) = text.split_at(machine.len());
-    front == machine && back == b"_State_to_permission".as_slice()
+    front == machine && b"_State_to_permission".as_slice() == back
 }
 
 // The machine of a scope, where it is one and its call has this name.
