@@ -1,1 +1,3 @@
 pub mod Firsts
+pub mod OwnTypes
+pub mod Steps

@@ -11,7 +11,7 @@ ghost use Rattle.body_types.specs.Lines.{AreLines};
 ghost use Rattle.body_types.specs.Views.{meaning_of};
 ghost use Rattle.call_types.specs.Arguments.{after_arguments};
 
-use crate::arguments::{wrong_arguments, wrong_count};
+use crate::arguments::checked;
 use crate::own::{states_type, structure_on};
 use crate::typing::plain;
 use crate::wanted::add_wanted;
@@ -55,8 +55,7 @@ fn wrong_given<'a>(alloc: Global, env: Environment<'_, 'a>, at: Span, c: &Call, 
     add_wanted(env.lines, c.receiver, c.always, &mut wanted)?;
     let least = wanted.len();
     add_wanted(env.lines, c.receiver, c.perhaps, &mut wanted)?;
-    let counted = earlier_of_two(first, wrong_count(at, least, wanted.len(), given.len()));
-    Ok(earlier_of_two(counted, wrong_arguments(env, &wanted, given)))
+    Ok(checked(env, at, &wanted, least, given, first))
 }
 
 /// A built-in call on that.
@@ -77,8 +76,7 @@ pub fn permission_call<'a>(env: Environment<'_, 'a>, at: Span, m: &'a Machine, g
     ensures { found_of (typed_of result) ≡ found_of (built_in_call_in (environment_of env.entry) at (plain_of nothing []) (permission_reading m.entry.now) (all_given_of given.now)) }
 {
     let wanted = [Wanted::OneOf(None, states_type(m))];
-    let counted = wrong_count(at, 1, 1, given.len());
-    let first = earlier_of_two(counted, wrong_arguments(env, &wanted, given));
+    let first = checked(env, at, &wanted, 1, given, None);
     let permission = KnownType::BuiltIn(BuiltInType::AccessPermission);
     plain(Meaning::Value(permission), first)
 }

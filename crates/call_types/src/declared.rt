@@ -2,16 +2,18 @@
 ghost use Rattle.std.specs.Prelude.{◌≡◌, [], IfOk};
 ghost use Rattle.std.specs.Option.{option_copied, option_map};
 ghost use Rattle.slicc_plan.specs.Buffers.{listed};
-ghost use Rattle.slicc_plan.specs.CallTypes.{built_in_named as built_in_named_in, declared_call as declared_call_in, function_call as function_call_in, named_call as named_call_in, not_called as not_called_in, plain_call as plain_call_of};
+ghost use Rattle.slicc_plan.specs.CallTypes.{built_in_call as built_in_call_in, built_in_named as built_in_named_in, declared_call as declared_call_in, function_call as function_call_in, named_call as named_call_in, not_called as not_called_in, plain as plain_of, plain_call as plain_call_of};
+ghost use Rattle.slicc_plan.specs.Meanings.{nothing};
+ghost use Rattle.built_in_calls.specs.Called.{call_for};
 ghost use Rattle.declared_types.specs.Lent.{declaration_of};
 ghost use Rattle.body_types.specs.Environments.{IsEnvironment, environment_of};
 ghost use Rattle.body_types.specs.Found.{all_given_of, found_of, typed_of};
 
-use crate::arguments::{broken_in, wrong_arguments, wrong_count};
+use crate::arguments::{broken_in, checked};
 use crate::built_in::{built_in_call, permission_call};
 use crate::typing::plain;
 use crate::wanted::add_formals;
-use body_types::{Environment, Given, Meaning, Typed, answer_of_type, told, value_named};
+use body_types::{Environment, Given, Meaning, Typed, Written, answer_of_type, told, value_named};
 use built_in_calls::{Called, plain_call};
 use declared_types::Declared;
 use ruby_base::{NoMemory, Seq};
@@ -26,8 +28,7 @@ fn function_call<'a>(alloc: Global, env: Environment<'_, 'a>, at: Span, kind: &[
 {
     let mut wanted = Seq::new(alloc);
     add_formals(env, formals, &mut wanted)?;
-    let counted = wrong_count(at, wanted.len(), wanted.len(), given.len());
-    let first = earlier_of_two(counted, wrong_arguments(env, &wanted, given));
+    let first = checked(env, at, &wanted, wanted.len(), given, None);
     let t = env.scopes.type_in(env.scope, kind);
     Ok(plain(answer_of_type(env.lines, t), first))
 }
@@ -40,6 +41,22 @@ pub fn not_called<'a>(broken: Option<Broken>, called: &Name, given: &[Given<'a>]
     plain(Meaning::Unknown, earlier_of_two(broken, told_of))
 }
 
+// That call, which needs no declaration.
+fn undeclared_call<'a>(alloc: Global, env: Environment<'_, 'a>, at: Span, c: Called<'a>, given: &[Given<'a>]) -> Result<Typed<'a>, NoMemory>
+    requires { IsEnvironment env }
+    ensures { IfOk result (λ t. found_of (typed_of t) ≡ found_of (built_in_call_in (environment_of env.entry) at (plain_of nothing []) (call_for c.entry) (all_given_of given.now))) }
+{
+    let on = Typed {
+        meaning: Meaning::Nothing,
+        written: Written::NoPlace,
+        broken: None,
+    };
+    match c {
+        Called::BuiltIn(c) => built_in_call(alloc, env, at, on, c, given),
+        Called::Permission(m) => Ok(permission_call(env, at, m, given)),
+    }
+}
+
 // A call that no declaration is of.
 fn built_in_named<'a>(alloc: Global, env: Environment<'_, 'a>, at: Span, called: &Name, given: &[Given<'a>]) -> Result<Typed<'a>, NoMemory>
     requires { IsEnvironment env }
@@ -47,10 +64,7 @@ fn built_in_named<'a>(alloc: Global, env: Environment<'_, 'a>, at: Span, called:
 {
     match plain_call(env.scopes, called.text.as_slice()) {
         None => Ok(not_called(None, called, given)),
-        Some(Called::Permission(m)) => Ok(permission_call(env, at, m, given)),
-        Some(Called::BuiltIn(c)) => {
-            built_in_call(alloc, env, at, plain(Meaning::Nothing, None), c, given)
-        }
+        Some(c) => undeclared_call(alloc, env, at, c, given),
     }
 }
 

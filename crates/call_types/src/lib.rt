@@ -1,5 +1,5 @@
 //! What calls stand for in the bodies of a protocol, and the first that is broken in them, where their parts are known.
-#![tactic(auto)]
+#![tactic(auto, using(crate::proofs::Firsts::rules_of_first))]
 
 mod arguments;
 mod built_in;

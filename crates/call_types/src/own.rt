@@ -50,6 +50,7 @@ fn states_among<'a>(declarations: &'a [Decl]) -> Option<&'a States>
 }
 
 /// The type of a machine's states, where it declares them.
+#[tactic(auto, using(crate::proofs::OwnTypes::states_known))]
 pub fn states_type<'a>(m: &'a Machine) -> Option<KnownType<'a>>
     ensures { listed (type_if result) ≡ states_type_of m.now }
 {
@@ -82,6 +83,7 @@ fn events_among<'a>(declarations: &'a [Decl]) -> Option<&'a Enumeration>
 }
 
 /// The type of a machine's events, where it declares them.
+#[tactic(auto, using(crate::proofs::OwnTypes::events_known))]
 pub fn events_type<'a>(m: &'a Machine) -> Option<KnownType<'a>>
     ensures { listed (type_if result) ≡ events_type_of m.now }
 {

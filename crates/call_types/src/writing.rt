@@ -1,5 +1,5 @@
 //! Whether what a call changes may be written.
-ghost use Rattle.std.specs.Prelude.{◌≡◌};
+ghost use Rattle.std.specs.Prelude.{◌≡◌, slice_get};
 ghost use Rattle.std.specs.Option.{option_map};
 ghost use Rattle.slicc_plan.specs.CallTypes.{is_told as is_told_of, may_write as may_write_of, may_write_field as may_write_field_of, no_field as no_field_of, not_writable as not_writable_of, wrong_change as wrong_change_of};
 ghost use Rattle.slicc_plan.specs.Order.{first_of};
@@ -51,13 +51,20 @@ fn no_field(at: Span, g: Option<Given>) -> Option<Broken>
     }
 }
 
+fn second<'a>(given: &[Given<'a>]) -> Option<Given<'a>>
+    ensures { result ≡ slice_get given.now 1 }
+{
+    given.get(1).copied()
+}
+
 /// What is told of a call on that with these arguments for what it changes.
+#[tactic(auto, using(crate::proofs::Steps::second_given))]
 pub fn wrong_change(change: Change, at: Span, on: Typed, given: &[Given]) -> Option<Broken>
     ensures { result ≡ first_of (wrong_change_of (change_of change) at (typed_of on.entry) (all_given_of given.now)) }
 {
     match change {
         Change::Nothing | Change::Lines => None,
         Change::Receiver => not_writable(at, on),
-        Change::Block => no_field(at, given.get(1).copied()),
+        Change::Block => no_field(at, second(given)),
     }
 }
