@@ -19,8 +19,8 @@ use declared_types::{KnownType, Scope};
 use slicc_ast::tree::{Machine, Structure};
 use slicc_plan::BuiltInType;
 
-// Whether references to lines of this structure of the machine, if there is one, have this type.
-fn has_line<'a>(m: &'a Machine, s: Option<&'a Structure>, t: KnownType<'a>) -> bool
+/// Whether references to lines of this structure of a machine, if there is one, have this type.
+pub fn has_line<'a>(m: &'a Machine, s: Option<&'a Structure>, t: KnownType<'a>) -> bool
     ensures { result ≡ list_any (λ u. is_same_known (structured (within m.now) u) (type_of t.entry)) (listed (option_copied s.entry)) }
 {
     match s {

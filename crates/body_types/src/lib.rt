@@ -11,7 +11,7 @@ mod same;
 mod typed;
 
 pub use environment::{BodySort, Bound, Environment};
-pub use fitting::{agree, fits, is_built_in, is_line, is_value};
+pub use fitting::{agree, fits, has_line, is_built_in, is_line, is_value};
 pub use lines::Lines;
 pub use meaning::{Meaning, Wanted, Written};
 pub use meanings::{

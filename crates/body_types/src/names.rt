@@ -19,15 +19,17 @@ use slicc_ast::tree::{Name, Span};
 use slicc_plan::{Broken, BuiltInType, Rule};
 
 /// The innermost of the names of a body that is written so, the outermost being first.
+#[tactic(auto, using(crate::proofs::Innermost::innermost))]
 pub fn bound_as<'a>(bound: &[Bound<'a>], name: &[u8]) -> Option<Bound<'a>>
     ensures { option_map bound_of result ≡ bound_as_of name.now (reverse (map bound_of bound.now)) }
 {
-    let mut left = bound;
-    while let [outer @ .., last] = left {
-        if last.name == name {
-            return Some(*last);
+    let mut left = bound.len();
+    while left > 0 {
+        left -= 1;
+        let b = bound[left];
+        if b.name == name {
+            return Some(b);
         }
-        left = outer;
     }
     None
 }
@@ -47,10 +49,10 @@ fn fixed<'a>(name: &'a [u8], meaning: Meaning<'a>) -> Bound<'a>
 fn name_everywhere<'a>(name: &[u8]) -> Option<Bound<'a>>
     ensures { option_map bound_of result ≡ bound_as_of name.now names_everywhere_of }
 {
-    if name == b"machineID".as_slice() {
+    if b"machineID".as_slice() == name {
         return Some(fixed(b"machineID", Meaning::Value(KnownType::BuiltIn(BuiltInType::MachineId))));
     }
-    if name == b"recycle_latency".as_slice() {
+    if b"recycle_latency".as_slice() == name {
         return Some(fixed(b"recycle_latency", Meaning::Value(KnownType::BuiltIn(BuiltInType::Int))));
     }
     None

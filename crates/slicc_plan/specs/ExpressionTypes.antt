@@ -21,7 +21,7 @@ use Rattle.slicc_plan.specs.declared.built_in.BuiltInType.{BuiltInType}
 use Rattle.slicc_plan.specs.declared.built_in.BuiltInType.TheVariants.{Int, Bool as Boolean, Request}
 use Rattle.slicc_plan.specs.BuiltIn.{Nature, number, boolean, address, enumeration, other_value, structure, table, nothing, NamedType, is_among, members_of, nature_of, request_fields}
 use Rattle.slicc_plan.specs.CallTypes.{Written, a_local, a_field, no_place, Typed, plain, Given, index_call, is_told, method_call, named_call}
-use Rattle.slicc_plan.specs.Declarations.{Declaration, member, Scope, first_named, machine_names}
+use Rattle.slicc_plan.specs.Declarations.{Declaration, member, Scope, everywhere, within, first_named, machine_names}
 use Rattle.slicc_plan.specs.Environment.{Bound, Environment, type_named, value_named, wrong_type_name}
 use Rattle.slicc_plan.specs.Meanings.{Meaning, value, no_line, new_line, incoming, outgoing, unknown, Wanted, one_of, any_line, comparable, fits, like_it, of_built_in, told, unfit, value_of_type}
 use Rattle.slicc_plan.specs.Types.{KnownType, built_in, enumerated, structured, type_in}
@@ -100,12 +100,17 @@ abbrev pub built_in_field : BuiltInType → List ℕ → Option Meaning
 built_in_field Request text = request_field text
 built_in_field _ text = None
 
+-- where the types of a structure's fields are looked up: what a body sees of a machine's structures is of its own machine
+abbrev pub fields_scope : Machine → Scope → Scope
+fields_scope m everywhere = everywhere
+fields_scope m (within n) = within m
+
 -- the field of this name in a type
 abbrev pub field_in : List Tree → Machine → KnownType → List ℕ → Option Meaning
 field_in trees m (built_in b) text = built_in_field b text
 field_in trees m (enumerated scope name members) text = None
 field_in trees m (structured scope s) text =
-    field_declared trees m scope (first_named text (map member s.members.items))
+    field_declared trees m (fields_scope m scope) (first_named text (map member s.members.items))
 
 abbrev pub found_field : Written → List Broken → Name → Option Meaning → Typed
 found_field written broken n None = plain unknown (broken ++ told NotThere n.span ∷ [])

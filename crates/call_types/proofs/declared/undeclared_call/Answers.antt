@@ -1,0 +1,12 @@
+use Rattle.std.proofs.Common.{◌≡◌, IfOk, [], sym, subst}
+use Rattle.slicc_plan.specs.CallTypes.{built_in_call, plain}
+use Rattle.slicc_plan.specs.Meanings.{nothing}
+use Rattle.body_types.specs.declared.typed.Typed.{Typed}
+use Rattle.body_types.specs.Environments.{environment_of}
+use Rattle.body_types.specs.Found.{all_given_of, found_of, typed_of}
+use Rattle.built_in_calls.specs.Called.{call_for}
+use Rattle.call_types.proofs.declared.undeclared_call.Goals as goal
+
+pub returns-in-BuiltIn : goal.returns-in-BuiltIn
+returns-in-BuiltIn c =
+    subst (λ v. IfOk c.built_in_call.result (λ (t : Typed). found_of (typed_of t) ≡ found_of (built_in_call (environment_of c.args.env) c.args.at (plain nothing []) (call_for v) (all_given_of c.args.given.now)))) (sym c.in-BuiltIn.is) c.built_in_call.ensures

@@ -1,0 +1,9 @@
+use Rattle.std.proofs.Common.{◌≡◌, ◌++◌, take, map}
+use Rattle.slicc_plan.specs.CallTypes.{wanted_by}
+use Rattle.built_ins.specs.Calls.{argument_of, receiver_of}
+use Rattle.body_types.specs.Views.{wanted_of}
+use Rattle.call_types.proofs.wanted.add_wanted.Given as goal
+
+abbrev pub invariant-loop-a : goal.invariant-loop-a
+invariant-loop-a l =
+    map wanted_of l.wanted ≡ map wanted_of l.initial.wanted ++ wanted_by l.lines.machine.now (receiver_of l.on) (map argument_of (take l.a-index l.arguments))
