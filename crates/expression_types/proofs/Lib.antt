@@ -1,5 +1,0 @@
-pub mod Calls
-pub mod Known
-pub mod Machines
-pub mod Rows
-pub mod Steps
