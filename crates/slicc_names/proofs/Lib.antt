@@ -9,3 +9,4 @@ mod Parts
 mod Places
 mod Repeats
 mod Steps
+pub mod FirstOfAll

@@ -1,3 +1,4 @@
+pub mod Collected
 pub mod Counting
 pub mod Declaring
 pub mod Lookups

@@ -3,6 +3,7 @@
 
 mod all;
 mod blocks;
+mod collecting;
 mod count;
 mod declares;
 mod first_names;
@@ -16,6 +17,7 @@ mod scopes;
 mod twice;
 
 pub use names::Names;
+pub use collecting::{broken_declarations, collect, refusal};
 pub use protocol::limits_passed;
 pub use slicc_plan::{NoMemory, Refusal};
 pub use twice::names_twice_declared;

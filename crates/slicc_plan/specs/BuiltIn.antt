@@ -1,6 +1,6 @@
--- What is there in every protocol without a declaration: types, the members of the enumerations among them, the fields of the
--- structure among them, and calls. The names and what they mean are those of gem5's Ruby; that it is these is this project's
--- choice. A call takes the arguments that stand beside it, of which the last ones may be left out.
+-- What is there in every protocol without a declaration, calls aside: types, the members of the enumerations among them, and the
+-- fields of the structure among them. The names and what they mean are those of gem5's Ruby; that it is these is this project's
+-- choice.
 use Rattle.std.specs.Prelude.{◌==◌, ℕ, Bool, true, false, Option, List, [], ◌∷◌, find, codes}
 use Rattle.std.specs.Option.{option_map}
 use Rattle.std.specs.List.{list_any}

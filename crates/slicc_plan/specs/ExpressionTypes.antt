@@ -1,7 +1,8 @@
 -- What an expression stands for in a body, whether it may be written, and what is broken in it. A name of a value stands for
 -- that; a name that isn't there is told at it, and so are a member of an enumeration and a field that aren't there; an operand
--- of a type that the operator doesn't take is told at the operand. Operators of one level group to the left. Of an expression
--- with a name that isn't there no further complaint is made. Parentheses change nothing.
+-- of a type that the operator doesn't take is told at the operand. Operators of one level group to the left. Of a name that
+-- isn't there no further complaint is made, but an operator or a call that it is in has its own type all the same. Parentheses
+-- change nothing but where the expression starts.
 use Rattle.std.specs.Prelude.{ℕ, Bool, true, false, cond, Option, None, Some, List, [], ◌∷◌, ◌++◌, find, map}
 use Rattle.std.specs.Option.{option_map}
 use Rattle.std.specs.Str.{bytes_eq}

@@ -210,7 +210,7 @@ abbrev pub fits : Machine → Wanted → Meaning → Bool
 fits m wanted (value t) = value_fits m wanted t
 fits m wanted no_line = no_line_fits m wanted
 fits m wanted bare_line = bare_line_fits wanted
--- where it isn't wanted, `new` breaks another rule, told at the same place
+-- where it isn't wanted, `new` breaks another rule, and is told by that alone
 fits m wanted (new_line made) = true
 fits m wanted (incoming t) = message_fits wanted
 fits m wanted (outgoing t) = message_fits wanted

@@ -1,7 +1,8 @@
 -- Which of all broken rules is told: the first. The rules of declarations come first, then those of bodies, then those of
 -- machines. Of the former two sorts the one with the earliest place counts, in the order of reading and then of the text, and
 -- at one place the one of the least number. Of the last sort the machines are gone through in order, each rule by rule. Where all
--- this is the same, the one with the earliest second place counts. The order and the numbers are this project's own. Which rules are broken, and where, stands in other files.
+-- this is the same, the one with the earliest second place counts. The order and the numbers are this project's own. Which rules
+-- are broken, and where, stands in other files.
 use Rattle.std.specs.Prelude.{◌≡◌, ◌||◌, ◌&&◌, ◌==◌, ℕ, Bool, true, false, nat_lt, cond, Contains, All, MatchOption, Option, None, Some, List, [], ◌∷◌}
 use Rattle.slicc_ast.specs.declared.tree.span.Span.{Span}
 use Rattle.slicc_plan.specs.declared.broken.Broken.{Broken}
