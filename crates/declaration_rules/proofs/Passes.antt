@@ -2,7 +2,7 @@
 use Rattle.std.proofs.Common.{◌≡◌, List, flat_map, ◌∙◌, sym}
 use Rattle.slicc_ast.specs.declared.tree.item.Tree.{Tree}
 use Rattle.slicc_plan.specs.declared.broken.Broken.{Broken}
-use Rattle.slicc_plan.specs.Declarations.{Declaration, Scope, declared_in, wide_scopes}
+use Rattle.slicc_plan.specs.Declarations.{declared_in, wide_scopes}
 use Rattle.slicc_plan.specs.FieldTypes.{FieldIn, all_fields, fields_of, fields_within, refused_field, refused_field_types}
 use Rattle.slicc_plan.specs.UnknownTypes.{unknown_in, unknown_types, unknown_use, uses_in}
 use Rattle.slicc_plan.specs.Values.{bad_field_defaults}

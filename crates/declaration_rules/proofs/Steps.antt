@@ -1,5 +1,5 @@
 -- One more step through a list of which each element may break rules.
-use Rattle.std.proofs.Common.{◌≡◌, ◌<◌, ◌++◌, ◌+◌, ℕ, Option, None, Some, Bool, true, false, not, is_some, is_none, List, [], ◌∷◌, flat_map, map, refl, sym, ◌∙◌, ap, take, length, get_or, add-one, append-nil, append_assoc}
+use Rattle.std.proofs.Common.{◌≡◌, ◌<◌, ◌++◌, ◌+◌, ℕ, Option, None, Some, Bool, true, false, not, is_some, is_none, List, [], ◌∷◌, flat_map, map, refl, sym, ◌∙◌, ap, take, length, get_or, add-one, append-nil}
 use Rattle.std.proofs.Math.Seq.{take-suc}
 use Rattle.std.proofs.lemmas.Grind.{flat_map-append}
 use Rattle.std.proofs.lemmas.List.{map-append}

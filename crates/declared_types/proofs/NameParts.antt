@@ -1,5 +1,5 @@
 -- A name that is put together from parts is told by the part that is left.
-use Rattle.std.proofs.Common.{◌≡◌, ◌++◌, ◌-◌, ◌≤◌, ◌+◌, ℕ, Bool, true, false, Option, None, Some, List, [], ◌∷◌, MatchOption, map, refl, sym, ◌∙◌, ap, subst, take, drop, length, arith, length-append, Bor, nat_eq}
+use Rattle.std.proofs.Common.{◌≡◌, ◌++◌, ◌-◌, ◌+◌, ℕ, Bool, true, false, Option, None, Some, List, [], ◌∷◌, MatchOption, map, refl, sym, ◌∙◌, ap, take, drop, length, arith, length-append, Bor}
 use Rattle.std.proofs.Math.Seq.{take-append_seam, drop-append_seam}
 use Rattle.std.proofs.lemmas.Bool.{false_from_ne_true}
 use Rattle.std.proofs.lemmas.Bool.Decides.{same_from_decides, Decides-like}

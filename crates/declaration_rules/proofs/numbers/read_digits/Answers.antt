@@ -1,4 +1,4 @@
-use Rattle.std.proofs.Common.{◌≡◌, ◌≤◌, ◌^◌, arith}
+use Rattle.std.proofs.Common.{arith}
 use Rattle.declaration_rules.proofs.Digits.{stops}
 use Rattle.declaration_rules.proofs.numbers.read_digits.Goals as goal
 

@@ -1,5 +1,4 @@
-use Rattle.std.proofs.Common.{◌≡◌, ap, ◌∙◌, flat_map, take, arith}
-use Rattle.declared_types.specs.Lent.{declaration_of, declarations_of}
+use Rattle.declared_types.specs.Lent.{declaration_of}
 use Rattle.declared_types.specs.Scopes.{scope_at}
 use Rattle.declaration_rules.proofs.Steps.{one_more}
 use Rattle.declaration_rules.proofs.rule.first_in_scope.Goals as goal

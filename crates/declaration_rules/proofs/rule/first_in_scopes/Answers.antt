@@ -1,4 +1,4 @@
-use Rattle.std.proofs.Common.{◌≡◌, ap, ◌∙◌, sym, arith}
+use Rattle.std.proofs.Common.{ap, ◌∙◌, sym, arith}
 use Rattle.slicc_plan.specs.Declarations.{everywhere, wide_scopes}
 use Rattle.slicc_plan.proofs.Firsts.{first_after-flat_map}
 use Rattle.slicc_plan.specs.Order.{first_after}

@@ -1,4 +1,4 @@
-use Rattle.std.proofs.Common.{◌≡◌, take, flat_map, map}
+use Rattle.std.proofs.Common.{◌≡◌, take, flat_map}
 use Rattle.slicc_plan.specs.Order.{first_after}
 use Rattle.slicc_plan.specs.UnknownTypes.{member_uses}
 use Rattle.declared_types.specs.Scopes.{scope_at}

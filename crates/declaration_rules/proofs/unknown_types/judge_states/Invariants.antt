@@ -1,4 +1,4 @@
-use Rattle.std.proofs.Common.{◌≡◌, take, flat_map, map}
+use Rattle.std.proofs.Common.{◌≡◌, take, map}
 use Rattle.slicc_plan.specs.Order.{first_after}
 use Rattle.slicc_plan.specs.UnknownTypes.{state_use}
 use Rattle.declared_types.specs.Scopes.{scope_at}

@@ -1,4 +1,4 @@
-use Rattle.std.proofs.Common.{◌≡◌, ◌∙◌, ap, [], cond}
+use Rattle.std.proofs.Common.{◌∙◌, ap, [], cond}
 use Rattle.std.specs.Option.{option_map}
 use Rattle.slicc_plan.specs.declared.built_in.BuiltInType.TheVariants.{Buffer, TbeTable}
 use Rattle.slicc_plan.specs.Order.{first_after}

@@ -1,4 +1,4 @@
-use Rattle.std.proofs.Common.{◌≡◌, ◌∙◌, ap}
+use Rattle.std.proofs.Common.{◌∙◌, ap}
 use Rattle.std.specs.List.{list_any}
 use Rattle.declared_types.specs.Scopes.{ScopeTable, is_machine_named, summaries}
 use Rattle.declared_types.proofs.ScopeTables.{bears_machine}

@@ -1,4 +1,4 @@
-use Rattle.std.proofs.Common.{◌≡◌, ◌∙◌, sym, codes}
+use Rattle.std.proofs.Common.{◌∙◌, sym, codes}
 use Rattle.std.specs.Str.{bytes_eq}
 use Rattle.slicc_plan.specs.BuiltInCalls.{permission_call}
 use Rattle.slicc_plan.specs.Declarations.{machine_names}
