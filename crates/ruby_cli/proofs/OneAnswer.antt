@@ -2,16 +2,14 @@
 use Rattle.std.proofs.Common.{◌≡◌, ◌≢◌, Option, None, Some, List, [], ◌∷◌, All, refl, sym, ◌∙◌, ap, subst}
 use Rattle.std.proofs.lemmas.List.Elements.{All-head}
 use Rattle.ruby_outside.specs.Files.{Files}
-use Rattle.slicc_ast.specs.Outline.{shape_of}
-use Rattle.slicc_ast.specs.Trees.{tree}
 use Rattle.slicc_ast.specs.declared.tree.item.Tree.{Tree}
 use Rattle.slicc_front.specs.Gathering.{AreAllowed, IsAllowed}
 use Rattle.slicc_front.specs.Reads.{Read}
-use Rattle.slicc_front.specs.Same.{AreAlike, IsAlike}
+use Rattle.slicc_front.specs.Same.{AreAlike, IsAlike, IsSameTree}
 use Rattle.slicc_front.specs.declared.gathered.Gathered.{Gathered}
 use Rattle.slicc_front.specs.declared.gathered.Gathered.TheVariants as gathered
 use Rattle.slicc_front.proofs.OneGathering.{one_by_reads, one_over_files}
-use Rattle.slicc_front.proofs.SameWants.{same_kinds}
+use Rattle.slicc_front.proofs.SameWants.{same_back, same_tokens}
 use Rattle.slicc_front.proofs.Ways.{gathered_allowed}
 use Rattle.small_machine.specs.declared.machine.Machine.{Machine}
 use Rattle.small_form.specs.SmallForm.{IsSmallForm}
@@ -29,27 +27,26 @@ use Rattle.ruby_cli.specs.Asked.{setting_of}
 use Rattle.ruby_cli.specs.Find.{IsAloneAnswer}
 use Rattle.ruby_cli.specs.Right.{IsToRun, IsOtherForm, IsRightFor, IsRightTo, IsRight, IsAnswer, IsSame}
 
--- a tree that is the same, places aside, is of the same form
-form_of_like : (t u : Tree) (m : Machine) → shape_of (tree t) ≡ shape_of (tree u) → IsSmallForm u m → IsSmallForm t m
-form_of_like t u m same form = record { tokens = same_kinds (tree t) (tree u) same ∙ form.tokens; well_formed = form.well_formed }
+-- a tree that is the same is of the same form
+form_of_like : (t u : Tree) (m : Machine) → IsSameTree t u → IsSmallForm u m → IsSmallForm t m
+form_of_like t u m same form = record { tokens = same_tokens t u same ∙ form.tokens; well_formed = form.well_formed }
 
 -- what is like one tree is one tree
-one_like : (t : Tree) (us : List Tree) → AreAlike (t ∷ []) us → (u : Tree) × (us ≡ u ∷ []) × (shape_of (tree t) ≡ shape_of (tree u))
+one_like : (t : Tree) (us : List Tree) → AreAlike (t ∷ []) us → (u : Tree) × (us ≡ u ∷ []) × IsSameTree t u
 one_like t [] alike = absurd alike
 one_like t (u ∷ []) alike = (u, refl, alike.0)
 one_like t (u ∷ v ∷ us) alike = absurd alike.1
 
-like_one : (ts : List Tree) (u : Tree) → AreAlike ts (u ∷ []) → (t : Tree) × (ts ≡ t ∷ []) × (shape_of (tree t) ≡ shape_of (tree u))
+like_one : (ts : List Tree) (u : Tree) → AreAlike ts (u ∷ []) → (t : Tree) × (ts ≡ t ∷ []) × IsSameTree t u
 like_one [] u alike = absurd alike
 like_one (t ∷ []) u alike = (t, refl, alike.0)
 like_one (t ∷ v ∷ ts) u alike = absurd alike.1
 
--- trees of another form are so also where the places are others
+-- trees of another form are so also where they are in another place of memory
 pub other_like : (ts us : List Tree) → AreAlike ts us → IsOtherForm us → (o : Options) (s : Setting) → IsToRun ts o s → ⊥
 other_like ts us alike other o s is =
     let like = one_like is.tree us (subst (λ xs. AreAlike xs us) is.alone alike) in
-    let back : shape_of (tree like.0) ≡ shape_of (tree is.tree) = sym like.2 in
-    other like.0 is.machine like.1 (form_of_like like.0 is.tree is.machine back is.form)
+    other like.0 is.machine like.1 (form_of_like like.0 is.tree is.machine (same_back is.tree like.0 like.2) is.form)
 
 other_back : (ts us : List Tree) → AreAlike ts us → IsOtherForm ts → (o : Options) (s : Setting) → IsToRun us o s → ⊥
 other_back ts us alike other o s is =

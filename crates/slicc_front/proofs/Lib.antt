@@ -1,4 +1,6 @@
 mod Folders
+mod OnePlacing
+mod OneSpelling
 mod ReadTexts
 mod WantedItems
 mod TreeTexts

@@ -1,4 +1,4 @@
--- Where reads of one name give the same, they lead to one answer, trees aside that are the same but for their places.
+-- Where reads of one name give the same, they lead to one answer.
 use Rattle.std.proofs.Common.{◌≡◌, ◌≢◌, ◌<◌, ◌≤◌, ◌++◌, ◌⊎◌, inl, inr, ℕ, true, false, Some, Result, Ok, Err, List, [], ◌∷◌, length, refl, sym, subst, ap, ◌∙◌, arith, codes}
 use Rattle.std.proofs.lemmas.Bool.{false≢true}
 use Rattle.std.proofs.lemmas.Option.{same_Some}
@@ -6,8 +6,6 @@ use Rattle.std.specs.List.{slice_get}
 use Rattle.ruby_outside.specs.Files.{Files as LibraryFiles}
 use Rattle.ruby_outside.specs.declared.library.Got.{Got}
 use Rattle.ruby_outside.specs.declared.library.Got.TheVariants as got
-use Rattle.slicc_ast.specs.Outline.{shape_of}
-use Rattle.slicc_ast.specs.Trees.{tree}
 use Rattle.slicc_ast.specs.declared.tree.item.Tree.{Tree}
 use Rattle.slicc_front.specs.declared.gathered.Gathered.{Gathered}
 use Rattle.slicc_front.specs.declared.gathered.Gathered.TheVariants.{Files, Refused, Absent, TooLarge, ReadFault, NoMemory}
@@ -17,7 +15,7 @@ use Rattle.slicc_front.specs.declared.state.Wanted.{Wanted}
 use Rattle.slicc_front.specs.Gathering.{IsGathered, IsGatheredFrom, IsNext, is_seen, most_files, read_of, refusal, source_of, wanted_of}
 use Rattle.slicc_front.specs.Gathering.IsGathered.{finished, passed_by, one_too_many, went_on, refused, absent, too_large, too_long, failed, no_memory, no_memory_for}
 use Rattle.slicc_front.specs.Reads.{Read, AreGiven, file_limit, given}
-use Rattle.slicc_front.specs.Same.{AreAlike, IsAlike, IsGatheredOver}
+use Rattle.slicc_front.specs.Same.{AreAlike, IsAlike, IsGatheredOver, IsSameTree}
 use Rattle.slicc_front.specs.Texts.{IsReadText, code_of}
 use Rattle.slicc_front.proofs.OneText.{IsOneAnswer, one_text}
 
@@ -125,7 +123,7 @@ same_read {folder = folder} {seen = seen} {trees = trees} {w = w} {left = left} 
     let agreed = subst P r.reads_are agree refl in
     record { more = r.more; leads = subst (λ x. ReadLeads folder seen trees w left x r.more g) (sym agreed.0) r.leads; agree = agreed.1 }
 
-alike_push : (ts us : List Tree) (t u : Tree) → AreAlike ts us → shape_of (tree t) ≡ shape_of (tree u) → AreAlike (ts ++ t ∷ []) (us ++ u ∷ [])
+alike_push : (ts us : List Tree) (t u : Tree) → AreAlike ts us → IsSameTree t u → AreAlike (ts ++ t ∷ []) (us ++ u ∷ [])
 alike_push [] [] t u alike same = (same, tt)
 alike_push [] (y ∷ us) t u alike same = absurd alike
 alike_push (x ∷ ts) [] t u alike same = absurd alike
@@ -138,12 +136,12 @@ at_end no_memory some = absurd (some refl)
 -- a second way from a file that is there: the same text, or more bytes than there may be
 module _ (folder : List ℕ) (seen : List Source) (others : List Tree) (w : Wanted) (left : List Wanted) (bytes : List ℕ) (more : List Read) (h : Gathered) where
   again_ok : (t : Tree) → length bytes ≤ file_limit → IsReadText (length seen) bytes (Ok t) → ReadLeads folder seen others w left (got.Bytes bytes) more h
-      → (u : Tree) × (shape_of (tree t) ≡ shape_of (tree u)) × IsGathered folder (seen ++ source_of w bytes ∷ []) (others ++ u ∷ []) (wanted_of folder (length seen) t ++ left) more h
+      → (u : Tree) × IsSameTree t u × IsGathered folder (seen ++ source_of w bytes ∷ []) (others ++ u ∷ []) (wanted_of folder (length seen) t ++ left) more h
   again_ok t short read (inl on) = ok_of on.answer (one_text (length seen) bytes (Ok t) on.answer read on.read) on.leads where
     ok_of : (answer : Result Tree Broken) → IsOneAnswer (Ok t) answer → TextLeads folder seen others w left bytes more h answer
-        → (u : Tree) × (shape_of (tree t) ≡ shape_of (tree u)) × IsGathered folder (seen ++ source_of w bytes ∷ []) (others ++ u ∷ []) (wanted_of folder (length seen) t ++ left) more h
+        → (u : Tree) × IsSameTree t u × IsGathered folder (seen ++ source_of w bytes ∷ []) (others ++ u ∷ []) (wanted_of folder (length seen) t ++ left) more h
     ok_of (Ok u) one leads =
-        (u, one.shapes, subst (λ ws. IsGathered folder (seen ++ source_of w bytes ∷ []) (others ++ u ∷ []) (ws ++ left) more h) (sym (one.wants folder (length seen))) leads)
+        (u, one.same, subst (λ ws. IsGathered folder (seen ++ source_of w bytes ∷ []) (others ++ u ∷ []) (ws ++ left) more h) (sym (one.wants folder (length seen))) leads)
     ok_of (Err c) one leads = absurd one
   again_ok t short read (inr (long, is)) = absurd (omega (arith, short, long))
 

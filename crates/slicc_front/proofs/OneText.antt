@@ -1,5 +1,5 @@
--- A text is read in one way: two trees of it are the same but for their places and want the same files, and what is broken
--- in it is one rule at one place.
+-- A text is read in one way: two trees of it are the same and want the same files, and what is broken in it is one rule at
+-- one place.
 use Rattle.std.proofs.Common.{◌≡◌, ◌+◌, ◌-◌, ◌++◌, ℕ, Some, Result, Ok, Err, List, [], length, refl, sym, subst, ap, ◌∙◌, arith, length-append}
 use Rattle.std.proofs.lemmas.List.{length-map}
 use Rattle.std.proofs.lemmas.Option.{same_Some}
@@ -9,8 +9,6 @@ use Rattle.grammar_rows.specs.Faults.Stop.{Passed, Bad, Deep, Short}
 use Rattle.grammar_rows.specs.Grammar.Row.{done, form}
 use Rattle.grammar_rows.specs.Grammar.Rows.{end}
 use Rattle.grammar_rows.proofs.Fronts.{one_stop}
-use Rattle.slicc_ast.specs.Outline.{shape_of}
-use Rattle.slicc_ast.specs.Trees.{tree}
 use Rattle.slicc_ast.specs.declared.tree.item.Tree.{Tree}
 use Rattle.slicc_grammar.specs.Form.{Form}
 use Rattle.slicc_grammar.specs.TokenKinds.{kind_of}
@@ -19,12 +17,12 @@ use Rattle.slicc_lex.specs.declared.token.Token.{Token}
 use Rattle.slicc_lex.specs.Spells.{Spells}
 use Rattle.slicc_lex.specs.Syntax.{IsStoppedAt, symbols}
 use Rattle.slicc_lex.proofs.OneReading.{one_reading}
-use Rattle.slicc_lex.proofs.OneTree.{one_tree_spelled}
+use Rattle.slicc_front.proofs.OneSpelling.{one_spelling}
 use Rattle.slicc_front.specs.declared.reading.Broken.{Broken}
 use Rattle.slicc_front.specs.declared.reading.TextRule.{TextRule}
 use Rattle.slicc_front.specs.declared.reading.TextRule.TheVariants.{BadToken, DeepNesting}
 use Rattle.slicc_front.specs.Gathering.{wanted_of}
-use Rattle.slicc_front.specs.Same.{IsOneReading}
+use Rattle.slicc_front.specs.Same.{IsOneReading, IsSameTree}
 use Rattle.slicc_front.specs.Texts.{IsReadText, IsReadTokens, broken_at, broken_by}
 use Rattle.slicc_front.specs.Texts.IsReadText.{has_no_tokens, has_tokens}
 use Rattle.slicc_front.specs.Texts.IsReadTokens.{spells_a_tree, has_a_bad_token, nests_too_deep}
@@ -32,7 +30,7 @@ use Rattle.slicc_front.proofs.SameWants.{same_wants}
 
 -- two trees of one text
 pub record IsOneTree (t u : Tree) : Type 0 where
-  pub shapes : shape_of (tree t) ≡ shape_of (tree u)
+  pub same : IsSameTree t u
   pub wants : (folder : List ℕ) (file : ℕ) → wanted_of folder file t ≡ wanted_of folder file u
 
 abbrev pub IsOneAnswer : Result Tree Broken → Result Tree Broken → Type 0
@@ -82,7 +80,7 @@ one_broken tokens rule left b c (t, at, is) (u, also, same) =
     is ∙ ap (λ (x : Token). broken_at rule x.span.start) token ∙ sym same
 
 one_answer_to : (tokens : List Token) (stop : Stop) (a b : Result Tree Broken) → IsAnswerTo tokens stop a → IsAnswerTo tokens stop b → IsOneAnswer a b
-one_answer_to tokens (Passed rest) (Ok t) (Ok u) is also = record { shapes = one_tree_spelled tokens t u is also; wants = same_wants tokens t u is also }
+one_answer_to tokens (Passed rest) (Ok t) (Ok u) is also = record { same = one_spelling tokens t u is also; wants = same_wants tokens t u is also }
 one_answer_to tokens (Passed rest) (Ok t) (Err c) is also = absurd also
 one_answer_to tokens (Passed rest) (Err b) answer is also = absurd is
 one_answer_to tokens (Bad rest) (Ok t) answer is also = absurd is
@@ -117,7 +115,7 @@ one_text file bytes a b (has_tokens {tokens = tokens} {answer = first} reads is)
     one_of_tokens tokens first second is (subst (λ ts. IsReadTokens ts second) (sym same) of)
 
 reading_of : (a b : Result Tree Broken) → IsOneAnswer a b → IsOneReading a b
-reading_of (Ok t) (Ok u) one = one.shapes
+reading_of (Ok t) (Ok u) one = one.same
 reading_of (Ok t) (Err c) one = one
 reading_of (Err b) (Ok u) one = one
 reading_of (Err b) (Err c) one = one

@@ -2,43 +2,27 @@
 use Rattle.std.proofs.Common.{◌≡◌, ◌++◌, ℕ, Option, None, Some, List, [], ◌∷◌, length, refl, sym, subst, ap, ◌∙◌, arith, length-append}
 use Rattle.std.proofs.lemmas.List.{append_cancel_left}
 use Rattle.std.specs.List.{flat_map}
-use Rattle.slicc_ast.specs.Outline.{Outline, Parts, node, none, token, part, provided, kinds_in, kinds_of, shape_in, shape_of, IsPlaced, ArePlaced}
-use Rattle.slicc_ast.specs.Trees.{item as item_of, item_list, protocol_parts, tree_parts}
+use Rattle.slicc_ast.specs.Outline.{Outline, kinds_of, shape_in, shape_of, IsPlaced, ArePlaced}
+use Rattle.slicc_ast.specs.Trees.{item as item_of, item_list, protocol_parts, tree, tree_parts}
 use Rattle.slicc_ast.specs.declared.tree.item.Item.{Item}
 use Rattle.slicc_ast.specs.declared.tree.item.Item.TheVariants.{Include, Enumeration, Structure, Machine}
 use Rattle.slicc_ast.specs.declared.tree.item.Tree.{Tree}
 use Rattle.slicc_ast.specs.declared.tree.span.Span.{Span}
 use Rattle.slicc_lex.specs.declared.token.Token.{Token}
 use Rattle.slicc_lex.specs.Spells.{Spells, token_spans}
+use Rattle.slicc_front.proofs.OnePlacing.{shape-kinds, placed_length}
 use Rattle.slicc_lex.proofs.OneTree.{one_tree_spelled}
 use Rattle.slicc_front.specs.Gathering.{wanted_by, wanted_of}
+use Rattle.slicc_front.specs.Same.{IsSameTree}
 
--- a shape has the tokens of its outline
-mutual
-  shape-kinds : (o : Outline) → kinds_of (shape_of o) ≡ kinds_of o
-  shape-kinds (node span parts) = shape_in-kinds parts
-
-  shape_in-kinds : (parts : Parts) → kinds_in (shape_in parts) ≡ kinds_in parts
-  shape_in-kinds none = refl
-  shape_in-kinds (token kind parts) = ap (λ ks. kind ∷ ks) (shape_in-kinds parts)
-  shape_in-kinds (part o parts) = ap (λ ks. ks ++ kinds_in (shape_in parts)) (shape-kinds o) ∙ ap (λ ks. kinds_of o ++ ks) (shape_in-kinds parts)
-  shape_in-kinds (provided condition parts) = shape_in-kinds parts
-
-pub same_kinds : (o p : Outline) → shape_of o ≡ shape_of p → kinds_of o ≡ kinds_of p
+same_kinds : (o p : Outline) → shape_of o ≡ shape_of p → kinds_of o ≡ kinds_of p
 same_kinds o p same = sym (shape-kinds o) ∙ ap kinds_of same ∙ shape-kinds p
 
--- an outline is placed at as many tokens as it has
-mutual
-  placed_length : (o : Outline) (spans : List Span) → IsPlaced o spans → length spans ≡ length (kinds_of o)
-  placed_length (node span parts) spans is = placed_in_length parts spans is.1
+pub same_tokens : (t u : Tree) → IsSameTree t u → kinds_of (tree t) ≡ kinds_of (tree u)
+same_tokens t u same = same_kinds (tree t) (tree u) same.shapes
 
-  placed_in_length : (parts : Parts) (spans : List Span) → ArePlaced parts spans → length spans ≡ length (kinds_in parts)
-  placed_in_length none spans is = ap length is
-  placed_in_length (token kind parts) [] is = absurd is
-  placed_in_length (token kind parts) (first ∷ spans) is = omega (arith, placed_in_length parts spans is)
-  placed_in_length (part o parts) spans (own, rest, split, inner, others) =
-      ap length split ∙ length-append own rest ∙ omega (arith, placed_length o own inner, placed_in_length parts rest others, length-append (kinds_of o) (kinds_in parts))
-  placed_in_length (provided condition parts) spans is = placed_in_length parts spans is
+pub same_back : (t u : Tree) → IsSameTree t u → IsSameTree u t
+same_back t u same = record { shapes = sym same.shapes; spans = sym same.spans }
 
 -- two splits at one place are one
 same_front : {A : Type 0} (own other rest left : List A) → own ++ rest ≡ other ++ left → length own ≡ length other → own ≡ other

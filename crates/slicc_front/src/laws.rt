@@ -10,14 +10,13 @@ ghost use Rattle.slicc_front.specs.declared.gathered.Gathered.TheVariants.{NoMem
 ghost use Rattle.slicc_front.specs.declared.gathered.Gathered.{Gathered as GatheredRecord};
 ghost use Rattle.slicc_front.specs.declared.reading.Broken.{Broken as BrokenRecord};
 
-/// The bytes of a file have one tree, the places of its nodes aside, or break one rule at one place before any other.
+/// The bytes of a file have one tree, with one place for each of its nodes, or break one rule at one place before any other.
 pub fn texts_are_read_in_one_way()
     ensures { (file : ℕ) (bytes : List ℕ) (a b : Result TreeRecord BrokenRecord)
         → IsReadText file bytes a → IsReadText file bytes b → IsOneReading a b }
 {}
 
-/// The same reads lead to one answer, want of memory and the places of trees' nodes aside, and so do the same files. No
-/// name is read twice.
+/// The same reads lead to one answer where memory doesn't run out, and so do the same files. No name is read twice.
 pub fn files_are_gathered_in_one_way()
     ensures by_reads { (name : List ℕ) (reads : List Read) (g h : GatheredRecord)
         → IsGatheredFrom name reads g → IsGatheredFrom name reads h
