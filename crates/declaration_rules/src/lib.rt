@@ -18,4 +18,4 @@ pub use all::{judge_field_types, judge_prototypes, judge_type_names, judge_value
 pub use field_types::nature_in;
 pub use members::has_member;
 pub use numbers::number_value;
-pub use values::{judge_literal, judge_object_attributes};
+pub use values::{is_built_in, judge_literal, judge_object_attributes};

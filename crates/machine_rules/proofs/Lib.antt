@@ -1,1 +1,5 @@
 mod Empty
+mod KnownIn
+mod Scopes
+mod Taken
+mod Walks

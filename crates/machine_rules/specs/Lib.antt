@@ -1,0 +1,4 @@
+pub mod LineSorts
+pub mod MachinesIn
+pub mod Ports
+pub mod WantedTypes

@@ -1,7 +1,19 @@
 //! The rules of machines that need no body: which of them a protocol breaks first.
 #![tactic(auto)]
 
+mod buffer_list;
+mod lines;
+mod machine_in;
+mod network_rules;
 mod parts;
+mod port_rules;
+mod ports;
+mod rule;
+mod same;
+mod state_rules;
+mod wanted;
 
+pub use network_rules::networks;
 pub use parts::{machine_parts, shared_pairs};
 pub use ruby_base::NoMemory;
+pub use state_rules::state_functions;

@@ -1,0 +1,8 @@
+use Rattle.std.proofs.Common.{◌≡◌, [], map, take}
+use Rattle.slicc_plan.specs.Networks.{differing_after}
+use Rattle.slicc_plan.specs.Order.{first_after}
+use Rattle.machine_rules.specs.Ports.{port_seen}
+use Rattle.machine_rules.proofs.network_rules.judge_types.Given as goal
+
+abbrev pub invariant-loop-k : goal.invariant-loop-k
+invariant-loop-k l = l.found ≡ first_after l.fn.first (differing_after [] (map port_seen (take l.k l.ports)))

@@ -1,0 +1,13 @@
+use Rattle.std.proofs.Common.{◌≡◌, ap, ◌∙◌}
+use Rattle.std.specs.Option.{option_copied}
+use Rattle.slicc_plan.specs.Order.{first_after}
+use Rattle.slicc_plan.specs.StateFunctions.{line_where, own_state, unlike}
+use Rattle.machine_rules.proofs.Taken.{read_taken}
+use Rattle.machine_rules.proofs.state_rules.unlike_reader.Goals as goal
+
+pub returns : goal.returns
+returns c =
+    let m = c.args.m in
+    c.unlike.ensures
+    ∙ ap (λ ws. first_after c.args.first (unlike m.scopes.now.trees.now m.number m.machine.now own_state ws (option_copied c.args.function)))
+    (read_taken c.line.result c.line-2.result m.machine.now (c.line.ensures ∙ ap line_where c.requires.tbe) (c.line-2.ensures ∙ ap line_where c.requires.entry))

@@ -1,0 +1,69 @@
+ghost use Rattle.std.specs.Prelude.{◌≡◌, Option, List, ℕ, IfOk};
+ghost use Rattle.slicc_ast.specs.declared.tree.item.Tree.{Tree as TreeRecord};
+ghost use Rattle.slicc_ast.specs.declared.tree.machine.Machine.{Machine as MachineRecord};
+ghost use Rattle.slicc_plan.specs.declared.broken.Broken.{Broken as BrokenRecord};
+ghost use Rattle.slicc_plan.specs.Machines.{in_each};
+ghost use Rattle.slicc_plan.specs.Order.{first_after};
+ghost use Rattle.declared_types.specs.Scopes.{scope_at};
+ghost use Rattle.machine_rules.specs.MachinesIn.{IsMachineIn, found_within};
+
+use crate::machine_in::MachineIn;
+use declared_types::{Scope, Scopes};
+use machine_table::kept_number;
+use ruby_base::NoMemory;
+use slicc_plan::Broken;
+use std::alloc::Global;
+
+/// A rule that each machine keeps or breaks, whatever the others are.
+pub trait MachineRule {
+    ghost found_in: { List TreeRecord → ℕ → MachineRecord → List BrokenRecord };
+
+    /// The first broken rule, after a machine.
+    fn judge(
+        alloc: Global,
+        first: Option<Broken>,
+        m: MachineIn<'_, '_>,
+    ) -> Result<Option<Broken>, NoMemory>
+        requires { IsMachineIn m }
+        ensures { IfOk result (λ found. found ≡ first_after first (found_in m.entry.scopes.now.trees.now m.entry.number m.entry.machine.now)) };
+}
+
+fn first_in_scope<R: MachineRule>(
+    alloc: Global,
+    first: Option<Broken>,
+    scopes: &Scopes<'_>,
+    scope: usize,
+    number: u16,
+) -> Result<Option<Broken>, NoMemory>
+    ensures { IfOk result (λ found. found ≡ first_after first (found_within (R.found_in scopes.now.trees.now number) (scope_at scopes.now.trees.now scope))) }
+{
+    match scopes.scope(scope) {
+        Scope::Everywhere => Ok(first),
+        Scope::Within(machine) => R::judge(
+            alloc,
+            first,
+            MachineIn {
+                scopes,
+                scope,
+                number,
+                machine,
+            },
+        ),
+    }
+}
+
+/// The first broken rule, after all machines.
+pub fn first_in_machines<R: MachineRule>(
+    alloc: Global,
+    first: Option<Broken>,
+    scopes: &Scopes<'_>,
+) -> Result<Option<Broken>, NoMemory>
+    ensures { IfOk result (λ found. found ≡ first_after first (in_each (R.found_in scopes.now.trees.now) scopes.now.trees.now)) }
+{
+    let mut found = first;
+    for scope in 1..scopes.len() {
+        let number = kept_number(scope - 1)?;
+        found = first_in_scope::<R>(alloc, found, scopes, scope, number)?;
+    }
+    Ok(found)
+}

@@ -1,0 +1,49 @@
+//! Whether two types are one.
+ghost use Rattle.std.specs.Prelude.{◌≡◌};
+ghost use Rattle.slicc_plan.specs.BuiltIn.{is_same_type};
+ghost use Rattle.slicc_plan.specs.Buffers.{is_same_known, is_same_scope};
+ghost use Rattle.declared_types.specs.Lent.{scope_of, type_of};
+
+use declared_types::{KnownType, Scope};
+use slicc_plan::BuiltInType;
+
+fn same_scope(a: Scope, b: Scope) -> bool
+    ensures { result ≡ is_same_scope (scope_of a.entry) (scope_of b.entry) }
+{
+    match (a, b) {
+        (Scope::Everywhere, Scope::Everywhere) => true,
+        (Scope::Within(m), Scope::Within(n)) => m.name.text.as_slice() == n.name.text.as_slice(),
+        _ => false,
+    }
+}
+
+fn same_built_in(a: BuiltInType, b: BuiltInType) -> bool
+    ensures { result ≡ is_same_type a b }
+{
+    a == b
+}
+
+/// Whether two types are the same built-in type, or have one name and one scope.
+pub fn same_type(a: KnownType, b: KnownType) -> bool
+    ensures { result ≡ is_same_known (type_of a.entry) (type_of b.entry) }
+{
+    match (a, b) {
+        (KnownType::BuiltIn(b), KnownType::BuiltIn(c)) => same_built_in(b, c),
+        (KnownType::Structure(scope, s), KnownType::Structure(other, u)) => {
+            same_scope(scope, other) && s.name.text.as_slice() == u.name.text.as_slice()
+        }
+        (KnownType::Enumeration(scope, e), KnownType::Enumeration(other, f)) => {
+            same_scope(scope, other) && e.name.text.as_slice() == f.name.text.as_slice()
+        }
+        (KnownType::Enumeration(scope, e), KnownType::States(other, f)) => {
+            same_scope(scope, other) && e.name.text.as_slice() == f.name.text.as_slice()
+        }
+        (KnownType::States(scope, e), KnownType::Enumeration(other, f)) => {
+            same_scope(scope, other) && e.name.text.as_slice() == f.name.text.as_slice()
+        }
+        (KnownType::States(scope, e), KnownType::States(other, f)) => {
+            same_scope(scope, other) && e.name.text.as_slice() == f.name.text.as_slice()
+        }
+        _ => false,
+    }
+}
