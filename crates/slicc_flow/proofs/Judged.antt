@@ -5,7 +5,7 @@ use Rattle.std.proofs.lemmas.Grind.{flat_map-append}
 use Rattle.slicc_ast.specs.declared.tree.item.Tree.{Tree}
 use Rattle.slicc_ast.specs.declared.tree.machine.Machine.{Machine}
 use Rattle.slicc_plan.specs.declared.broken.Broken.{Broken}
-use Rattle.slicc_plan.specs.Declarations.{Scope, declared_in, everywhere, within, machines_of, wide_scopes}
+use Rattle.slicc_plan.specs.Declarations.{declared_in, everywhere, within, machines_of, wide_scopes}
 use Rattle.slicc_plan.specs.Machines.{in_each_from}
 use Rattle.slicc_plan.specs.Order.{first_after}
 use Rattle.slicc_plan.proofs.Firsts.{first_after-append}
