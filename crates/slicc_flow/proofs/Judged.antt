@@ -5,7 +5,7 @@ use Rattle.std.proofs.lemmas.Grind.{flat_map-append}
 use Rattle.slicc_ast.specs.declared.tree.item.Tree.{Tree}
 use Rattle.slicc_ast.specs.declared.tree.machine.Machine.{Machine}
 use Rattle.slicc_plan.specs.declared.broken.Broken.{Broken}
-use Rattle.slicc_plan.specs.Declarations.{Scope, declared_in, everywhere, within, machines_of, wide_scopes}
+use Rattle.slicc_plan.specs.Declarations.{declared_in, everywhere, within, machines_of, wide_scopes}
 use Rattle.slicc_plan.specs.Machines.{in_each_from}
 use Rattle.slicc_plan.specs.Order.{first_after}
 use Rattle.slicc_plan.proofs.Firsts.{first_after-append}
@@ -14,13 +14,13 @@ use Rattle.slicc_plan.specs.declared.built_in.BuiltInType.TheVariants.{Directory
 use Rattle.slicc_plan.specs.BodyParts.{Names, directory_names, is_table_type, name_of_type, names_in, names_of_written, table_names, with_name, written_functions}
 use Rattle.slicc_plan.specs.BodySizes.{large_bodies}
 use Rattle.slicc_plan.specs.CallsBetween.{call_circles}
-use Rattle.slicc_plan.specs.ReadOnly.{reading_changes}
 use Rattle.slicc_plan.specs.Types.{is_built_in, type_in}
 use Rattle.declared_types.specs.Scopes.{scope_at}
 use Rattle.call_graph.proofs.FirstOf.{first_of_three}
 use Rattle.slicc_flow.specs.Tables.{is_directory_name, is_table_name}
 use Rattle.slicc_flow.specs.declared.machine.MachineBodies.{MachineBodies}
-use Rattle.slicc_flow.specs.Machines.{all_bodies, bodies_at, bodies_in, bodies_of_scope, changes_of, circles_of, each_from, large_of}
+use Rattle.slicc_flow.specs.Flows.{broken_flow}
+use Rattle.slicc_flow.specs.Machines.{all_bodies, bodies_at, bodies_in, bodies_of_scope, bodies_with, changes_of, circles_of, each_from, found_in, large_of}
 
 pub each_same : (trees : List Tree) (found : ℕ → MachineBodies → List Broken) (number : ℕ) (ms : List Machine) → each_from found number (map (bodies_in trees) ms) ≡ in_each_from number (λ n m. found n (bodies_in trees m)) ms
 each_same trees found number [] = refl
@@ -60,9 +60,19 @@ named trees scope m n fs ts ds at f t d fi ti di =
     ∙ ap (λ x. named_by (names_of_written (written_functions m)) (table_names trees m) x) directories
 
 -- three lists one behind the other, found in machines
-pub judged : (first p q r : Option Broken) (trees : List Tree) (machines : List MachineBodies) → machines ≡ all_bodies trees → p ≡ first_after first (each_from circles_of 0 machines) → q ≡ first_after p (each_from large_of 0 machines) → r ≡ first_after q (each_from changes_of 0 machines) → r ≡ first_after first ((call_circles trees ++ large_bodies trees) ++ reading_changes trees)
-judged first p q r trees machines is c l h =
-    let one : p ≡ first_after first (call_circles trees) = c ∙ ap (λ ms. first_after first (each_from circles_of 0 ms)) is ∙ ap (first_after first) (each_same trees circles_of 0 (machines_of trees)) in
-    let two : q ≡ first_after p (large_bodies trees) = l ∙ ap (λ ms. first_after p (each_from large_of 0 ms)) is ∙ ap (first_after p) (each_same trees large_of 0 (machines_of trees)) in
-    let three : r ≡ first_after q (reading_changes trees) = h ∙ ap (λ ms. first_after q (each_from changes_of 0 ms)) is ∙ ap (first_after q) (each_same trees changes_of 0 (machines_of trees)) in
-    first_of_three first p q r (call_circles trees) (large_bodies trees) (reading_changes trees) one two three
+pub judged : (first p q r : Option Broken) (machines : List MachineBodies) → p ≡ first_after first (each_from circles_of 0 machines) → q ≡ first_after p (each_from large_of 0 machines) → r ≡ first_after q (each_from changes_of 0 machines) → r ≡ first_after first (found_in machines)
+judged first p q r machines c l h =
+    first_of_three first p q r (each_from circles_of 0 machines) (each_from large_of 0 machines) (each_from changes_of 0 machines) c l h
+
+pub found_same : (trees : List Tree) (machines : List MachineBodies) → machines ≡ all_bodies trees → found_in machines ≡ broken_flow trees
+found_same trees machines is =
+    ap found_in is
+    ∙ ap (λ xs. (xs ++ each_from large_of 0 (all_bodies trees)) ++ each_from changes_of 0 (all_bodies trees)) (each_same trees circles_of 0 (machines_of trees))
+    ∙ ap (λ xs. (call_circles trees ++ xs) ++ each_from changes_of 0 (all_bodies trees)) (each_same trees large_of 0 (machines_of trees))
+    ∙ ap (λ xs. (call_circles trees ++ large_bodies trees) ++ xs) (each_same trees changes_of 0 (machines_of trees))
+
+pub broken_all : (trees : List Tree) (machines : List MachineBodies) (first r : Option Broken) → machines ≡ all_bodies trees → r ≡ first_after first (found_in machines) → r ≡ first_after first (broken_flow trees)
+broken_all trees machines first r is e = e ∙ ap (first_after first) (found_same trees machines is)
+
+pub placed : (trees : List Tree) (m : Machine) (names : Names) (r : MachineBodies) → names ≡ names_in trees m → r ≡ bodies_with names m → r ≡ bodies_in trees m
+placed trees m names r is e = e ∙ ap (λ n. bodies_with n m) is

@@ -1,5 +1,5 @@
 -- The tables that the actions of transitions check, and how often one of them is among these.
-use Rattle.std.specs.Prelude.{ℕ, ◌==◌, Option, None, Some, List, [], ◌∷◌, flat_map, map}
+use Rattle.std.specs.Prelude.{ℕ, ◌==◌, Option, None, Some, List, flat_map, map}
 use Rattle.std.specs.List.{count_by, slice_get}
 use Rattle.slicc_ast.specs.declared.tree.name.Name.{Name}
 use Rattle.slicc_ast.specs.declared.tree.item.Tree.{Tree}

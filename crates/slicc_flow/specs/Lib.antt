@@ -1,3 +1,4 @@
 pub mod Checks
+pub mod Flows
 pub mod Machines
 pub mod Tables

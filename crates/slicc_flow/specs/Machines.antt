@@ -1,19 +1,31 @@
 -- The bodies of machines, and what the rules of flow find in them. Machines are numbered in the order of the text.
-use Rattle.std.specs.Prelude.{ℕ, ◌+◌, ◌++◌, List, [], ◌∷◌, map}
+use Rattle.std.specs.Prelude.{ℕ, ◌+◌, ◌++◌, List, [], ◌∷◌, codes, map}
 use Rattle.slicc_ast.specs.declared.tree.item.Tree.{Tree}
 use Rattle.slicc_ast.specs.declared.tree.machine.Machine.{Machine}
 use Rattle.slicc_plan.specs.declared.broken.Broken.{Broken}
-use Rattle.slicc_plan.specs.BodyParts.{action_bodies, function_bodies, port_bodies}
+use Rattle.slicc_plan.specs.BodyParts.{Names, bodies_of, names_in, names_of_written, number_in, written_actions, written_functions, written_ports}
 use Rattle.slicc_plan.specs.BodySizes.{large_among}
 use Rattle.slicc_plan.specs.CallsBetween.{circles_among}
 use Rattle.slicc_plan.specs.Declarations.{Scope, everywhere, within, machines_of}
-use Rattle.slicc_plan.specs.ReadOnly.{changes_among, state_function}
+use Rattle.slicc_plan.specs.Machines.{transitions_of}
+use Rattle.slicc_plan.specs.ReadOnly.{changes_among}
 use Rattle.declared_types.specs.Scopes.{scope_at}
 use Rattle.slicc_flow.specs.declared.machine.MachineBodies.{MachineBodies}
+use Rattle.slicc_flow.specs.Checks.{transition_checks}
+
+-- where names in the machine stand for this
+abbrev pub bodies_with : Names → Machine → MachineBodies
+bodies_with names m =
+    record {
+      functions = bodies_of names (written_functions m);
+      actions = bodies_of names (written_actions m);
+      ports = bodies_of names (written_ports m);
+      state = number_in names.functions (codes "getState");
+      checks = map (transition_checks (names_of_written (written_actions m)) (bodies_of names (written_actions m))) (transitions_of m);
+    }
 
 abbrev pub bodies_in : List Tree → Machine → MachineBodies
-bodies_in trees m =
-    record { functions = function_bodies trees m; actions = action_bodies trees m; ports = port_bodies trees m; state = state_function m }
+bodies_in trees m = bodies_with (names_in trees m) m
 
 abbrev pub bodies_of_scope : List Tree → Scope → List MachineBodies
 bodies_of_scope trees everywhere = []
@@ -24,6 +36,10 @@ bodies_at trees scope = bodies_of_scope trees (scope_at trees scope)
 
 abbrev pub all_bodies : List Tree → List MachineBodies
 all_bodies trees = map (bodies_in trees) (machines_of trees)
+
+-- what the transitions of these machines check
+abbrev pub checks_in : List MachineBodies → List (List (List ℕ))
+checks_in machines = map (λ (b : MachineBodies). b.checks) machines
 
 -- of these machines, which are numbered from here on
 abbrev pub each_from : (ℕ → MachineBodies → List Broken) → ℕ → List MachineBodies → List Broken
@@ -40,3 +56,7 @@ large_of number b =
 
 abbrev pub changes_of : ℕ → MachineBodies → List Broken
 changes_of number b = changes_among number b.functions b.ports b.state
+
+-- what these machines break of the rules of flow
+abbrev pub found_in : List MachineBodies → List Broken
+found_in machines = each_from circles_of 0 machines ++ each_from large_of 0 machines ++ each_from changes_of 0 machines

@@ -1,10 +1,8 @@
 //! The rules of flow, over all machines.
 ghost use Rattle.std.specs.Prelude.{◌≡◌, ◌++◌, IfOk, OnOk};
-ghost use Rattle.slicc_plan.specs.BodySizes.{large_bodies};
-ghost use Rattle.slicc_plan.specs.CallsBetween.{call_circles};
 ghost use Rattle.slicc_plan.specs.Order.{first_after};
-ghost use Rattle.slicc_plan.specs.ReadOnly.{reading_changes};
-ghost use Rattle.slicc_flow.specs.Machines.{all_bodies, bodies_at, changes_of, circles_of, each_from, large_of};
+ghost use Rattle.slicc_flow.specs.Flows.{broken_flow};
+ghost use Rattle.slicc_flow.specs.Machines.{all_bodies, bodies_at, changes_of, circles_of, each_from, found_in, large_of};
 
 use crate::machine::{MachineBodies, machine_bodies};
 use call_graph::{circles, large_bodies, reading_changes};
@@ -103,17 +101,27 @@ fn all_changes(
     Ok(first)
 }
 
+/// The first broken rule after those of flow that these machines break.
+pub fn first_found(
+    alloc: Global,
+    first: Option<Broken>,
+    machines: &[MachineBodies],
+) -> Result<Option<Broken>, NoMemory>
+    ensures { IfOk result (λ r. r ≡ first_after first (found_in machines.now)) }
+{
+    let first = all_circles(alloc, first, machines)?;
+    let first = all_large(alloc, first, machines)?;
+    all_changes(alloc, first, machines)
+}
+
 /// The first broken rule after those of calls in circles, of bodies that are too large and of what only reads.
 pub fn flow_broken(
     alloc: Global,
     first: Option<Broken>,
     scopes: &Scopes<'_>,
 ) -> Result<Option<Broken>, NoMemory>
-    ensures { IfOk result (λ r. r ≡ first_after first (call_circles scopes.now.trees.now
-        ++ large_bodies scopes.now.trees.now ++ reading_changes scopes.now.trees.now)) }
+    ensures { IfOk result (λ r. r ≡ first_after first (broken_flow scopes.now.trees.now)) }
 {
     let machines = all_bodies(alloc, scopes)?;
-    let first = all_circles(alloc, first, &machines)?;
-    let first = all_large(alloc, first, &machines)?;
-    all_changes(alloc, first, &machines)
+    first_found(alloc, first, &machines)
 }

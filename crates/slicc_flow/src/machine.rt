@@ -1,12 +1,14 @@
-//! The bodies of a machine.
-ghost use Rattle.std.specs.Prelude.{◌≡◌, IfOk, OnOk};
-ghost use Rattle.slicc_plan.specs.BodyParts.{action_bodies, bodies_of, function_bodies, names_in, port_bodies, written_actions, written_functions, written_ports};
+//! The bodies of a machine, and what its transitions check.
+ghost use Rattle.std.specs.Prelude.{◌≡◌, IfOk, map};
+ghost use Rattle.slicc_plan.specs.BodyParts.{bodies_of, names_in, names_of_written, written_actions, written_functions, written_ports};
 ghost use Rattle.slicc_plan.specs.Declarations.{within};
-ghost use Rattle.slicc_plan.specs.ReadOnly.{state_function};
+ghost use Rattle.slicc_plan.specs.Machines.{transitions_of};
 ghost use Rattle.declared_types.specs.Scopes.{scope_at};
 ghost use Rattle.body_parts.specs.Written.{written_list};
-ghost use Rattle.slicc_flow.specs.Machines.{bodies_in};
+ghost use Rattle.slicc_flow.specs.Checks.{transition_checks};
+ghost use Rattle.slicc_flow.specs.Machines.{bodies_in, bodies_with};
 
+use crate::checks::machine_checks;
 use crate::tables::{directories, tables};
 use body_parts::{Lent, Names, actions, bodies, functions, ports};
 use declared_types::Scopes;
@@ -15,7 +17,7 @@ use slicc_ast::tree::Machine;
 use slicc_plan::Body;
 use std::alloc::Global;
 
-/// The bodies of a machine by their parts.
+/// The bodies of a machine by their parts, and what its transitions check.
 #[derive(Drop)]
 pub struct MachineBodies {
     pub functions: Seq<Body>,
@@ -23,6 +25,8 @@ pub struct MachineBodies {
     pub ports: Seq<Body>,
     /// The number of the function `getState`, where there is one.
     pub state: Option<u32>,
+    /// By written transitions the tables that their actions check, one by one.
+    pub checks: Seq<Seq<u32>>,
 }
 
 // What names stand for in the machine that has this scope, and its functions.
@@ -42,11 +46,20 @@ fn names_of<'a>(
     Ok((Names::new(functions, tables, directories), written))
 }
 
-fn actions_of(alloc: Global, names: &Names, m: &Machine) -> Result<Seq<Body>, NoMemory>
-    ensures { IfOk result (λ r. r ≡ bodies_of names.now (written_actions m.now)) }
+// The actions of a machine, and what its transitions check.
+fn actions_of(
+    alloc: Global,
+    names: &Names,
+    m: &Machine,
+) -> Result<(Seq<Body>, Seq<Seq<u32>>), NoMemory>
+    ensures actions { IfOk result (λ r. r.0 ≡ bodies_of names.now (written_actions m.now)) }
+    ensures checks { IfOk result (λ r. r.1 ≡ map (transition_checks (names_of_written (written_actions m.now))
+        (bodies_of names.now (written_actions m.now))) (transitions_of m.now)) }
 {
-    let (_, written) = actions(alloc, m)?;
-    bodies(alloc, names, &written)
+    let (numbers, written) = actions(alloc, m)?;
+    let actions = bodies(alloc, names, &written)?;
+    let checks = machine_checks(alloc, &numbers, &actions, m)?;
+    Ok((actions, checks))
 }
 
 fn ports_of(alloc: Global, names: &Names, m: &Machine) -> Result<Seq<Body>, NoMemory>
@@ -56,7 +69,29 @@ fn ports_of(alloc: Global, names: &Names, m: &Machine) -> Result<Seq<Body>, NoMe
     bodies(alloc, names, &written)
 }
 
-/// The bodies of the machine that has this scope.
+// The bodies where names stand for this and these are the functions.
+fn bodies_by(
+    alloc: Global,
+    names: &Names,
+    written: &[Lent<'_>],
+    m: &Machine,
+) -> Result<MachineBodies, NoMemory>
+    requires { written_list written.now ≡ written_functions m.now }
+    ensures { IfOk result (λ r. r ≡ bodies_with names.now m.now) }
+{
+    let functions = bodies(alloc, names, written)?;
+    let (actions, checks) = actions_of(alloc, names, m)?;
+    let ports = ports_of(alloc, names, m)?;
+    Ok(MachineBodies {
+        functions,
+        actions,
+        ports,
+        state: names.function("getState".as_bytes()),
+        checks,
+    })
+}
+
+/// The bodies of the machine that has this scope, and what its transitions check.
 pub fn machine_bodies(
     alloc: Global,
     scopes: &Scopes<'_>,
@@ -67,13 +102,5 @@ pub fn machine_bodies(
     ensures { IfOk result (λ r. r ≡ bodies_in scopes.now.trees.now m.now) }
 {
     let (names, written) = names_of(alloc, scopes, scope, m)?;
-    let functions = bodies(alloc, &names, &written)?;
-    let actions = actions_of(alloc, &names, m)?;
-    let ports = ports_of(alloc, &names, m)?;
-    Ok(MachineBodies {
-        functions,
-        actions,
-        ports,
-        state: names.function("getState".as_bytes()),
-    })
+    bodies_by(alloc, &names, &written, m)
 }

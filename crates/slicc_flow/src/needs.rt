@@ -1,31 +1,27 @@
 //! How many lines of its tables a transition needs.
-ghost use Rattle.std.specs.Prelude.{◌≡◌, ◌++◌, ◌==◌, IfOk, OnOk, map};
+ghost use Rattle.std.specs.Prelude.{◌≡◌, ◌==◌};
 ghost use Rattle.std.specs.List.{count_by};
-ghost use Rattle.slicc_plan.specs.BodyParts.{number_in};
-ghost use Rattle.slicc_plan.specs.Machines.{transitions_of};
-ghost use Rattle.slicc_plan.specs.TableNeeds.{checks_at};
-ghost use Rattle.slicc_flow.specs.Checks.{count_in, decl_checks, transition_checks};
+ghost use Rattle.slicc_flow.specs.Checks.{count_in};
+ghost use Rattle.slicc_flow.specs.Machines.{checks_in};
 
-use name_index::NameIndex;
-use ruby_base::{NoMemory, Seq};
-use slicc_ast::tree::{Decl, Machine, Transition};
-use slicc_plan::Body;
-use std::alloc::Global;
+use crate::machine::MachineBodies;
+use ruby_base::Seq;
 use std::marker::Model;
 
-/// What each transition of a protocol's machines needs: the tables that its actions check, one by one. A contract sees them
+/// What each transition of a protocol's machines needs. A contract sees it as the tables that its actions check, one by one,
 /// machine by machine and transition by transition.
 #[derive(Drop)]
 pub struct Flow {
-    machines: Seq<Seq<Seq<u32>>>,
+    machines: Seq<MachineBodies>,
 }
 
 impl Model for Flow {
     ghost use Rattle.std.specs.Prelude.{ℕ, List};
+    ghost use Rattle.slicc_flow.specs.Machines.{checks_in};
 
     ghost Value = { List (List (List ℕ)) };
 
-    ghost view = { λ x. x.machines };
+    ghost view = { λ x. checks_in x.machines };
 }
 
 fn count(checks: &[u32], table: u16) -> u64
@@ -41,78 +37,24 @@ fn count(checks: &[u32], table: u16) -> u64
 }
 
 impl Flow {
+    // What the transitions of these machines need.
+    pub fn of(machines: Seq<MachineBodies>) -> Flow
+        ensures { result ≡ checks_in machines }
+    {
+        Flow { machines }
+    }
+
     /// How many free lines a written transition of a machine needs in a table, all by their numbers. It is 0 where there is no
     /// such machine, transition or table.
     pub fn needs(&self, machine: u16, transition: u32, table: u16) -> u64
         ensures { result ≡ count_in self.now machine transition table }
     {
         match self.machines.get(machine as usize) {
-            Some(transitions) => match transitions.get(transition as usize) {
+            Some(b) => match b.checks.get(transition as usize) {
                 Some(checks) => count(checks, table),
                 None => 0,
             },
             None => 0,
         }
     }
-}
-
-// The tables that the action of a name checks.
-fn checks_at<'a>(names: &NameIndex, actions: &'a [Body], name: &[u8]) -> &'a [u32]
-    ensures { result.now ≡ checks_at actions.now (number_in names.now name.now) }
-{
-    match names.find(name) {
-        Some(k) => match actions.get(k as usize) {
-            Some(b) => b.checks.as_slice(),
-            None => &[],
-        },
-        None => &[],
-    }
-}
-
-// Those that the actions of a transition check, one by one.
-fn transition_checks(
-    alloc: Global,
-    names: &NameIndex,
-    actions: &[Body],
-    t: &Transition,
-) -> Result<Seq<u32>, NoMemory>
-    ensures { IfOk result (λ r. r ≡ transition_checks names.now actions.now t.now) }
-{
-    let mut checks = Seq::new(alloc);
-    for action in &t.actions {
-        checks.append(checks_at(names, actions, action.text.as_slice()))?;
-    }
-    Ok(checks)
-}
-
-// Adds those of a transition, where the declaration is one.
-fn add_checks(
-    alloc: Global,
-    list: &mut Seq<Seq<u32>>,
-    names: &NameIndex,
-    actions: &[Body],
-    d: &Decl,
-) -> Result<(), NoMemory>
-    ensures { OnOk result (list.new ≡ list.old ++ decl_checks names.now actions.now d.now) }
-{
-    match d {
-        Decl::Transition(t) => list.push(transition_checks(alloc, names, actions, t)?),
-        _ => Ok(()),
-    }
-}
-
-// Those of the written transitions of a machine.
-pub fn machine_checks(
-    alloc: Global,
-    names: &NameIndex,
-    actions: &[Body],
-    m: &Machine,
-) -> Result<Seq<Seq<u32>>, NoMemory>
-    ensures { IfOk result (λ r. r ≡ map (transition_checks names.now actions.now) (transitions_of m.now)) }
-{
-    let mut list = Seq::new(alloc);
-    for d in &m.declarations {
-        add_checks(alloc, &mut list, names, actions, d)?;
-    }
-    Ok(list)
 }

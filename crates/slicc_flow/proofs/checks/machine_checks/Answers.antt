@@ -1,6 +1,6 @@
 use Rattle.std.proofs.Common.{◌≤◌, length, subst}
 use Rattle.slicc_flow.proofs.Checked.{checks_all}
-use Rattle.slicc_flow.proofs.needs.machine_checks.Goals as goal
+use Rattle.slicc_flow.proofs.checks.machine_checks.Goals as goal
 
 pub returns : goal.returns
 returns c =

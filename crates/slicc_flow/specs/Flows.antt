@@ -1,0 +1,31 @@
+-- The rules of flow: functions call each other in no circle, no body is too large, and what only reads changes nothing. A protocol
+-- that breaks one of them is refused with the first that it breaks, and of another it is known what its transitions need.
+use Rattle.std.specs.Prelude.{◌≡◌, ◌++◌, ℕ, Some, List, [], Result, Ok, Err}
+use Rattle.slicc_ast.specs.declared.tree.item.Tree.{Tree}
+use Rattle.slicc_plan.specs.declared.broken.Broken.{Broken}
+use Rattle.slicc_plan.specs.declared.refusal.Refusal.{Refusal}
+use Rattle.slicc_plan.specs.BodySizes.{large_bodies}
+use Rattle.slicc_plan.specs.BrokenDeclarations.{IsAnswered}
+use Rattle.slicc_plan.specs.CallsBetween.{call_circles}
+use Rattle.slicc_plan.specs.Order.{IsFirstBroken}
+use Rattle.slicc_plan.specs.ReadOnly.{reading_changes}
+use Rattle.slicc_plan.specs.TableNeeds.{needs}
+use Rattle.slicc_flow.specs.Checks.{count_in}
+
+-- what is broken of them
+abbrev pub broken_flow : List Tree → List Broken
+broken_flow trees = call_circles trees ++ large_bodies trees ++ reading_changes trees
+
+-- no rule of flow is broken, and what is checked tells what each transition needs of each table
+pub record IsFlowOf (trees : List Tree) (checks : List (List (List ℕ))) : Type 0 where
+  pub keeps_all : broken_flow trees ≡ []
+  pub needs_all : (machine transition table : ℕ) → count_in checks machine transition table ≡ needs trees machine transition table
+
+abbrev pub IsFlowOrBroken : List Tree → Result (List (List (List ℕ))) Broken → Type 0
+IsFlowOrBroken trees (Ok checks) = IsFlowOf trees checks
+IsFlowOrBroken trees (Err b) = IsFirstBroken (broken_flow trees) b
+
+-- what may be answered for a protocol with these trees
+abbrev pub IsFlow : List Tree → Result (List (List (List ℕ))) Refusal → Type 0
+IsFlow trees (Ok checks) = IsFlowOf trees checks
+IsFlow trees (Err r) = IsAnswered (broken_flow trees) (Some r)

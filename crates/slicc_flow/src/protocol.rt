@@ -1,0 +1,52 @@
+//! Whether a protocol keeps the rules of flow, and what its transitions need.
+ghost use Rattle.std.specs.Prelude.{◌≡◌, IfOk};
+ghost use Rattle.slicc_plan.specs.BrokenDeclarations.{refusal_of};
+ghost use Rattle.slicc_flow.specs.Flows.{IsFlow, IsFlowOrBroken};
+
+use crate::judge::{all_bodies, first_found};
+use crate::needs::Flow;
+use declared_types::Scopes;
+use ruby_base::NoMemory;
+use slicc_ast::tree::Tree;
+use slicc_plan::{Broken, Plan, Refusal};
+use std::alloc::Global;
+
+fn refusal(b: Broken) -> Refusal
+    ensures { result ≡ refusal_of b }
+{
+    Refusal::Rule {
+        number: b.rule.number(),
+        place: b.place,
+        other: b.other,
+    }
+}
+
+// What transitions need, or the first rule of flow that is broken.
+fn flow_or_broken(alloc: Global, trees: &[Tree]) -> Result<Result<Flow, Broken>, NoMemory>
+    ensures { IfOk result (IsFlowOrBroken trees.now) }
+{
+    let scopes = Scopes::new(alloc, trees)?;
+    let machines = all_bodies(alloc, &scopes)?;
+    match first_found(alloc, None, &machines)? {
+        Some(b) => Ok(Err(b)),
+        None => Ok(Ok(Flow::of(machines))),
+    }
+}
+
+/// What the transitions of a protocol with these trees need, or the first of the rules of flow that it breaks.
+pub fn flow_of_trees(alloc: Global, trees: &[Tree]) -> Result<Flow, Refusal>
+    ensures { IsFlow trees.now result }
+{
+    match flow_or_broken(alloc, trees) {
+        Ok(Ok(flow)) => Ok(flow),
+        Ok(Err(b)) => Err(refusal(b)),
+        Err(NoMemory) => Err(Refusal::NoMemory),
+    }
+}
+
+/// What the transitions of a plan need, or the first of the rules of flow that it breaks.
+pub fn flow(alloc: Global, plan: &Plan) -> Result<Flow, Refusal>
+    ensures { IsFlow plan.now result }
+{
+    flow_of_trees(alloc, plan.trees())
+}
