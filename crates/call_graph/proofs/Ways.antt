@@ -64,6 +64,7 @@ way_found functions calls f k cs all marked below (through c among way) =
 
 pub reaching : IsReaching
 reaching functions k calls below =
-    let all : Closed functions calls (length functions) (found_in functions calls) = closed_found functions calls in
-    (way_of (length functions) functions k calls,
-    λ way. sym (found_right functions calls (found_in functions calls) refl k below) ∙ way_found functions calls (found_in functions calls) k calls all all.roots below way)
+    let all : Closed functions calls (length functions) (found_in functions calls) = closed_found functions calls in (
+      way_of (length functions) functions k calls,
+      λ way. sym (found_right functions calls (found_in functions calls) refl k below) ∙ way_found functions calls (found_in functions calls) k calls all all.roots below way,
+    )

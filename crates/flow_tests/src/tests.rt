@@ -15,8 +15,7 @@ const NEEDS: &[u8] =
     { check_allocate(d); } transition(S, E) { x; } }";
 
 /// Two functions in a circle, and one before them that calls one of them.
-const TWO: &[u8] =
-    b"machine(M, \"\") : { void e() { f(); } void f() { g(); } void g() { f(); } }";
+const TWO: &[u8] = b"machine(M, \"\") : { void e() { f(); } void f() { g(); } void g() { f(); } }";
 
 /// Three functions in a circle.
 const THREE: &[u8] =

@@ -7,7 +7,7 @@ use Rattle.slicc_ast.specs.declared.tree.machine.Decl.{Decl}
 use Rattle.slicc_ast.specs.declared.tree.machine.Machine.{Machine}
 use Rattle.slicc_ast.specs.declared.tree.machine.Transition.{Transition}
 use Rattle.slicc_plan.specs.declared.part.Body.{Body}
-use Rattle.slicc_plan.specs.BodyParts.{number_in}
+use Rattle.slicc_plan.specs.BodyParts.{names_of_written, number_in, written_actions}
 use Rattle.slicc_plan.specs.Declarations.{machines_of}
 use Rattle.slicc_plan.specs.Machines.{transition_in, transitions_of}
 use Rattle.slicc_plan.specs.TableNeeds.{checks_at, checks_of}
@@ -19,6 +19,10 @@ transition_checks names actions t =
 
 abbrev pub decl_checks : List (List ℕ) → List Body → Decl → List (List ℕ)
 decl_checks names actions d = map (transition_checks names actions) (transition_in d)
+
+-- those of a machine's transitions, where its actions have these bodies
+abbrev pub checks_with : List Body → Machine → List (List ℕ)
+checks_with actions m = map (transition_checks (names_of_written (written_actions m)) actions) (transitions_of m)
 
 abbrev pub machine_checks : List Tree → Machine → List (List ℕ)
 machine_checks trees m = map (checks_of trees m) (transitions_of m)

@@ -1,5 +1,5 @@
--- The rules of flow: functions call each other in no circle, no body is too large, and what only reads changes nothing. A protocol
--- that breaks one of them is refused with the first that it breaks, and of another it is known what its transitions need.
+-- The rules of flow: functions call each other in no circle, no body is too large, and what only reads changes nothing. A
+-- protocol that breaks some of them is refused with the first. Of any other it is known what its transitions need.
 use Rattle.std.specs.Prelude.{◌≡◌, ◌++◌, ℕ, Some, List, [], Result, Ok, Err}
 use Rattle.slicc_ast.specs.declared.tree.item.Tree.{Tree}
 use Rattle.slicc_plan.specs.declared.broken.Broken.{Broken}
@@ -19,7 +19,7 @@ broken_flow trees = call_circles trees ++ large_bodies trees ++ reading_changes 
 -- no rule of flow is broken, and what is checked tells what each transition needs of each table
 pub record IsFlowOf (trees : List Tree) (checks : List (List (List ℕ))) : Type 0 where
   pub keeps_all : broken_flow trees ≡ []
-  pub needs_all : (machine transition table : ℕ) → count_in checks machine transition table ≡ needs trees machine transition table
+  pub needs_all : (m transition table : ℕ) → count_in checks m transition table ≡ needs trees m transition table
 
 abbrev pub IsFlowOrBroken : List Tree → Result (List (List (List ℕ))) Broken → Type 0
 IsFlowOrBroken trees (Ok checks) = IsFlowOf trees checks

@@ -3,15 +3,14 @@ use Rattle.std.specs.Prelude.{ℕ, ◌+◌, ◌++◌, List, [], ◌∷◌, codes
 use Rattle.slicc_ast.specs.declared.tree.item.Tree.{Tree}
 use Rattle.slicc_ast.specs.declared.tree.machine.Machine.{Machine}
 use Rattle.slicc_plan.specs.declared.broken.Broken.{Broken}
-use Rattle.slicc_plan.specs.BodyParts.{Names, bodies_of, names_in, names_of_written, number_in, written_actions, written_functions, written_ports}
+use Rattle.slicc_plan.specs.BodyParts.{Names, bodies_of, names_in, number_in, written_actions, written_functions, written_ports}
 use Rattle.slicc_plan.specs.BodySizes.{large_among}
 use Rattle.slicc_plan.specs.CallsBetween.{circles_among}
 use Rattle.slicc_plan.specs.Declarations.{Scope, everywhere, within, machines_of}
-use Rattle.slicc_plan.specs.Machines.{transitions_of}
 use Rattle.slicc_plan.specs.ReadOnly.{changes_among}
 use Rattle.declared_types.specs.Scopes.{scope_at}
 use Rattle.slicc_flow.specs.declared.machine.MachineBodies.{MachineBodies}
-use Rattle.slicc_flow.specs.Checks.{transition_checks}
+use Rattle.slicc_flow.specs.Checks.{checks_with}
 
 -- where names in the machine stand for this
 abbrev pub bodies_with : Names → Machine → MachineBodies
@@ -21,7 +20,7 @@ bodies_with names m =
       actions = bodies_of names (written_actions m);
       ports = bodies_of names (written_ports m);
       state = number_in names.functions (codes "getState");
-      checks = map (transition_checks (names_of_written (written_actions m)) (bodies_of names (written_actions m))) (transitions_of m);
+      checks = checks_with (bodies_of names (written_actions m)) m;
     }
 
 abbrev pub bodies_in : List Tree → Machine → MachineBodies

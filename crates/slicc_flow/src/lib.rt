@@ -1,5 +1,5 @@
-//! The rules of calls between the functions of a machine, of the sizes of bodies and of what only reads, and what transitions need
-//! of tables.
+//! The rules of calls between the functions of a machine, of the sizes of bodies and of what only reads, and what transitions
+//! need of tables.
 #![tactic(auto)]
 
 mod checks;

@@ -1,11 +1,10 @@
 //! The bodies of a machine, and what its transitions check.
-ghost use Rattle.std.specs.Prelude.{◌≡◌, IfOk, map};
-ghost use Rattle.slicc_plan.specs.BodyParts.{bodies_of, names_in, names_of_written, written_actions, written_functions, written_ports};
+ghost use Rattle.std.specs.Prelude.{◌≡◌, IfOk};
+ghost use Rattle.slicc_plan.specs.BodyParts.{bodies_of, names_in, written_actions, written_functions, written_ports};
 ghost use Rattle.slicc_plan.specs.Declarations.{within};
-ghost use Rattle.slicc_plan.specs.Machines.{transitions_of};
 ghost use Rattle.declared_types.specs.Scopes.{scope_at};
 ghost use Rattle.body_parts.specs.Written.{written_list};
-ghost use Rattle.slicc_flow.specs.Checks.{transition_checks};
+ghost use Rattle.slicc_flow.specs.Checks.{checks_with};
 ghost use Rattle.slicc_flow.specs.Machines.{bodies_in, bodies_with};
 
 use crate::checks::machine_checks;
@@ -53,8 +52,7 @@ fn actions_of(
     m: &Machine,
 ) -> Result<(Seq<Body>, Seq<Seq<u32>>), NoMemory>
     ensures actions { IfOk result (λ r. r.0 ≡ bodies_of names.now (written_actions m.now)) }
-    ensures checks { IfOk result (λ r. r.1 ≡ map (transition_checks (names_of_written (written_actions m.now))
-        (bodies_of names.now (written_actions m.now))) (transitions_of m.now)) }
+    ensures checks { IfOk result (λ r. r.1 ≡ checks_with (bodies_of names.now (written_actions m.now)) m.now) }
 {
     let (numbers, written) = actions(alloc, m)?;
     let actions = bodies(alloc, names, &written)?;
