@@ -1,11 +1,8 @@
 -- Lists without an element.
-use Rattle.std.proofs.Common.{◌≡◌, ℕ, zero, suc, ◌==◌, ◌||◌, Bool, true, false, cond, List, [], ◌∷◌, length, map, refl, sym, ap, ◌∙◌, arith}
+use Rattle.std.proofs.Common.{◌≡◌, ◌==◌, Bool, cond, List, [], ◌∷◌, length, refl, ap, arith}
 use Rattle.slicc_ast.specs.declared.tree.item.Tree.{Tree}
-use Rattle.slicc_ast.specs.declared.tree.machine.Machine.{Machine}
-use Rattle.slicc_plan.specs.declared.broken.Broken.{Broken}
 use Rattle.slicc_plan.specs.Declarations.{machines_of}
-use Rattle.slicc_plan.specs.Limits.{event_members, state_members}
-use Rattle.slicc_plan.specs.MachineParts.{at_end_of_first, is_empty, missing_machine, missing_parts_in}
+use Rattle.slicc_plan.specs.MachineParts.{at_end_of_first, is_empty, missing_machine}
 
 pub empty_as : {X : Type 0} (xs : List X) → is_empty xs ≡ (length xs == 0)
 empty_as [] = refl

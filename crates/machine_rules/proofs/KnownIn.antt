@@ -7,7 +7,7 @@ use Rattle.slicc_ast.specs.declared.tree.machine.Machine.{Machine}
 use Rattle.slicc_plan.specs.declared.built_in.BuiltInType.{BuiltInType}
 use Rattle.slicc_plan.specs.BuiltIn.{built_in_type}
 use Rattle.slicc_plan.specs.Declarations.{Declaration, machine, enumeration, structure, states, parameter, object, out_port, in_port, action, function, symbol, state, member, formal, local, Scope, everywhere, within, first_named, global_declarations, is_external, machine_declarations}
-use Rattle.slicc_plan.specs.Types.{KnownType, built_in, declared_type, external_type, global_type, structure_type, table_named, type_in, type_of_found, type_where}
+use Rattle.slicc_plan.specs.Types.{built_in, declared_type, external_type, structure_type, table_named, type_in, type_of_found, type_where}
 use Rattle.declared_types.specs.declared.lent.KnownType as lent
 use Rattle.declared_types.specs.Lent.{type_of}
 use Rattle.machine_rules.specs.Ports.{IsKnownIn}

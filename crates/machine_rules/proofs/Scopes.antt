@@ -3,10 +3,9 @@ use Rattle.std.proofs.Common.{◌≡◌, ℕ, zero, suc, ◌+◌, ◌-◌, ◌<�
 use Rattle.std.proofs.Math.Seq.{take-suc}
 use Rattle.std.proofs.lemmas.List.{length-map, take_all}
 use Rattle.std.proofs.lemmas.Grind.{common_steps}
-use Rattle.slicc_ast.specs.declared.tree.item.Tree.{Tree}
 use Rattle.slicc_ast.specs.declared.tree.machine.Machine.{Machine}
 use Rattle.slicc_plan.specs.declared.broken.Broken.{Broken}
-use Rattle.slicc_plan.specs.Declarations.{Scope, everywhere, within, machines_of, wide_scopes}
+use Rattle.slicc_plan.specs.Declarations.{everywhere, within}
 use Rattle.slicc_plan.specs.Machines.{in_each_from}
 use Rattle.slicc_plan.specs.Order.{first_after}
 use Rattle.slicc_plan.proofs.Firsts.{first_after-append}

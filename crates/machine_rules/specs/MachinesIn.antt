@@ -1,5 +1,5 @@
 -- A machine of a protocol, with its scope.
-use Rattle.std.specs.Prelude.{◌≡◌, ℕ, List, []}
+use Rattle.std.specs.Prelude.{◌≡◌, List, []}
 use Rattle.slicc_ast.specs.declared.tree.machine.Machine.{Machine}
 use Rattle.slicc_plan.specs.Declarations.{Scope, everywhere, within}
 use Rattle.declared_types.specs.Scopes.{scope_at}

@@ -1,4 +1,4 @@
-use Rattle.std.proofs.Common.{◌≡◌, [], ◌∷◌, cond, refl, ap, map, ◌∙◌}
+use Rattle.std.proofs.Common.{[], ◌∷◌, cond, refl, ap, map, ◌∙◌}
 use Rattle.std.specs.List.{list_any}
 use Rattle.std.proofs.lemmas.List.{take_all}
 use Rattle.slicc_plan.specs.Buffers.{BufferIn}

@@ -1,4 +1,4 @@
-use Rattle.std.proofs.Common.{◌≡◌, ◌++◌, []}
+use Rattle.std.proofs.Common.{◌++◌, []}
 use Rattle.slicc_plan.specs.Machines.{in_each}
 use Rattle.slicc_plan.specs.Networks.{all_ports, differing_after, doubled_in, wrong_ports_in}
 use Rattle.declaration_rules.proofs.Steps.{one_list_before}

@@ -1,4 +1,4 @@
-use Rattle.std.proofs.Common.{◌≡◌, ◌∙◌, ap, sym, flat_map}
+use Rattle.std.proofs.Common.{◌∙◌, ap, sym, flat_map}
 use Rattle.std.proofs.lemmas.List.{take_all}
 use Rattle.slicc_plan.specs.Buffers.{port_in}
 use Rattle.slicc_plan.specs.Order.{first_after}

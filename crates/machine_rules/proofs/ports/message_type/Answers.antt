@@ -1,4 +1,4 @@
-use Rattle.std.proofs.Common.{◌≡◌, ap, ◌∙◌}
+use Rattle.std.proofs.Common.{ap, ◌∙◌}
 use Rattle.slicc_plan.specs.Declarations.{within}
 use Rattle.slicc_plan.specs.Types.{type_in}
 use Rattle.machine_rules.proofs.KnownIn.{known_of}

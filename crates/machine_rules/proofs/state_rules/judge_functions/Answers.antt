@@ -1,4 +1,4 @@
-use Rattle.std.proofs.Common.{◌≡◌, ◌++◌, codes, ap, ◌∙◌}
+use Rattle.std.proofs.Common.{◌++◌, codes, ap, ◌∙◌}
 use Rattle.std.specs.Option.{option_copied}
 use Rattle.slicc_plan.specs.declared.built_in.BuiltInType.TheVariants.{Void}
 use Rattle.slicc_plan.specs.Machines.{function_named}

@@ -1,4 +1,4 @@
-use Rattle.std.proofs.Common.{◌≡◌, ap, ◌∙◌}
+use Rattle.std.proofs.Common.{ap, ◌∙◌}
 use Rattle.std.specs.Option.{option_copied}
 use Rattle.slicc_plan.specs.Order.{first_after}
 use Rattle.slicc_plan.specs.StateFunctions.{line_where, own_state, unlike}
