@@ -33,7 +33,7 @@ reaches_within (suc depth) functions k calls =
 abbrev pub is_reached : List Body → ℕ → List ℕ → Bool
 is_reached functions k calls = reaches_within (length functions) functions k calls
 
--- What is decided is that, of the functions that there are.
+-- What is decided is that, of the functions that there are. No contract says this yet.
 abbrev pub IsReaching : Type 0
 IsReaching = (functions : List Body) (k : ℕ) (calls : List ℕ) → k < length functions → is_reached functions k calls ≡ true ↔ Reaches functions k calls
 
