@@ -172,7 +172,12 @@ pub fn unless(is_right: bool, rule: Rule, place: Span) -> Option<Broken>
 }
 
 /// What is told of something at this place where that is wanted.
-pub fn unfit<'a>(lines: Lines<'a>, wanted: Wanted<'a>, place: Span, meaning: Meaning<'a>) -> Option<Broken>
+pub fn unfit<'a>(
+    lines: Lines<'a>,
+    wanted: Wanted<'a>,
+    place: Span,
+    meaning: Meaning<'a>,
+) -> Option<Broken>
     requires { AreLines lines }
     ensures { result ≡ first_of (unfit_of lines.entry.machine.now (wanted_of wanted.entry) place (meaning_of meaning.entry)) }
 {

@@ -50,10 +50,16 @@ fn name_everywhere<'a>(name: &[u8]) -> Option<Bound<'a>>
     ensures { option_map bound_of result ≡ bound_as_of name.now names_everywhere_of }
 {
     if b"machineID".as_slice() == name {
-        return Some(fixed(b"machineID", Meaning::Value(KnownType::BuiltIn(BuiltInType::MachineId))));
+        return Some(fixed(
+            b"machineID",
+            Meaning::Value(KnownType::BuiltIn(BuiltInType::MachineId)),
+        ));
     }
     if b"recycle_latency".as_slice() == name {
-        return Some(fixed(b"recycle_latency", Meaning::Value(KnownType::BuiltIn(BuiltInType::Int))));
+        return Some(fixed(
+            b"recycle_latency",
+            Meaning::Value(KnownType::BuiltIn(BuiltInType::Int)),
+        ));
     }
     None
 }
@@ -119,7 +125,11 @@ pub fn meaning_named<'a>(env: Environment<'_, 'a>, name: &[u8]) -> Option<Meanin
 }
 
 /// What is told of a name where that is wanted.
-pub fn wrong_value_name<'a>(env: Environment<'_, 'a>, wanted: Wanted<'a>, name: &Name) -> Option<Broken>
+pub fn wrong_value_name<'a>(
+    env: Environment<'_, 'a>,
+    wanted: Wanted<'a>,
+    name: &Name,
+) -> Option<Broken>
     requires { IsEnvironment env }
     ensures { result ≡ first_of (wrong_value_name_of (environment_of env.entry) (wanted_of wanted.entry) name.now) }
 {

@@ -11,7 +11,9 @@ ghost use Rattle.body_types.specs.Found.{all_given_of, given_of};
 ghost use Rattle.body_types.specs.Views.{type_if, wanted_of};
 ghost use Rattle.call_types.specs.Arguments.{wrong_at};
 
-use body_types::{Environment, Given, Meaning, Wanted, told, type_named, unfit, unless, wrong_type_name};
+use body_types::{
+    Environment, Given, Meaning, Wanted, told, type_named, unfit, unless, wrong_type_name,
+};
 use declared_types::KnownType;
 use slicc_ast::tree::Name;
 use slicc_plan::{Broken, Rule, Span, earlier_of_two};
@@ -28,7 +30,11 @@ pub fn broken_in(given: &[Given]) -> Option<Broken>
     first
 }
 
-fn wrong_line_type<'a>(env: Environment<'_, 'a>, wanted: Option<KnownType<'a>>, made: &Name) -> Option<Broken>
+fn wrong_line_type<'a>(
+    env: Environment<'_, 'a>,
+    wanted: Option<KnownType<'a>>,
+    made: &Name,
+) -> Option<Broken>
     requires { IsEnvironment env }
     ensures { result ≡ first_of (wrong_line_type_of (environment_of env.entry) (type_if wanted.entry) made.now (type_named_in (environment_of env.entry) made.now.text)) }
 {
@@ -37,7 +43,12 @@ fn wrong_line_type<'a>(env: Environment<'_, 'a>, wanted: Option<KnownType<'a>>, 
         Some(t) => match wanted {
             None => Some(told(Rule::WrongType, made.span)),
             Some(w) => {
-                unfit(env.lines, Wanted::OneOf(Some(w), None), made.span, Meaning::Value(t))
+                unfit(
+                    env.lines,
+                    Wanted::OneOf(Some(w), None),
+                    made.span,
+                    Meaning::Value(t),
+                )
             }
         },
     }
@@ -57,7 +68,11 @@ fn wrong_argument<'a>(env: Environment<'_, 'a>, wanted: Wanted<'a>, g: Given<'a>
 }
 
 // What is broken in an argument where that is wanted, or where none is.
-fn wrong_given<'a>(env: Environment<'_, 'a>, wanted: Option<Wanted<'a>>, g: Given<'a>) -> Option<Broken>
+fn wrong_given<'a>(
+    env: Environment<'_, 'a>,
+    wanted: Option<Wanted<'a>>,
+    g: Given<'a>,
+) -> Option<Broken>
     requires { IsEnvironment env }
     ensures { result ≡ first_of (wrong_at (environment_of env.entry) (option_map wanted_of wanted.entry) (given_of g.entry)) }
 {
@@ -74,7 +89,11 @@ fn wanted_at<'a>(wanted: &[Wanted<'a>], number: usize) -> Option<Wanted<'a>>
 }
 
 // The first that is broken in arguments where that is wanted, one after another.
-fn wrong_arguments<'a>(env: Environment<'_, 'a>, wanted: &[Wanted<'a>], given: &[Given<'a>]) -> Option<Broken>
+fn wrong_arguments<'a>(
+    env: Environment<'_, 'a>,
+    wanted: &[Wanted<'a>],
+    given: &[Given<'a>],
+) -> Option<Broken>
     requires { IsEnvironment env }
     ensures { result ≡ first_of (wrong_arguments_of (environment_of env.entry) (map wanted_of wanted.now) (all_given_of given.now)) }
 {
@@ -87,7 +106,14 @@ fn wrong_arguments<'a>(env: Environment<'_, 'a>, wanted: &[Wanted<'a>], given: &
 }
 
 /// The first of what was found before and of what is broken in arguments, where that is wanted and so many have to be there.
-pub fn checked<'a>(env: Environment<'_, 'a>, at: Span, wanted: &[Wanted<'a>], least: usize, given: &[Given<'a>], first: Option<Broken>) -> Option<Broken>
+pub fn checked<'a>(
+    env: Environment<'_, 'a>,
+    at: Span,
+    wanted: &[Wanted<'a>],
+    least: usize,
+    given: &[Given<'a>],
+    first: Option<Broken>,
+) -> Option<Broken>
     requires { IsEnvironment env }
     ensures { result ≡ earlier_of_both (earlier_of_both first (first_of (unless_of (nat_le least (length given.now) && nat_le (length given.now) (length wanted.now)) WrongCount at))) (first_of (wrong_arguments_of (environment_of env.entry) (map wanted_of wanted.now) (all_given_of given.now))) }
 {

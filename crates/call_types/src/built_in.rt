@@ -16,7 +16,9 @@ use crate::own::{states_type, structure_on};
 use crate::typing::plain;
 use crate::wanted::add_wanted;
 use crate::writing::wrong_change;
-use body_types::{BodySort, Environment, Given, Lines, Meaning, Typed, Wanted, line_of_structure, unless};
+use body_types::{
+    BodySort, Environment, Given, Lines, Meaning, Typed, Wanted, line_of_structure, unless,
+};
 use built_ins::{Allowed, Answer, Call, Receiver};
 use declared_types::KnownType;
 use ruby_base::{NoMemory, Seq};
@@ -47,7 +49,14 @@ fn is_allowed(sort: BodySort, allowed: Allowed) -> bool
 }
 
 // The first of what was found before and of what is broken in the arguments of a call.
-fn wrong_given<'a>(alloc: Global, env: Environment<'_, 'a>, at: Span, c: &Call, given: &[Given<'a>], first: Option<Broken>) -> Result<Option<Broken>, NoMemory>
+fn wrong_given<'a>(
+    alloc: Global,
+    env: Environment<'_, 'a>,
+    at: Span,
+    c: &Call,
+    given: &[Given<'a>],
+    first: Option<Broken>,
+) -> Result<Option<Broken>, NoMemory>
     requires { IsEnvironment env }
     ensures { IfOk result (λ o. o ≡ after_arguments (environment_of env.entry) at (wanted_by env.entry.lines.machine.now (receiver_of c.now.receiver) (map argument_of c.now.always.now)) (wanted_by env.entry.lines.machine.now (receiver_of c.now.receiver) (map argument_of c.now.perhaps.now)) (all_given_of given.now) first) }
 {
@@ -59,7 +68,14 @@ fn wrong_given<'a>(alloc: Global, env: Environment<'_, 'a>, at: Span, c: &Call, 
 }
 
 /// A built-in call on that.
-pub fn built_in_call<'a>(alloc: Global, env: Environment<'_, 'a>, at: Span, on: Typed<'a>, c: &Call, given: &[Given<'a>]) -> Result<Typed<'a>, NoMemory>
+pub fn built_in_call<'a>(
+    alloc: Global,
+    env: Environment<'_, 'a>,
+    at: Span,
+    on: Typed<'a>,
+    c: &Call,
+    given: &[Given<'a>],
+) -> Result<Typed<'a>, NoMemory>
     requires { IsEnvironment env }
     ensures { IfOk result (λ t. found_of (typed_of t) ≡ found_of (built_in_call_in (environment_of env.entry) at (typed_of on.entry) (call_of c.now) (all_given_of given.now))) }
 {
@@ -71,7 +87,12 @@ pub fn built_in_call<'a>(alloc: Global, env: Environment<'_, 'a>, at: Span, on: 
 }
 
 /// The call from the states of a machine to permissions.
-pub fn permission_call<'a>(env: Environment<'_, 'a>, at: Span, m: &'a Machine, given: &[Given<'a>]) -> Typed<'a>
+pub fn permission_call<'a>(
+    env: Environment<'_, 'a>,
+    at: Span,
+    m: &'a Machine,
+    given: &[Given<'a>],
+) -> Typed<'a>
     requires { IsEnvironment env }
     ensures { found_of (typed_of result) ≡ found_of (built_in_call_in (environment_of env.entry) at (plain_of nothing []) (permission_reading m.entry.now) (all_given_of given.now)) }
 {

@@ -22,7 +22,14 @@ use slicc_plan::{Broken, Rule, Span, earlier_of_two};
 use std::alloc::Global;
 
 // A call of a function that answers this type and has these formals.
-fn function_call<'a>(alloc: Global, env: Environment<'_, 'a>, at: Span, kind: &[u8], formals: &[Formal], given: &[Given<'a>]) -> Result<Typed<'a>, NoMemory>
+fn function_call<'a>(
+    alloc: Global,
+    env: Environment<'_, 'a>,
+    at: Span,
+    kind: &[u8],
+    formals: &[Formal],
+    given: &[Given<'a>],
+) -> Result<Typed<'a>, NoMemory>
     requires { IsEnvironment env }
     ensures { IfOk result (λ t. found_of (typed_of t) ≡ found_of (function_call_in (environment_of env.entry) at kind.now formals.now (all_given_of given.now))) }
 {
@@ -42,7 +49,13 @@ pub fn not_called<'a>(broken: Option<Broken>, called: &Name, given: &[Given<'a>]
 }
 
 // That call, which needs no declaration.
-fn undeclared_call<'a>(alloc: Global, env: Environment<'_, 'a>, at: Span, c: Called<'a>, given: &[Given<'a>]) -> Result<Typed<'a>, NoMemory>
+fn undeclared_call<'a>(
+    alloc: Global,
+    env: Environment<'_, 'a>,
+    at: Span,
+    c: Called<'a>,
+    given: &[Given<'a>],
+) -> Result<Typed<'a>, NoMemory>
     requires { IsEnvironment env }
     ensures { IfOk result (λ t. found_of (typed_of t) ≡ found_of (built_in_call_in (environment_of env.entry) at (plain_of nothing []) (call_for c.entry) (all_given_of given.now))) }
 {
@@ -58,7 +71,13 @@ fn undeclared_call<'a>(alloc: Global, env: Environment<'_, 'a>, at: Span, c: Cal
 }
 
 // A call that no declaration is of.
-fn built_in_named<'a>(alloc: Global, env: Environment<'_, 'a>, at: Span, called: &Name, given: &[Given<'a>]) -> Result<Typed<'a>, NoMemory>
+fn built_in_named<'a>(
+    alloc: Global,
+    env: Environment<'_, 'a>,
+    at: Span,
+    called: &Name,
+    given: &[Given<'a>],
+) -> Result<Typed<'a>, NoMemory>
     requires { IsEnvironment env }
     ensures { IfOk result (λ t. found_of (typed_of t) ≡ found_of (built_in_named_in (environment_of env.entry) at called.now (plain_call_of env.entry.scopes.now.trees.now called.now.text) (all_given_of given.now))) }
 {
@@ -69,7 +88,14 @@ fn built_in_named<'a>(alloc: Global, env: Environment<'_, 'a>, at: Span, called:
 }
 
 // A call where that is what the machine declares by the name.
-fn declared_call<'a>(alloc: Global, env: Environment<'_, 'a>, at: Span, called: &Name, d: Option<Declared<'a>>, given: &[Given<'a>]) -> Result<Typed<'a>, NoMemory>
+fn declared_call<'a>(
+    alloc: Global,
+    env: Environment<'_, 'a>,
+    at: Span,
+    called: &Name,
+    d: Option<Declared<'a>>,
+    given: &[Given<'a>],
+) -> Result<Typed<'a>, NoMemory>
     requires { IsEnvironment env }
     ensures { IfOk result (λ t. found_of (typed_of t) ≡ found_of (declared_call_in (environment_of env.entry) at called.now (option_map declaration_of d.entry) (all_given_of given.now))) }
 {
@@ -90,7 +116,13 @@ fn declared_call<'a>(alloc: Global, env: Environment<'_, 'a>, at: Span, called: 
 }
 
 /// A call of this name with these arguments.
-pub fn named_call<'a>(alloc: Global, env: Environment<'_, 'a>, at: Span, called: &Name, given: &[Given<'a>]) -> Result<Typed<'a>, NoMemory>
+pub fn named_call<'a>(
+    alloc: Global,
+    env: Environment<'_, 'a>,
+    at: Span,
+    called: &Name,
+    given: &[Given<'a>],
+) -> Result<Typed<'a>, NoMemory>
     requires { IsEnvironment env }
     ensures { IfOk result (λ t. found_of (typed_of t) ≡ found_of (named_call_in (environment_of env.entry) at called.now (all_given_of given.now))) }
 {

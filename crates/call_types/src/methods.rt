@@ -84,7 +84,14 @@ fn call_named<'a>(lines: Lines<'a>, on: Meaning<'a>, text: &[u8]) -> Option<&'st
 }
 
 /// A call of this name on that.
-pub fn method_call<'a>(alloc: Global, env: Environment<'_, 'a>, at: Span, on: Typed<'a>, called: &Name, given: &[Given<'a>]) -> Result<Typed<'a>, NoMemory>
+pub fn method_call<'a>(
+    alloc: Global,
+    env: Environment<'_, 'a>,
+    at: Span,
+    on: Typed<'a>,
+    called: &Name,
+    given: &[Given<'a>],
+) -> Result<Typed<'a>, NoMemory>
     requires { IsEnvironment env }
     ensures { IfOk result (λ t. found_of (typed_of t) ≡ found_of (method_call_in (environment_of env.entry) at (typed_of on.entry) called.now (all_given_of given.now))) }
 {
@@ -107,7 +114,13 @@ fn not_indexed<'a>(at: Span, on: Typed<'a>, key: Given<'a>) -> Typed<'a>
 }
 
 /// An index of that.
-pub fn index_call<'a>(alloc: Global, env: Environment<'_, 'a>, at: Span, on: Typed<'a>, key: Given<'a>) -> Result<Typed<'a>, NoMemory>
+pub fn index_call<'a>(
+    alloc: Global,
+    env: Environment<'_, 'a>,
+    at: Span,
+    on: Typed<'a>,
+    key: Given<'a>,
+) -> Result<Typed<'a>, NoMemory>
     requires { IsEnvironment env }
     ensures { IfOk result (λ t. found_of (typed_of t) ≡ found_of (index_call_in (environment_of env.entry) at (typed_of on.entry) (given_of key.entry))) }
 {

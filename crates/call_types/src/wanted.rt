@@ -59,7 +59,12 @@ fn own_line<'a>(t: Option<KnownType<'a>>) -> Option<Wanted<'a>>
 }
 
 /// Adds what the arguments of a built-in call on that have to be.
-pub fn add_wanted<'a>(lines: Lines<'a>, on: Receiver, arguments: &[Argument], wanted: &mut Seq<Wanted<'a>>) -> Result<(), NoMemory>
+pub fn add_wanted<'a>(
+    lines: Lines<'a>,
+    on: Receiver,
+    arguments: &[Argument],
+    wanted: &mut Seq<Wanted<'a>>,
+) -> Result<(), NoMemory>
     requires { AreLines lines }
     ensures { OnOk result (map wanted_of wanted.new ≡ map wanted_of wanted.old ++ wanted_by lines.entry.machine.now (receiver_of on) (map argument_of arguments.now)) }
 {
@@ -80,7 +85,11 @@ fn formal_wanted<'a>(env: Environment<'_, 'a>, f: &Formal) -> Wanted<'a>
 }
 
 /// Adds what the arguments of a function with these formals have to be.
-pub fn add_formals<'a>(env: Environment<'_, 'a>, formals: &[Formal], wanted: &mut Seq<Wanted<'a>>) -> Result<(), NoMemory>
+pub fn add_formals<'a>(
+    env: Environment<'_, 'a>,
+    formals: &[Formal],
+    wanted: &mut Seq<Wanted<'a>>,
+) -> Result<(), NoMemory>
     requires { IsEnvironment env }
     ensures { OnOk result (map wanted_of wanted.new ≡ map wanted_of wanted.old ++ map (formal_wanted_of (environment_of env.entry)) formals.now) }
 {

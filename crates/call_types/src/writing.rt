@@ -35,7 +35,11 @@ fn may_write_field(written: Written) -> bool
 pub fn not_writable(at: Span, t: Typed) -> Option<Broken>
     ensures { result ≡ first_of (not_writable_of at (typed_of t.entry)) }
 {
-    unless(is_told(t.meaning) || may_write(t.written), Rule::NotWritable, at)
+    unless(
+        is_told(t.meaning) || may_write(t.written),
+        Rule::NotWritable,
+        at,
+    )
 }
 
 fn no_field(at: Span, g: Option<Given>) -> Option<Broken>

@@ -61,7 +61,12 @@ fn sum(a: u64, b: u64) -> Result<u64, NoMemory>
 }
 
 // With the machine of this number.
-fn with_machine(counts: Counts, tables: &Tables, number: u16, m: &Machine) -> Result<Counts, NoMemory>
+fn with_machine(
+    counts: Counts,
+    tables: &Tables,
+    number: u16,
+    m: &Machine,
+) -> Result<Counts, NoMemory>
     requires { (state event : ℕ) → rows m.now state event ≡ listed (answer tables.now number state event) }
     ensures { IfOk result (λ c. c ≡ sums_with counts m.now) }
 {

@@ -16,8 +16,8 @@ mod protocol;
 mod scopes;
 mod twice;
 
-pub use names::Names;
 pub use collecting::{broken_declarations, collect, refusal};
+pub use names::Names;
 pub use protocol::limits_passed;
 pub use slicc_plan::{NoMemory, Refusal};
 pub use twice::names_twice_declared;

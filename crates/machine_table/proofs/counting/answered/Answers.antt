@@ -11,7 +11,7 @@ loop-event-preserved c =
     let step = sum_below (λ event. cond (is_some (answer tables c.args.number c.args.state event)) 1 0) event in
     record {
       count =
-        ap (λ n. n + c.is_answered-count.result) c.loop-event.invariant.count
-        ∙ ap (λ n. answered_in tables c.args.number event c.args.state + n) c.is_answered-count.ensures.value ∙ sym step;
+          ap (λ n. n + c.is_answered-count.result) c.loop-event.invariant.count
+          ∙ ap (λ n. answered_in tables c.args.number event c.args.state + n) c.is_answered-count.ensures.value ∙ sym step;
       bound = omega arith;
     }

@@ -9,7 +9,7 @@ use Rattle.machine_table.proofs.counting.counts_in.Goals as goal
 pub with_machine-requires : goal.with_machine-requires
 with_machine-requires c =
     λ s e. rows_found (λ m. m.now) c.args.machines.now c.loop-place.place c.index-machines-place.result s e c.loop-place-test.true c.index-machines-place.is
-      ∙ c.requires c.loop-place.place s e ∙ ap (λ n. listed (answer c.args.tables.now n s e)) (sym c.in_ok-number.ensures)
+    ∙ c.requires c.loop-place.place s e ∙ ap (λ n. listed (answer c.args.tables.now n s e)) (sym c.in_ok-number.ensures)
 
 pub loop-place-preserved : goal.loop-place-preserved
 loop-place-preserved c =

@@ -10,6 +10,6 @@ returns-in-Some c =
 pub returns : goal.returns
 returns c = (
   is_none (broken_declarations c.args.trees.now) c.in_ok-b.field-0
-  (over_same broken_declarations _ c.args.trees.now c.in_ok-b.field-0 c.in_ok-scopes.ensures c.in_ok-b.ensures) c.in-None.is,
+      (over_same broken_declarations _ c.args.trees.now c.in_ok-b.field-0 c.in_ok-scopes.ensures c.in_ok-b.ensures) c.in-None.is,
   names_over_same _ c.args.trees.now c.in_ok-new-in-None.field-0 c.in_ok-scopes.ensures c.in_ok-new-in-None.ensures,
 )
