@@ -1,0 +1,2 @@
+pub mod EndRows
+pub mod ReturnRows

@@ -1,0 +1,7 @@
+//! Whether functions answer on each way through their bodies, and whether `return` has a value where it should.
+#![tactic(auto)]
+
+mod ending;
+mod returning;
+
+pub use returning::{wrong_ends, wrong_returns};
