@@ -1,2 +1,3 @@
 pub mod EndRows
 pub mod ReturnRows
+pub mod WayLists

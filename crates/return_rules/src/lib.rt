@@ -3,5 +3,7 @@
 
 mod ending;
 mod returning;
+mod ways;
 
 pub use returning::{wrong_ends, wrong_returns};
+pub use ways::missing_returns;
