@@ -1,5 +1,5 @@
 -- What is wrong with the ways through the bodies of all scopes is what is wrong with those of all machines.
-use Rattle.std.proofs.Common.{◌≡◌, ◌++◌, ◌∙◌, Some, None, List, [], ◌∷◌, flat_map, map, refl, sym, ap}
+use Rattle.std.proofs.Common.{◌≡◌, ◌++◌, ◌∙◌, Some, None, List, [], ◌∷◌, flat_map, map, refl, ap}
 use Rattle.std.proofs.lemmas.Grind.{flat_map-append}
 use Rattle.std.proofs.lemmas.List.Folds.{flat_map-map}
 use Rattle.slicc_ast.specs.declared.tree.item.Tree.{Tree}
@@ -8,7 +8,7 @@ use Rattle.slicc_ast.specs.declared.tree.item.Item.TheVariants.{Include, Enumera
 use Rattle.slicc_ast.specs.declared.tree.declaration.Function.TheVariants.{Plain, Skipped}
 use Rattle.slicc_ast.specs.declared.tree.machine.Machine.{Machine}
 use Rattle.slicc_plan.specs.declared.broken.Broken.{Broken}
-use Rattle.slicc_plan.specs.Declarations.{Declaration, machine, enumeration, structure, states, parameter, object, out_port, in_port, action, function, symbol, state, member, formal, local, everywhere, within, global_declarations, item_declarations, machine_declarations, machines_of, wide_scopes}
+use Rattle.slicc_plan.specs.Declarations.{Declaration, machine, enumeration, structure, states, parameter, object, out_port, in_port, action, function, symbol, state, member, formal, local, everywhere, within, item_declarations, machine_declarations, machines_of, wide_scopes}
 use Rattle.slicc_plan.specs.Returns.{missing_returns, wrong_ways, wrong_ways_in}
 use Rattle.declaration_rules.proofs.Steps.{flat_map_same}
 use Rattle.return_rules.specs.Ways.{ways_in, ways_of}

@@ -23,7 +23,11 @@ fn no_return(place: Span) -> Broken
 fn told_if(is_wrong: bool, place: Span) -> Option<Broken>
     ensures { result ≡ first_of (cond is_wrong (no_return place ∷ []) []) }
 {
-    if is_wrong { Some(no_return(place)) } else { None }
+    if is_wrong {
+        Some(no_return(place))
+    } else {
+        None
+    }
 }
 
 // What is told of a `return` at this place.
@@ -70,7 +74,10 @@ fn wrong_in_others(is_wanted: bool, others: &[ElseIf]) -> Option<Broken>
 {
     let mut first = None;
     for other in others {
-        first = earlier_of_two(first, wrong_in_statements(is_wanted, &other.then.statements));
+        first = earlier_of_two(
+            first,
+            wrong_in_statements(is_wanted, &other.then.statements),
+        );
     }
     first
 }

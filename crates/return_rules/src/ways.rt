@@ -31,7 +31,10 @@ fn judge_function(
     match f {
         Function::Skipped(_) => first,
         Function::Plain {
-            kind, body, span, ..
+            kind,
+            body,
+            span,
+            ..
         } => match body {
             None => first,
             Some(b) => {
