@@ -1,0 +1,3 @@
+pub mod EndRows
+pub mod ReturnRows
+pub mod WayLists
