@@ -1,9 +1,8 @@
 -- A search by names finds what is missing as the definition says it.
-use Rattle.std.proofs.Common.{◌≡◌, ℕ, Bool, true, false, cond, is_none, Option, None, Some, List, [], ◌∷◌, ◌++◌, map, filter, flat_map, position, refl, sym, ap, ◌∙◌}
+use Rattle.std.proofs.Common.{◌≡◌, ℕ, Bool, true, false, cond, is_none, List, [], ◌∷◌, ◌++◌, map, filter, flat_map, position, refl, ap, ◌∙◌}
 use Rattle.slicc_ast.specs.declared.tree.name.Name.{Name}
 use Rattle.slicc_ast.specs.declared.tree.machine.Machine.{Machine}
 use Rattle.slicc_ast.specs.declared.tree.machine.Transition.{Transition}
-use Rattle.slicc_plan.specs.declared.broken.Broken.{Broken}
 use Rattle.slicc_plan.specs.Declarations.{Declaration, is_named}
 use Rattle.slicc_plan.specs.Limits.{event_members, state_members}
 use Rattle.slicc_plan.specs.Machines.{actions_of, names_in, transitions_of}
