@@ -1,0 +1,2 @@
+mod MissingNames
+mod Walks
