@@ -1,0 +1,7 @@
+pub mod Calls
+pub mod Fixed
+pub mod Known
+pub mod Machines
+pub mod Requests
+pub mod Rows
+pub mod Steps

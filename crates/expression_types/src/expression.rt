@@ -1,0 +1,229 @@
+//! Expressions.
+ghost use Rattle.std.specs.Prelude.{◌≡◌, [], IfOk};
+ghost use Rattle.slicc_plan.specs.CallTypes.{plain as plain_of};
+ghost use Rattle.slicc_plan.specs.ExpressionTypes.{broken_where as broken_where_of, from_operand as from_operand_in, given_at as given_at_in, span_of as span_in, suffix_typed, typed as typed_in};
+ghost use Rattle.slicc_plan.specs.Meanings.{value};
+ghost use Rattle.slicc_plan.specs.Order.{first_of};
+ghost use Rattle.slicc_plan.specs.Types.{built_in};
+ghost use Rattle.body_types.specs.Environments.{IsEnvironment, environment_of};
+ghost use Rattle.body_types.specs.Found.{all_given_of, found_of, given_of, typed_of};
+ghost use Rattle.body_types.specs.Views.{wanted_of};
+ghost use Rattle.expression_types.specs.Known.{all_known};
+ghost use Rattle.expression_types.specs.Lists.{all_arguments, all_operands, all_suffixes};
+
+use crate::fields::field_of;
+use crate::members::{member_type, variable_type};
+use crate::operators::{cast_to, from_operand, joined, of_built_in};
+use crate::places::span_of;
+use body_types::{Environment, Given, Meaning, Typed, Wanted, told, unfit};
+use call_types::{index_call, method_call, named_call, plain};
+use declared_types::KnownType;
+use ruby_base::{NoMemory, Seq};
+use slicc_ast::tree::{Expr, Operand, Span, Suffix};
+use slicc_plan::{Broken, BuiltInType, Rule, earlier_of_two};
+use std::alloc::Global;
+
+fn given_at<'a>(place: Span, typed: Typed<'a>) -> Given<'a>
+    ensures { given_of result ≡ given_at_in place (typed_of typed.entry) }
+{
+    Given { place, typed }
+}
+
+// A value of a built-in type.
+fn value_of<'a>(b: BuiltInType) -> Typed<'a>
+    ensures { typed_of result ≡ plain_of (value (built_in b)) [] }
+{
+    plain(Meaning::Value(KnownType::BuiltIn(b)), None)
+}
+
+// Of an operand alone, which that is, where that is wanted and something is answered of this type.
+fn alone<'a>(
+    env: Environment<'_, 'a>,
+    wanted: Wanted<'a>,
+    answered: BuiltInType,
+    operand: &Expr,
+    t: Typed<'a>,
+) -> Typed<'a>
+    requires { IsEnvironment env }
+    ensures { found_of (typed_of result) ≡ found_of (from_operand_in (environment_of env.entry) (wanted_of wanted.entry) answered (given_at_in (span_in operand.now) (typed_of t.entry))) }
+{
+    from_operand(env, wanted, answered, given_at(span_of(operand), t))
+}
+
+/// What an expression is in a body.
+#[cycle(expression_type)]
+pub fn typed<'a>(
+    alloc: Global,
+    env: Environment<'_, 'a>,
+    e: &'a Expr,
+) -> Result<Typed<'a>, NoMemory>
+    requires { IsEnvironment env }
+    ensures { IfOk result (λ t. found_of (typed_of t) ≡ found_of (typed_in (environment_of env.entry) e.now)) }
+{
+    match e {
+        Expr::Operation { first, others, .. } => {
+            let left = typed(alloc, env, first)?;
+            operands(alloc, env, left, others, first)
+        }
+        Expr::Not(operand, _) => {
+            let t = typed(alloc, env, operand)?;
+            Ok(alone(
+                env,
+                of_built_in(BuiltInType::Bool),
+                BuiltInType::Bool,
+                operand,
+                t,
+            ))
+        }
+        Expr::Negate(operand, _) => {
+            let t = typed(alloc, env, operand)?;
+            Ok(alone(
+                env,
+                of_built_in(BuiltInType::Int),
+                BuiltInType::Int,
+                operand,
+                t,
+            ))
+        }
+        Expr::Postfix {
+            value,
+            suffixes,
+            span,
+        } => {
+            let left = typed(alloc, env, value)?;
+            with_suffixes(alloc, env, *span, left, suffixes)
+        }
+        Expr::Number(..) => Ok(value_of(BuiltInType::Int)),
+        Expr::True(_) | Expr::False(_) => Ok(value_of(BuiltInType::Bool)),
+        Expr::Nothing(_) => Ok(plain(Meaning::NoLine, None)),
+        Expr::Variable(n) => Ok(variable_type(env, n)),
+        Expr::Member { owner, member, .. } => Ok(member_type(env, owner, member)),
+        Expr::Call {
+            name,
+            arguments,
+            span,
+        } => {
+            let given = all_given(alloc, env, &arguments.items)?;
+            named_call(alloc, env, *span, name, &given)
+        }
+        Expr::New(made, span) => {
+            Ok(plain(
+                Meaning::NewLine(made),
+                Some(told(Rule::NotAllowedHere, *span)),
+            ))
+        }
+        Expr::IsValid(operand, _) | Expr::IsInvalid(operand, _) => {
+            let t = typed(alloc, env, operand)?;
+            Ok(alone(env, Wanted::AnyLine, BuiltInType::Bool, operand, t))
+        }
+        Expr::Cast { target, value, .. } => {
+            let t = typed(alloc, env, value)?;
+            Ok(cast_to(env, target, given_at(span_of(value), t)))
+        }
+        Expr::Group(inner, _) => typed(alloc, env, inner),
+    }
+}
+
+// What stands left of operands, joined with each of them, where the whole starts with this operand.
+#[cycle(expression_type)]
+fn operands<'a>(
+    alloc: Global,
+    env: Environment<'_, 'a>,
+    left: Typed<'a>,
+    others: &'a [Operand],
+    first: &Expr,
+) -> Result<Typed<'a>, NoMemory>
+    requires { IsEnvironment env }
+    ensures { IfOk result (λ t. found_of (typed_of t) ≡ found_of (all_operands (environment_of env.entry) (span_in first.now) (typed_of left.entry) others.now)) }
+{
+    let mut left = left;
+    for o in others {
+        let right = typed(alloc, env, &o.value)?;
+        left = joined(
+            env,
+            o.operator,
+            given_at(span_of(first), left),
+            given_at(span_of(&o.value), right),
+        );
+    }
+    Ok(left)
+}
+
+#[cycle(expression_type)]
+fn suffixed<'a>(
+    alloc: Global,
+    env: Environment<'_, 'a>,
+    at: Span,
+    left: Typed<'a>,
+    s: &'a Suffix,
+) -> Result<Typed<'a>, NoMemory>
+    requires { IsEnvironment env }
+    ensures { IfOk result (λ t. found_of (typed_of t) ≡ found_of (suffix_typed (environment_of env.entry) at (typed_of left.entry) s.now)) }
+{
+    match s {
+        Suffix::Field(n, _) => Ok(field_of(env, left, n)),
+        Suffix::Method {
+            name,
+            arguments,
+            ..
+        } => {
+            let given = all_given(alloc, env, &arguments.items)?;
+            method_call(alloc, env, at, left, name, &given)
+        }
+        Suffix::Index(key, _) => {
+            let t = typed(alloc, env, key)?;
+            index_call(alloc, env, at, left, given_at(span_of(key), t))
+        }
+    }
+}
+
+// What stands left of suffixes, with each of them.
+#[cycle(expression_type)]
+fn with_suffixes<'a>(
+    alloc: Global,
+    env: Environment<'_, 'a>,
+    at: Span,
+    left: Typed<'a>,
+    suffixes: &'a [Suffix],
+) -> Result<Typed<'a>, NoMemory>
+    requires { IsEnvironment env }
+    ensures { IfOk result (λ t. found_of (typed_of t) ≡ found_of (all_suffixes (environment_of env.entry) at (typed_of left.entry) suffixes.now)) }
+{
+    let mut left = left;
+    for s in suffixes {
+        left = suffixed(alloc, env, at, left, s)?;
+    }
+    Ok(left)
+}
+
+#[cycle(expression_type)]
+fn all_given<'a>(
+    alloc: Global,
+    env: Environment<'_, 'a>,
+    arguments: &'a [Expr],
+) -> Result<Seq<Given<'a>>, NoMemory>
+    requires { IsEnvironment env }
+    ensures { IfOk result (λ given. all_known (all_given_of given) ≡ all_known (all_arguments (environment_of env.entry) arguments.now)) }
+{
+    let mut given = Seq::new(alloc);
+    for e in arguments {
+        let t = typed(alloc, env, e)?;
+        given.push(given_at(span_of(e), t))?;
+    }
+    Ok(given)
+}
+
+/// The first that is broken in an expression where that is wanted.
+pub fn broken_where<'a>(
+    alloc: Global,
+    env: Environment<'_, 'a>,
+    wanted: Wanted<'a>,
+    e: &'a Expr,
+) -> Result<Option<Broken>, NoMemory>
+    requires { IsEnvironment env }
+    ensures { IfOk result (λ first. first ≡ first_of (broken_where_of (environment_of env.entry) (wanted_of wanted.entry) e.now)) }
+{
+    let t = typed(alloc, env, e)?;
+    let then = unfit(env.lines, wanted, span_of(e), t.meaning);
+    Ok(earlier_of_two(t.broken, then))
+}

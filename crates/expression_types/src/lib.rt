@@ -1,0 +1,11 @@
+//! What expressions stand for in the bodies of a protocol, and the first that is broken in them.
+#![tactic(auto, using(call_types::proofs::Firsts::rules_of_first))]
+
+mod expression;
+mod fields;
+mod members;
+mod operators;
+mod places;
+
+pub use expression::{broken_where, typed};
+pub use places::span_of;

@@ -1,0 +1,27 @@
+//! Where expressions are.
+ghost use Rattle.std.specs.Prelude.{◌≡◌};
+ghost use Rattle.slicc_plan.specs.ExpressionTypes.{span_of as span_in};
+
+use slicc_ast::tree::{Expr, Span};
+
+/// The place of an expression.
+pub fn span_of(e: &Expr) -> Span
+    ensures { result ≡ span_in e.now }
+{
+    match e {
+        Expr::Operation { span, .. }
+        | Expr::Postfix { span, .. }
+        | Expr::Member { span, .. }
+        | Expr::Call { span, .. }
+        | Expr::Cast { span, .. } => *span,
+        Expr::Not(_, span)
+        | Expr::Negate(_, span)
+        | Expr::IsValid(_, span)
+        | Expr::IsInvalid(_, span)
+        | Expr::Group(_, span) => *span,
+        Expr::Number(_, span) => *span,
+        Expr::True(span) | Expr::False(span) | Expr::Nothing(span) => *span,
+        Expr::New(_, span) => *span,
+        Expr::Variable(name) => name.span,
+    }
+}

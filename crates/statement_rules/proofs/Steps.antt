@@ -1,0 +1,72 @@
+-- Going through statements one after another, of which only the first that is broken is known.
+use Rattle.std.proofs.Common.{◌≡◌, ◌<◌, ◌≤◌, ◌+◌, ◌∙◌, ◌++◌, ℕ, Option, None, Some, List, [], ◌∷◌, drop, take, flat_map, get_or, length, map, reverse, refl, sym, ap, add-one, arith}
+use Rattle.std.proofs.Math.Seq.{take-append_seam}
+use Rattle.std.proofs.lemmas.List.{drop_more, length-append, map-append, reverse-append, take-take}
+use Rattle.slicc_ast.specs.declared.tree.statement.ElseIf.{ElseIf}
+use Rattle.slicc_ast.specs.declared.tree.statement.Stmt.{Stmt}
+use Rattle.slicc_plan.specs.declared.broken.Broken.{Broken}
+use Rattle.slicc_plan.specs.declared.built_in.BuiltInType.TheVariants.{Bool as Boolean}
+use Rattle.slicc_plan.specs.Environment.{Environment}
+use Rattle.slicc_plan.specs.ExpressionTypes.{broken_where}
+use Rattle.slicc_plan.specs.JudgedStatements.{after, judged, statements_judged}
+use Rattle.slicc_plan.specs.Meanings.{of_built_in}
+use Rattle.slicc_plan.specs.Order.{earlier_of_both, first_of}
+use Rattle.slicc_plan.proofs.Firsts.{both-assoc_all, first_after-first_of, first_after-flat_map, first_of-append}
+use Rattle.body_types.specs.declared.environment.Bound.{Bound}
+use Rattle.body_types.specs.Environments.{bound_of}
+use Rattle.statement_rules.specs.Bindings.{IsGrown}
+use Rattle.statement_rules.specs.Elses.{else_if_judged}
+
+-- Statements.
+
+pub statements_kept : (env later : Environment) (ss : List Stmt) (i : ℕ) (d : Stmt) (first next all : Option Broken) → i < length ss → next ≡ first_of (judged env (get_or ss i d)) → later ≡ after env (get_or ss i d) → earlier_of_both first (first_of (statements_judged env (drop i ss))) ≡ all → earlier_of_both (earlier_of_both first next) (first_of (statements_judged later (drop (i + 1) ss))) ≡ all
+statements_kept env later ss i d first next all below is bound kept =
+    let s = get_or ss i d in
+    let rest = first_of (statements_judged (after env s) (drop (i + 1) ss)) in
+    let front : first_of (statements_judged env (drop i ss)) ≡ earlier_of_both (first_of (judged env s)) rest =
+    ap (λ ts. first_of (statements_judged env ts)) (drop_more ss i d below) ∙ first_of-append (judged env s) (statements_judged (after env s) (drop (i + 1) ss)) in
+    ap (λ e. earlier_of_both (earlier_of_both first next) (first_of (statements_judged e (drop (i + 1) ss)))) bound
+    ∙ both-assoc_all first next rest ∙ ap (λ o. earlier_of_both first (earlier_of_both o rest)) is
+    ∙ ap (earlier_of_both first) (sym front) ∙ kept
+
+pub statements_item : (env later : Environment) (ss : List Stmt) (i : ℕ) (d : Stmt) (first next all : Option Broken) → i < length ss → d ≡ get_or ss i d → next ≡ first_of (judged env d) → later ≡ after env d → earlier_of_both first (first_of (statements_judged env (drop i ss))) ≡ all → earlier_of_both (earlier_of_both first next) (first_of (statements_judged later (drop (i + 1) ss))) ≡ all
+statements_item env later ss i d first next all below is one bound kept =
+    statements_kept env later ss i d first next all below (one ∙ ap (λ s. first_of (judged env s)) is) (bound ∙ ap (after env) is) kept
+
+-- `else if`.
+
+pub others_kept : (env : Environment) (es : List ElseIf) (i : ℕ) (d : ElseIf) (first condition next : Option Broken) → i < length es → condition ≡ first_of (broken_where env (of_built_in Boolean) (get_or es i d).condition) → next ≡ first_of (statements_judged env (get_or es i d).then.statements.items) → first ≡ first_of (flat_map (else_if_judged env) (take i es)) → earlier_of_both (earlier_of_both first condition) next ≡ first_of (flat_map (else_if_judged env) (take (i + 1) es))
+others_kept env es i d first condition next below one two kept =
+    let e = get_or es i d in
+    let own = broken_where env (of_built_in Boolean) e.condition in
+    let held = statements_judged env e.then.statements.items in
+    let here : earlier_of_both condition next ≡ first_of (else_if_judged env e) =
+    ap (λ o. earlier_of_both o next) one ∙ ap (earlier_of_both (first_of own)) two ∙ sym (first_of-append own held) in
+    both-assoc_all first condition next ∙ ap (earlier_of_both first) here
+    ∙ ap (λ o. earlier_of_both o (first_of (else_if_judged env e))) kept
+    ∙ sym (first_after-first_of (first_of (flat_map (else_if_judged env) (take i es))) (else_if_judged env e))
+    ∙ sym (first_after-flat_map (else_if_judged env) es i d None below)
+
+pub others_item : (env : Environment) (es : List ElseIf) (i : ℕ) (d : ElseIf) (first condition next : Option Broken) → i < length es → d ≡ get_or es i d → condition ≡ first_of (broken_where env (of_built_in Boolean) d.condition) → next ≡ first_of (statements_judged env d.then.statements.items) → first ≡ first_of (flat_map (else_if_judged env) (take i es)) → earlier_of_both (earlier_of_both first condition) next ≡ first_of (flat_map (else_if_judged env) (take (i + 1) es))
+others_item env es i d first condition next below is one two kept =
+    others_kept env es i d first condition next below (one ∙ ap (λ (e : ElseIf). first_of (broken_where env (of_built_in Boolean) e.condition)) is) (two ∙ ap (λ (e : ElseIf). first_of (statements_judged env e.then.statements.items)) is) kept
+
+-- Names that are bound.
+
+pub one_more : (xs : List Bound) (b : Bound) → reverse (map bound_of (xs ++ b ∷ [])) ≡ bound_of b ∷ reverse (map bound_of xs)
+one_more xs b = ap reverse (map-append bound_of xs (b ∷ [])) ∙ reverse-append (map bound_of xs) (bound_of b ∷ [])
+
+pub grown_push : (xs : List Bound) (b : Bound) → IsGrown xs (xs ++ b ∷ [])
+grown_push xs b = record {
+  long = let n = length-append xs (b ∷ []) in omega (arith, n);
+  same = take-append_seam xs (b ∷ []);
+}
+
+pub grown_more : (xs ys zs : List Bound) → IsGrown xs ys → IsGrown ys zs → IsGrown xs zs
+grown_more xs ys zs one two =
+    let m = one.long in
+    let n = two.long in
+    record {
+      long = omega (arith, m, n);
+      same = sym (take-take (length xs) (length ys) zs one.long) ∙ ap (take (length xs)) two.same ∙ one.same;
+    }

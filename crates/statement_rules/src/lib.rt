@@ -1,0 +1,10 @@
+//! The first that is broken in the statements of a body.
+#![tactic(auto)]
+
+mod binding;
+mod judging;
+mod messages;
+mod place;
+mod plain;
+
+pub use judging::body_judged;
