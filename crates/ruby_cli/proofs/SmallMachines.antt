@@ -6,6 +6,7 @@ use Rattle.slicc_meaning.specs.Plan.{plan_of}
 use Rattle.slicc_meaning.specs.Topology.{plain_of}
 use Rattle.small_machine.specs.declared.machine.Machine.{Machine}
 use Rattle.small_form.specs.SmallForm.{IsSmallForm}
+use Rattle.ruby_cli.specs.declared.options.Command.TheVariants.{Plain}
 use Rattle.ruby_cli.specs.declared.options.Options.{Options}
 use Rattle.ruby_cli.specs.Asked.{setting_of}
 use Rattle.ruby_cli.specs.Find.{IsSmallMachine}
@@ -29,7 +30,7 @@ found_in ts t (Ok f) alone sound only = found_one ts t f alone sound only
 found_in ts t (Err e) alone sound only = tt
 
 pub to_run : (ts : List Tree) (o : Options) (s : Setting) (m : Machine) (found : Option Machine) → IsSmallMachine ts found → found ≡ Some m
-    → s ≡ setting_of (plan_of m) (plain_of (plan_of m)) o → IsToRun ts o s
-to_run ts o s m found is some setting =
+    → o.command ≡ Plain → s ≡ setting_of (plan_of m) (plain_of (plan_of m)) o → IsToRun ts o s
+to_run ts o s m found is some plain setting =
     let one = subst (IsSmallMachine ts) some is in
-    record { tree = one.0; machine = m; alone = one.1; form = one.2; setting_is = setting }
+    record { plain = plain; tree = one.0; machine = m; alone = one.1; form = one.2; setting_is = setting }

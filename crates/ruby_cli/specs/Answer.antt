@@ -4,11 +4,12 @@ use Rattle.std.specs.Prelude.{ℕ, Bool, Option, None, Some, List, [], ◌∷◌
 use Rattle.std.specs.Fmt.{decimal}
 use Rattle.run_journal.specs.declared.verdict.Verdict.{Verdict}
 use Rattle.run_journal.specs.declared.verdict.Verdict.TheVariants.{Passed, Quiet}
-use Rattle.slicc_front.specs.declared.gathered.Refused.{Refused as Refusal}
+use Rattle.slicc_files.specs.declared.gathered.Refused.{Refused as Refusal}
+use Rattle.slicc_plan.specs.declared.row.Counts.{Counts}
 use Rattle.slicc_meaning.specs.declared.record.RunRecord.{RunRecord}
 use Rattle.run_text.specs.Text.{line, text}
 use Rattle.ruby_cli.specs.declared.answer.Answer.{Answer}
-use Rattle.ruby_cli.specs.declared.answer.Answer.TheVariants.{Ran, Usage, Refused, Absent, TooLarge, ReadFault}
+use Rattle.ruby_cli.specs.declared.answer.Answer.TheVariants.{Ran, Accepted, Usage, Refused, Absent, TooLarge, ReadFault}
 use Rattle.ruby_cli.specs.declared.done.Done.{Done}
 
 -- a place in a file: its name, its line and its column, each counted from 1
@@ -23,6 +24,13 @@ second_place (Some (file, at_line, column)) = codes "also" ∷ place file at_lin
 abbrev pub refused_line : Refusal → List ℕ
 refused_line r = line (codes "refused" ∷ place r.file r.line r.column ∷ r.code ∷ second_place r.other)
 
+-- how much there is in an accepted protocol
+abbrev pub accepted_line : Counts → List ℕ
+accepted_line c =
+    line (codes "accepted"
+    ∷ codes "machines" ∷ decimal c.machines ∷ codes "states" ∷ decimal c.states
+    ∷ codes "events" ∷ decimal c.events ∷ codes "pairs" ∷ decimal c.pairs ∷ [])
+
 abbrev pub usage_line : List ℕ
 usage_line =
     codes "usage: ruby run PROTOCOL TOPOLOGY, check PROTOCOL, table PROTOCOL, code PROTOCOL, gen N" ++ 10 ∷ []
@@ -30,6 +38,7 @@ usage_line =
 -- the whole text of an answer
 abbrev pub text_of : Answer → List ℕ
 text_of (Ran r) = text r
+text_of (Accepted counts) = accepted_line counts
 text_of Usage = usage_line
 text_of (Refused refusal) = refused_line refusal
 text_of (Absent name) = line (codes "absent" ∷ name ∷ [])
@@ -45,6 +54,7 @@ verdict_status other = 1
 -- the status of an answer whose text was written
 abbrev pub status_of : Answer → ℕ
 status_of (Ran r) = verdict_status r.verdict
+status_of (Accepted counts) = 0
 status_of Usage = 2
 status_of (Refused refusal) = 3
 status_of (ReadFault name) = 5
@@ -53,6 +63,7 @@ status_of (TooLarge name) = 9
 
 abbrev pub kept_of : Answer → Option RunRecord
 kept_of (Ran r) = Some r
+kept_of (Accepted counts) = None
 kept_of Usage = None
 kept_of (Refused refusal) = None
 kept_of (Absent name) = None

@@ -5,9 +5,9 @@
 use Rattle.std.specs.Prelude.{◌≡◌, ◌⊎◌, ℕ, Bool, Option, None, Some, List, [], ◌∷◌}
 use Rattle.ruby_outside.specs.declared.library.Got.{Got}
 use Rattle.ruby_outside.specs.declared.sink.Wrote.{Wrote}
-use Rattle.slicc_front.specs.Gathering.{IsGatheredFrom}
-use Rattle.slicc_front.specs.Reads.{Read, AreMade, AreOfOneNameEach}
-use Rattle.slicc_front.specs.declared.gathered.Gathered.TheVariants.{NoMemory}
+use Rattle.slicc_files.specs.Gathering.{IsGatheredFrom}
+use Rattle.slicc_files.specs.Reads.{Read, AreMade, AreOfOneNameEach}
+use Rattle.slicc_files.specs.declared.gathered.Gathered.TheVariants.{NoMemory}
 use Rattle.run_text.specs.Pieces.{IsPutInPieces}
 use Rattle.ruby_cli.specs.declared.answer.Answer.{Answer}
 use Rattle.ruby_cli.specs.declared.done.Done.{Done}

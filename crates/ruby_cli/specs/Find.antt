@@ -2,8 +2,8 @@
 use Rattle.std.specs.Prelude.{◌≡◌, ℕ, Option, None, Some, List, [], ◌∷◌, IfSome}
 use Rattle.ruby_outside.specs.declared.library.Got.{Got}
 use Rattle.slicc_ast.specs.declared.tree.item.Tree.{Tree}
-use Rattle.slicc_front.specs.Gathering.{IsGatheredBy}
-use Rattle.slicc_front.specs.declared.gathered.Gathered.{Gathered}
+use Rattle.slicc_files.specs.Gathering.{IsGatheredBy}
+use Rattle.slicc_files.specs.declared.gathered.Gathered.{Gathered}
 use Rattle.small_machine.specs.declared.machine.Machine.{Machine}
 use Rattle.small_form.specs.SmallForm.{IsSmallForm}
 use Rattle.ruby_cli.specs.declared.answer.Answer.{Answer}

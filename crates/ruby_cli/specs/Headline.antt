@@ -3,12 +3,13 @@
 -- anything; `files` are those of the library, where it tells them; a call ends with `done`, its status and the record that it
 -- kept. That a library's or a sink's count of faults rose in the call is `read_rose` and `write_rose`; `before` and `after`
 -- are what the sink tells as the call begins and ends.
-use Rattle.std.specs.Prelude.{◌≡◌, ◌+◌, ◌≢◌, ◌⊎◌, ℕ, Bool, Option, None, Some, List, [], ◌∷◌, ◌++◌, IfSome, IsSome}
+use Rattle.std.specs.Prelude.{◌≡◌, ◌+◌, ◌≢◌, ◌⊎◌, ℕ, Bool, Option, None, Some, List, [], ◌∷◌, ◌++◌, IfSome, IsSome, IsSomeAnd}
 use Rattle.std.specs.Bool.{OnTrue, OnFalse}
 use Rattle.std.specs.Option.{ForSome}
 use Rattle.ruby_outside.specs.Files.{Files}
 use Rattle.ruby_outside.specs.Sink.{grown, IsCutOff}
-use Rattle.slicc_front.specs.Reads.{Read, MayBeGiven}
+use Rattle.slicc_files.specs.Reads.{Read, MayBeGiven}
+use Rattle.slicc_files.specs.declared.gathered.Gathered.{Gathered}
 use Rattle.run_journal.specs.Tally.{tally}
 use Rattle.ruby_runs.specs.Account.{IsAccounted}
 use Rattle.ruby_runs.specs.Alone.{IsAlone}
@@ -24,10 +25,12 @@ use Rattle.slicc_meaning.specs.Rules.{rules}
 use Rattle.ruby_cli.specs.declared.answer.Answer.{Answer}
 use Rattle.ruby_cli.specs.declared.answer.Answer.TheVariants.{Ran, ReadFault}
 use Rattle.ruby_cli.specs.declared.done.Done.{Done}
+use Rattle.ruby_cli.specs.declared.options.Command.{Command}
+use Rattle.ruby_cli.specs.declared.options.Command.TheVariants.{Check, Plain}
 use Rattle.ruby_cli.specs.declared.options.Options.{Options}
 use Rattle.ruby_cli.specs.Answer.{text_of, status_of, done_of, out_of_memory, verdict_status}
 use Rattle.ruby_cli.specs.Asked.{setting_of}
-use Rattle.ruby_cli.specs.Right.{IsRight, IsAnswer, IsRunOver}
+use Rattle.ruby_cli.specs.Right.{IsRight, IsRightOf, IsAnswer, IsReading, IsRunOf, IsRunOver}
 
 -- each controller that must wake at a cycle of the record's run wakes in it once, and no other does
 abbrev pub IsWokenOnce : RunRecord → Type 0
@@ -52,6 +55,7 @@ IsTallied r = r.tallies ≡ tally 0 r.history ∷ []
 pub record IsAsAsked (files : Option Files) (asked : Option Options) (r : RunRecord) : Type 0 where
   pub options : Options
   pub asked_is : asked ≡ Some options
+  pub command : options.command ≡ Plain
   pub setting : r.setting ≡ setting_of r.setting.plan r.setting.topology options
   pub of_files : ForSome files (λ known. IsRunOver known asked r.setting)
 
@@ -77,32 +81,49 @@ abbrev pub IsOneOf : List ℕ → ℕ → Type 0
 IsOneOf [] n = ⊥
 IsOneOf (m ∷ ms) n = (n ≡ m) ⊎ IsOneOf ms n
 
--- with 0 and 1 there is a record with such a verdict; with a record there is such a status, or 7
-abbrev pub IsVerdictStatus : Option RunRecord → ℕ → Type 0
-IsVerdictStatus None status = (status ≢ 0) × (status ≢ 1)
-IsVerdictStatus (Some r) status = (status ≡ verdict_status r.verdict) ⊎ (status ≡ 7)
+-- this was asked for
+abbrev pub IsAskedFor : Command → Option Options → Type 0
+IsAskedFor command asked = IsSomeAnd asked (λ o. o.command ≡ command)
+
+-- with a record there is the status of its verdict, 0 or 1, or 7; without one there is 0 only for a check, and never 1
+abbrev pub IsVerdictStatus : Option Options → Option RunRecord → ℕ → Type 0
+IsVerdictStatus asked None status = (status ≡ 0 → IsAskedFor Check asked) × (status ≢ 1)
+IsVerdictStatus asked (Some r) status =
+    IsAskedFor Plain asked × ((status ≡ verdict_status r.verdict) ⊎ (status ≡ 7))
 
 -- the statuses that an answer may have, as its run goes
 abbrev pub statuses_of : Answer → List ℕ
 statuses_of (Ran r) = 0 ∷ 1 ∷ []
 statuses_of a = status_of a ∷ []
 
--- When each status comes. Where files are known, a status comes exactly where an answer with it is right over them, but that
--- 5, 7 and 8 may come in its place; of these 5 and 7 have a cause.
+-- the status is one of those of each answer that is right to this reading, and there is such an answer
+pub record IsStatusOf (o : Options) (status : ℕ) (g : Gathered) : Type 0 where
+  pub some : (a : Answer) × IsRightOf o g a
+  pub each : (a : Answer) → IsRightOf o g a → IsOneOf (statuses_of a) status
+
+-- the status is that of what these files were read as
+abbrev pub IsStatusBy : Files → Option Options → ℕ → Type 0
+IsStatusBy known asked status = IfSome asked (λ o. IsReading known o (IsStatusOf o status))
+
+-- When each status comes. Where files are known, a status comes exactly where the answers that are right to them, as they were
+-- read, have it, but that 5, 7 and 8 may come in its place; of these 5 and 7 have a cause.
 pub record IsCaused (files : Option Files) (asked : Option Options) (read_rose write_rose : Type 0) (done : Done) : Type 0 where
-  pub verdict : IsVerdictStatus done.kept done.status
+  pub verdict : IsVerdictStatus asked done.kept done.status
   pub usage : done.status ≡ 2 → asked ≡ None
   pub no_usage : asked ≡ None → (done.kept ≡ None) × IsOneOf (2 ∷ 7 ∷ 8 ∷ []) done.status
   pub only : ForSome files (λ known. IsOneOf (5 ∷ 7 ∷ 8 ∷ []) done.status ⊎ ((a : Answer) × IsAnswer known asked a × (done.status ≡ status_of a)))
-  pub always : ForSome files (λ known. (a : Answer) → IsAnswer known asked a → IsOneOf (statuses_of a ++ 5 ∷ 7 ∷ 8 ∷ []) done.status)
+  pub always : ForSome files (λ known. IsOneOf (5 ∷ 7 ∷ 8 ∷ []) done.status ⊎ IsStatusBy known asked done.status)
   pub read_fault : done.status ≡ 5 → read_rose
   pub write_fault : done.status ≡ 7 → write_rose
 
--- Where files are known, a run is to be made over them and no read failed, 7 has a record; and where no write failed either,
--- there is a run with 0 or 1, or memory ran out.
+-- where a run of this reading is to be made, there is a record, and where no write failed the status is 0 or 1
+pub record IsMade (o : Options) (write_rose : Type 0) (done : Done) (g : Gathered) : Type 0 where
+  pub keeps_run : (setting : Setting) → IsRunOf o g setting → IsSome done.kept
+  pub runs : (setting : Setting) → IsRunOf o g setting → (write_rose → ⊥) → IsOneOf (0 ∷ 1 ∷ []) done.status
+
+-- Where files are known and no read failed, memory ran out, or the run that is to be made of what was read was made.
 pub record IsComplete (files : Option Files) (asked : Option Options) (read_rose write_rose : Type 0) (done : Done) : Type 0 where
-  pub keeps_run : ForSome files (λ known. (setting : Setting) → IsRunOver known asked setting → (read_rose → ⊥) → done.status ≡ 7 → IsSome done.kept)
-  pub runs : ForSome files (λ known. (setting : Setting) → IsRunOver known asked setting → (read_rose → ⊥) → (write_rose → ⊥) → (IsSome done.kept × IsOneOf (0 ∷ 1 ∷ []) done.status) ⊎ (done.status ≡ 8))
+  pub made : ForSome files (λ known. (read_rose → ⊥) → (done.status ≡ 8) ⊎ IfSome asked (λ o. IsReading known o (IsMade o write_rose done)))
 
 -- one worker made the run, and took the controllers in the order of their numbers; this is so of a run on one thread
 abbrev pub IsByOneWorker : RunRecord → Type 0

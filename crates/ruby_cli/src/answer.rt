@@ -1,12 +1,13 @@
 // What a call may answer, with its text.
 ghost use Rattle.std.specs.Prelude.{◌≡◌, ◌++◌, IfOk, Some};
-ghost use Rattle.ruby_cli.specs.Answer.{place, refused_line as refused_line_of, text_of, status_of, verdict_status as verdict_status_of, usage_line as usage_line_of};
+ghost use Rattle.ruby_cli.specs.Answer.{accepted_line as accepted_line_of, place, refused_line as refused_line_of, text_of, status_of, verdict_status as verdict_status_of, usage_line as usage_line_of};
 
 use ruby_base::{NoMemory, Text};
 use run_journal::Verdict;
 use run_text::line_of;
 use slicc_front::Refused;
 use slicc_meaning::RunRecord;
+use slicc_plan::Counts;
 use std::alloc::Global;
 
 /// What a call of the program answers. Each answer has one text and one status; the statuses are this project's own.
@@ -14,6 +15,8 @@ use std::alloc::Global;
 pub enum Answer {
     /// A run was made: its record. The status is 0 where its checks have passed or it ended quietly, and else 1.
     Ran(RunRecord),
+    /// The protocol was checked and keeps all rules: how much there is in it. The status is 0.
+    Accepted(Counts),
     /// The words ask for nothing that the program does; the status is 2.
     Usage,
     /// The protocol is refused; the status is 3.
@@ -54,6 +57,29 @@ fn refused_line(alloc: Global, refused: &Refused) -> Result<Text, NoMemory>
     }
 }
 
+fn accepted_line(alloc: Global, counts: Counts) -> Result<Text, NoMemory>
+    ensures { IfOk result (λ text. text ≡ accepted_line_of counts) }
+{
+    let machines = format!(in alloc; "{}", counts.machines)?;
+    let states = format!(in alloc; "{}", counts.states)?;
+    let events = format!(in alloc; "{}", counts.events)?;
+    let pairs = format!(in alloc; "{}", counts.pairs)?;
+    line_of(
+        alloc,
+        b"accepted",
+        &[
+            b"machines",
+            machines.as_bytes(),
+            b"states",
+            states.as_bytes(),
+            b"events",
+            events.as_bytes(),
+            b"pairs",
+            pairs.as_bytes(),
+        ],
+    )
+}
+
 // How the program is called.
 fn usage_line(alloc: Global) -> Result<Text, NoMemory>
     ensures { IfOk result (λ text. text ≡ usage_line_of) }
@@ -82,6 +108,7 @@ impl Answer {
     {
         match self {
             Answer::Ran(record) => run_text::text_of(alloc, record),
+            Answer::Accepted(counts) => accepted_line(alloc, *counts),
             Answer::Usage => usage_line(alloc),
             Answer::Refused(refused) => refused_line(alloc, refused),
             Answer::Absent(name) => line_of(alloc, b"absent", &[name.as_slice()]),
@@ -96,6 +123,7 @@ impl Answer {
     {
         match self {
             Answer::Ran(record) => verdict_status(record.verdict),
+            Answer::Accepted(_) => 0,
             Answer::Usage => 2,
             Answer::Refused(_) => 3,
             Answer::ReadFault(_) => 5,

@@ -31,6 +31,7 @@ impl Done {
         let status = if whole { answer.status() } else { NOT_WRITTEN };
         let kept = match answer {
             Answer::Ran(record) => Some(record),
+            Answer::Accepted(_counts) => None,
             Answer::Usage => None,
             Answer::Refused(_refused) => None,
             Answer::Absent(_name) => None,

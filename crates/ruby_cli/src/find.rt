@@ -1,6 +1,7 @@
 // The answer to options, found before anything is written.
 ghost use Rattle.std.specs.Prelude.{◌≡◌, ◌<◌, ◌^◌, All, IfOk, IsUtf8};
-ghost use Rattle.slicc_front.specs.Gathering.{IsAllowed};
+ghost use Rattle.slicc_files.specs.Gathering.{IsAllowed};
+ghost use Rattle.slicc_front.specs.Fronts.{IsFrontAllowed};
 ghost use Rattle.small_machine.specs.WellFormed.{IsWellFormed};
 ghost use Rattle.slicc_meaning.specs.Plan.{plan_of as plan_of_tree};
 ghost use Rattle.slicc_meaning.specs.Record.{IsWholeRun};
@@ -8,21 +9,24 @@ ghost use Rattle.slicc_meaning.specs.Topology.{plain_of as plain_of_plan};
 ghost use Rattle.ruby_cli.specs.Asked.{setting_of as setting_of_plan};
 ghost use Rattle.ruby_cli.specs.Find.{IsReadFor, IsSmallMachine, IsAloneAnswer};
 ghost use Rattle.ruby_cli.specs.Headline.{IsByOneWorker};
-ghost use Rattle.ruby_cli.specs.Right.{IsRightFor, IsRightTo, other_form as other_form_of};
+ghost use Rattle.ruby_cli.specs.Right.{IsRightFor, IsRightOf, IsRightTo, other_form as other_form_of};
+ghost use Rattle.ruby_cli.specs.declared.options.Command.TheVariants.{Plain};
 
-use crate::{Answer, Options, Refused};
+use crate::{Answer, Command, Options, Refused};
 use plain_run::run_plain;
 use ruby_base::{NoMemory, Text};
 use ruby_outside::Library;
 use slicc_ast::tree::Tree;
-use slicc_front::{Gathered, gather};
-use slicc_meaning::{PlainDriver, Plan, RunRecord, Setting, plain_of, plan_of};
+use slicc_front::{Front, front};
+use slicc_meaning::{PlainDriver, Plan as RunPlan, RunRecord, Setting, plain_of, plan_of};
+use slicc_plan::Plan;
+use slicc_types::counts;
 use small_form::machine_of;
 use small_machine::Machine;
 use std::alloc::Global;
 
 // What the run begins with: the plan over its plain topology, as the options ask.
-fn setting_of(alloc: Global, plan: Plan, options: &Options) -> Result<Setting, NoMemory>
+fn setting_of(alloc: Global, plan: RunPlan, options: &Options) -> Result<Setting, NoMemory>
     ensures { IfOk result (λ s. s ≡ setting_of_plan plan (plain_of_plan plan) options.now) }
 {
     let topology = plain_of(alloc, &plan)?;
@@ -77,9 +81,10 @@ fn small_machine(alloc: Global, trees: &[Tree]) -> Result<Option<Machine>, NoMem
     }
 }
 
-// The answer to the trees of the protocol.
-fn answer_to(alloc: Global, options: &Options, trees: &[Tree]) -> Result<Answer, NoMemory>
+// The run of a protocol that keeps all rules, or the refusal of one of another form.
+fn ran(alloc: Global, options: &Options, trees: &[Tree]) -> Result<Answer, NoMemory>
     requires allowed { All IsAllowed trees.now }
+    requires command { options.now.command ≡ Plain }
     requires cycles { options.now.cycles < 2 ^ 63 }
     requires limit { options.now.limit < 2 ^ 63 }
     ensures right { IfOk result (IsRightFor trees.now options.now) }
@@ -93,6 +98,41 @@ fn answer_to(alloc: Global, options: &Options, trees: &[Tree]) -> Result<Answer,
     Ok(Answer::Ran(record?))
 }
 
+// The answer to the plan of a protocol.
+fn answer_to(alloc: Global, options: &Options, plan: &Plan) -> Result<Answer, NoMemory>
+    requires allowed { All IsAllowed plan.now }
+    requires cycles { options.now.cycles < 2 ^ 63 }
+    requires limit { options.now.limit < 2 ^ 63 }
+    ensures right { IfOk result (IsRightFor plan.now options.now) }
+    ensures alone { IfOk result IsAloneAnswer }
+{
+    match options.command {
+        Command::Check => {
+            let counts = counts(alloc, plan)?;
+            Ok(Answer::Accepted(counts))
+        }
+        Command::Plain => ran(alloc, options, plan.trees()),
+    }
+}
+
+// The answer to what the protocol's files come to.
+fn answer_front(alloc: Global, options: &Options, found: Front) -> Result<Answer, NoMemory>
+    requires allowed { IsFrontAllowed found }
+    requires cycles { options.now.cycles < 2 ^ 63 }
+    requires limit { options.now.limit < 2 ^ 63 }
+    ensures right { IfOk result (IsRightTo options.now found) }
+    ensures alone { IfOk result IsAloneAnswer }
+{
+    match found {
+        Front::Plan(plan) => answer_to(alloc, options, &plan),
+        Front::Refused(refused) => Ok(Answer::Refused(refused)),
+        Front::Absent(name) => Ok(Answer::Absent(name)),
+        Front::TooLarge(name) => Ok(Answer::TooLarge(name)),
+        Front::ReadFault(name) => Ok(Answer::ReadFault(name)),
+        Front::NoMemory => Err(NoMemory),
+    }
+}
+
 /// The answer to options over a library, from which the protocol's files are read.
 pub fn find_answer<L: Library>(
     alloc: Global,
@@ -102,18 +142,9 @@ pub fn find_answer<L: Library>(
     requires name { IsUtf8 options.now.protocol }
     requires cycles { options.now.cycles < 2 ^ 63 }
     requires limit { options.now.limit < 2 ^ 63 }
-    ensures found { IsReadFor L.reads options.now library.old library.new (λ g. IfOk result (IsRightTo options.now g)) }
+    ensures found { IsReadFor L.reads options.now library.old library.new (λ g. IfOk result (IsRightOf options.now g)) }
     ensures alone { IfOk result IsAloneAnswer }
 {
-    match gather(alloc, library, &options.protocol) {
-        Gathered::Files(sources, trees) => {
-            drop(sources);
-            answer_to(alloc, options, trees.as_slice())
-        }
-        Gathered::Refused(refused) => Ok(Answer::Refused(refused)),
-        Gathered::Absent(name) => Ok(Answer::Absent(name)),
-        Gathered::TooLarge(name) => Ok(Answer::TooLarge(name)),
-        Gathered::ReadFault(name) => Ok(Answer::ReadFault(name)),
-        Gathered::NoMemory => Err(NoMemory),
-    }
+    let found = front(alloc, library, &options.protocol);
+    answer_front(alloc, options, found)
 }

@@ -1,6 +1,5 @@
 // What holds of the answers that the top call's contract speaks of. These functions do nothing: their contracts are the laws.
 ghost use Rattle.std.specs.Prelude.{◌≡◌, List, Option};
-ghost use Rattle.ruby_outside.specs.Files.{Files};
 ghost use Rattle.ruby_outside.specs.Faults.{Rose};
 ghost use Rattle.ruby_cli.specs.declared.answer.Answer.{Answer as AnswerRecord};
 ghost use Rattle.ruby_cli.specs.declared.done.Done.{Done as DoneRecord};
@@ -8,17 +7,20 @@ ghost use Rattle.ruby_cli.specs.declared.options.Options.{Options as OptionsReco
 ghost use Rattle.ruby_cli.specs.Call.{IsAnswered};
 ghost use Rattle.ruby_cli.specs.Find.{IsAloneAnswer};
 ghost use Rattle.ruby_cli.specs.Headline.{IsTheorem};
-ghost use Rattle.ruby_cli.specs.Right.{IsRight, IsAnswer, IsSame};
-ghost use Rattle.slicc_front.specs.Reads.{Read};
+ghost use Rattle.ruby_cli.specs.Right.{IsRightOf, IsSame};
+ghost use Rattle.slicc_files.specs.Gathering.{IsGatheredFrom};
+ghost use Rattle.slicc_files.specs.Reads.{Read};
+ghost use Rattle.slicc_files.specs.declared.gathered.Gathered.{Gathered as GatheredRecord};
 
 use ruby_outside::{Library, Sink};
 
-/// At most one answer is right to what was asked and what the reads gave, but that a run may go another way than another that
-/// begins with the same setting; of runs by one worker there is one. Over a map of files it is so too.
+/// At most one answer is right to what was asked and to what the files were read as, but that a run may go another way than
+/// another that begins with the same setting; of runs by one worker there is one.
 pub fn answers_are_one()
-    ensures right { (asked : Option OptionsRecord) (reads : List Read) (a b : AnswerRecord) → IsRight asked reads a → IsRight asked reads b → IsSame a b }
-    ensures alone { (asked : Option OptionsRecord) (reads : List Read) (a b : AnswerRecord) → IsRight asked reads a → IsRight asked reads b → IsAloneAnswer a → IsAloneAnswer b → a ≡ b }
-    ensures over_files { (files : Files) (asked : Option OptionsRecord) (a b : AnswerRecord) → IsAnswer files asked a → IsAnswer files asked b → IsSame a b }
+    ensures right { (o : OptionsRecord) (reads : List Read) (g : GatheredRecord) (a b : AnswerRecord) → IsGatheredFrom o.protocol reads g
+        → IsRightOf o g a → IsRightOf o g b → IsSame a b }
+    ensures alone { (o : OptionsRecord) (reads : List Read) (g : GatheredRecord) (a b : AnswerRecord) → IsGatheredFrom o.protocol reads g
+        → IsRightOf o g a → IsRightOf o g b → IsAloneAnswer a → IsAloneAnswer b → a ≡ b }
 {}
 
 /// The clauses of the top calls follow from what a call does, over any library and any sink.

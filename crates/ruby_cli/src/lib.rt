@@ -17,4 +17,5 @@ pub use laws::{answers_are_one, clauses_follow};
 pub use options::{Command, Options};
 pub use program::ruby;
 pub use slicc_front::Refused;
+pub use slicc_plan::Counts;
 pub use top::ruby_alone;

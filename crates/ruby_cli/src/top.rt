@@ -6,7 +6,7 @@ ghost use Rattle.ruby_cli.specs.Answer.{text_of};
 ghost use Rattle.ruby_cli.specs.Call.{IsAnswered, IsReadOnce};
 ghost use Rattle.ruby_cli.specs.Find.{IsReadFor, IsAloneAnswer};
 ghost use Rattle.ruby_cli.specs.Headline.{IsWokenOnce, IsMessageAccount, IsInvalidExactly, IsTallied, IsAsAsked, IsAsWritten, IsCaused, IsComplete, IsByOneWorker};
-ghost use Rattle.ruby_cli.specs.Right.{IsRightTo};
+ghost use Rattle.ruby_cli.specs.Right.{IsRightOf};
 
 use crate::find::find_answer;
 use crate::{Answer, Done, Options};
@@ -24,7 +24,7 @@ fn prepare<L: Library>(
     requires name { IsUtf8 options.now.protocol }
     requires cycles { options.now.cycles < 2 ^ 63 }
     requires limit { options.now.limit < 2 ^ 63 }
-    ensures found { IsReadFor L.reads options.now library.old library.new (λ g. IfOk result (λ r. IsRightTo options.now g r.0)) }
+    ensures found { IsReadFor L.reads options.now library.old library.new (λ g. IfOk result (λ r. IsRightOf options.now g r.0)) }
     ensures alone { IfOk result (λ r. IsAloneAnswer r.0) }
     ensures text { IfOk result (λ r. r.1 ≡ text_of r.0) }
 {

@@ -35,6 +35,14 @@ const REST: &str = "  }
 const BACK: &str = "  transition(B, Go, A) { p_pop; }
 ";
 
+/// A second transition for a pair.
+const AGAIN: &str = "  transition({A, B}, Go, B) { p_pop; }
+";
+
+/// A local that the ticker doesn't have, in an action that nothing uses.
+const LOCAL: &str = "  action(q, \"q\") { int n := 1; }
+";
+
 const THREE: &str = "1 Node-0 0x0 A Go B
 2 Node-0 0x0 B Go A
 3 Node-0 0x0 A Go B
@@ -56,7 +64,19 @@ verdict stop 2 Node-0
 
 const ABSENT: &str = "absent gone.sm\n";
 
-const REFUSED: &str = "refused tick.sm:1:1 U1\n";
+const ONE_TOO_MANY: &str = "refused tick.sm:261:5 R3\n";
+
+const TWICE: &str = "refused tick.sm:18:3 R15 also tick.sm:17:3\n";
+
+const NO_PORT: &str = "refused tick.sm:16:36 R7\n";
+
+const OTHER_FORM: &str = "refused tick.sm:1:1 U1\n";
+
+const ACCEPTED: &str = "accepted machines 1 states 2 events 1 pairs 2\n";
+
+const ACCEPTED_ALONE: &str = "accepted machines 1 states 2 events 1 pairs 1\n";
+
+const MOST_ACCEPTED: &str = "accepted machines 1 states 256 events 1 pairs 2\n";
 
 const ENDED: &str = "refused tick.sm:1:13 P1\n";
 
@@ -87,6 +107,12 @@ enum File {
     MostStates,
     /// One state more.
     TooManyStates,
+    /// The ticker with two transitions for a pair.
+    Twice,
+    /// The ticker whose action names a port that isn't there.
+    NoPort,
+    /// The ticker with one more action, which the small form doesn't have.
+    OtherForm,
     /// A comment alone.
     Comment,
     /// Nothing.
@@ -108,6 +134,24 @@ fn ticker(alloc: Global, more: u64, last: &str) -> Result<Text, NoMemory> {
     Ok(text)
 }
 
+/// The ticker with the last letters of its port's name in its action changed.
+fn without_port(alloc: Global) -> Result<Text, NoMemory> {
+    let ticker = ticker(alloc, 0, BACK)?;
+    let mut text = Text::new(alloc);
+    let mut rest = ticker.as_slice();
+    let name = b"mandatory_in.dequeue".as_slice();
+    while let [first, tail @ ..] = rest {
+        if rest.starts_with(name) {
+            text.append(b"mandatory_on.dequeue")?;
+            rest = &rest[name.len()..];
+        } else {
+            text.push(*first)?;
+            rest = tail;
+        }
+    }
+    Ok(text)
+}
+
 /// The ticker with spaces after it, of `length` bytes.
 fn padded(alloc: Global, length: usize) -> Result<Text, NoMemory> {
     let mut text = ticker(alloc, 0, BACK)?;
@@ -125,6 +169,9 @@ fn bytes_of(alloc: Global, file: File) -> Result<Text, NoMemory> {
         File::TooLong => padded(alloc, 1_048_577),
         File::MostStates => ticker(alloc, 254, BACK),
         File::TooManyStates => ticker(alloc, 255, BACK),
+        File::Twice => ticker(alloc, 0, AGAIN),
+        File::NoPort => without_port(alloc),
+        File::OtherForm => ticker(alloc, 0, LOCAL),
         File::Comment => Text::copied(alloc, b"// a comment"),
         File::Empty => Ok(Text::new(alloc)),
         File::Open => Text::copied(alloc, b"/* x"),
@@ -194,7 +241,22 @@ const ROWS: &[Row] = &[
     ("run tick.sm 3", File::Longest, 0, true, THREE),
     ("run tick.sm 3", File::TooLong, 9, false, TOO_LARGE),
     ("run tick.sm 3", File::MostStates, 0, true, THREE),
-    ("run tick.sm 3", File::TooManyStates, 3, false, REFUSED),
+    ("run tick.sm 3", File::TooManyStates, 3, false, ONE_TOO_MANY),
+    ("run tick.sm 3", File::Twice, 3, false, TWICE),
+    ("run tick.sm 3", File::OtherForm, 3, false, OTHER_FORM),
+    ("check tick.sm", File::Ticker, 0, false, ACCEPTED),
+    ("check tick.sm", File::WithoutBack, 0, false, ACCEPTED_ALONE),
+    ("check tick.sm", File::MostStates, 0, false, MOST_ACCEPTED),
+    ("check tick.sm", File::OtherForm, 0, false, ACCEPTED_ALONE),
+    ("check tick.sm", File::TooManyStates, 3, false, ONE_TOO_MANY),
+    ("check tick.sm", File::Twice, 3, false, TWICE),
+    ("check tick.sm", File::NoPort, 3, false, NO_PORT),
+    ("check tick.sm", File::Open, 3, false, OPEN),
+    ("check tick.sm", File::Empty, 3, false, EMPTY),
+    ("check tick.sm", File::TooLong, 9, false, TOO_LARGE),
+    ("check gone.sm", File::Ticker, 6, false, ABSENT),
+    ("check tick.sm 3", File::Ticker, 2, false, USAGE),
+    ("check", File::Ticker, 2, false, USAGE),
 ];
 
 /// The status, whether a record is kept, and whether this text is written.
@@ -316,13 +378,22 @@ const FAULTS: &[Fault] = &[
     (File::Comment, 1, 4096, 9, 7, false, ENDED, 0),
 ];
 
+/// The same for a check.
+const CHECK_FAULTS: &[Fault] = &[
+    (File::Ticker, 1, 4096, 9, 7, false, ACCEPTED, 0),
+    (File::Ticker, 2, 4096, 9, 0, false, ACCEPTED, 1),
+    (File::Ticker, 9, 4096, 1, 5, false, FAULT, 1),
+    (File::Twice, 1, 4096, 9, 7, false, TWICE, 0),
+];
+
 /// The status, whether a record is kept, and whether these lines are written.
 fn faulted<R: Threads + Wait + Sync>(
     rt: &R,
     alloc: Global,
+    line: &str,
     row: &Fault,
 ) -> Result<(u8, bool, bool), NoMemory> {
-    let asked = words(alloc, "run tick.sm 3")?;
+    let asked = words(alloc, line)?;
     let mut library = MemLibrary::new(alloc, files(alloc, row.0)?, one(alloc, row.3)?);
     let mut sink = MemSink::new(alloc, one(alloc, row.1)?, row.2, 4096)?;
     let (status, kept) = call(rt, alloc, asked.as_slice(), &mut library, &mut sink);
@@ -332,7 +403,7 @@ fn faulted<R: Threads + Wait + Sync>(
 #[test]
 fn answers_each_kind_of_fault(rt: HostRuntime) -> Result<(), Fail> {
     for row in FAULTS {
-        let answer = faulted(&rt, rt.alloc(), row)?;
+        let answer = faulted(&rt, rt.alloc(), "run tick.sm 3", row)?;
         assert_eq!(rt;
             answer,
             (row.4, row.5, true),
@@ -340,6 +411,15 @@ fn answers_each_kind_of_fault(rt: HostRuntime) -> Result<(), Fail> {
             row.1,
             row.3
         );
+    }
+    Ok(())
+}
+
+#[test]
+fn answers_each_kind_of_fault_of_a_check(rt: HostRuntime) -> Result<(), Fail> {
+    for row in CHECK_FAULTS {
+        let answer = faulted(&rt, rt.alloc(), "check tick.sm", row)?;
+        assert_eq!(rt; answer, (row.4, row.5, true), "write {}", row.1);
     }
     Ok(())
 }

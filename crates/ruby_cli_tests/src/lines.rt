@@ -1,5 +1,5 @@
 use ruby_base::{NoMemory, Text};
-use ruby_cli::{Answer, Refused};
+use ruby_cli::{Answer, Counts, Refused};
 use std::alloc::Global;
 use std::test::Fail;
 
@@ -37,6 +37,12 @@ fn answer(alloc: Global, row: usize) -> Result<Answer, NoMemory> {
         2 => Ok(Answer::Absent(name(alloc, b"a.sm")?)),
         3 => Ok(Answer::TooLarge(name(alloc, b"a.sm")?)),
         4 => Ok(Answer::ReadFault(name(alloc, b"a.sm")?)),
+        5 => Ok(Answer::Accepted(Counts {
+            machines: 16,
+            states: 1,
+            events: 0,
+            pairs: 18_446_744_073_709_551_615,
+        })),
         _ => Ok(Answer::Usage),
     }
 }
@@ -48,6 +54,10 @@ const ROWS: &[(&str, u8)] = &[
     ("absent a.sm\n", 6),
     ("too large a.sm\n", 9),
     ("library fault a.sm\n", 5),
+    (
+        "accepted machines 16 states 1 events 0 pairs 18446744073709551615\n",
+        0,
+    ),
     (
         "usage: ruby run PROTOCOL TOPOLOGY, check PROTOCOL, table PROTOCOL, code PROTOCOL, gen N\n",
         2,

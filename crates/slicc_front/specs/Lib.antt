@@ -1,7 +1,2 @@
-pub mod Gathering
-pub mod Names
-pub mod Reads
-pub mod Same
-pub mod SameNodes
-pub mod Steps
-pub mod Texts
+pub mod Fronts
+pub mod Told

@@ -1,15 +1,14 @@
-//! The files that a protocol is made of: they are read by name from a library, from the protocol's own on, as include
-//! lines want them, and each is read as a tree. Or there is the first of them that can't be.
+//! A protocol's files as its plan, or the first thing that is wrong with them.
 #![tactic(auto)]
 
-mod gathered;
-mod gathering;
+mod answer;
+mod judging;
 mod laws;
-mod names;
-mod reading;
-mod state;
+mod told;
 
-pub use gathered::{Gathered, Refused, Source};
-pub use gathering::gather;
-pub use laws::{files_are_gathered_in_one_way, texts_are_read_in_one_way};
-pub use reading::{Broken, TextFault, TextRule, read_text};
+pub use answer::Front;
+pub use judging::front;
+pub use laws::fronts_are_one;
+pub use ruby_base::{NoMemory, Text};
+pub use slicc_files::Refused;
+pub use slicc_plan::Plan;

@@ -1,5 +1,0 @@
-use Rattle.slicc_front.proofs.OneText.{one_way}
-use Rattle.slicc_front.proofs.laws.texts_are_read_in_one_way.Goals as goal
-
-pub returns : goal.returns
-returns c = one_way
