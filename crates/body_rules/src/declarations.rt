@@ -28,7 +28,7 @@ fn wrong_buffer<'a>(m: MachineIn<'_, 'a>, buffer: &Name) -> Option<Broken>
     wrong_value_name(env, Wanted::TableOf(BuiltInType::Buffer), buffer)
 }
 
-#[tactic(auto, using(crate::proofs::Lists::rules_of_lists))]
+#[tactic(auto, using(statement_rules::proofs::Firsts::rules_of_first))]
 fn broken_port<'a>(m: MachineIn<'_, 'a>, message: &TypeName, buffer: &Name) -> Option<Broken>
     requires { IsMachineIn m }
     ensures { result ≡ first_of (broken_port m.entry.scopes.now.trees.now m.entry.lines.machine.now message.now buffer.now) }
@@ -36,7 +36,7 @@ fn broken_port<'a>(m: MachineIn<'_, 'a>, message: &TypeName, buffer: &Name) -> O
     earlier_of_two(wrong_message(m, message), wrong_buffer(m, buffer))
 }
 
-#[tactic(auto, using(crate::proofs::Lists::rules_of_lists))]
+#[tactic(auto, using(statement_rules::proofs::Firsts::rules_of_first))]
 fn broken_in_port<'a>(
     alloc: Global,
     m: MachineIn<'_, 'a>,
@@ -50,7 +50,7 @@ fn broken_in_port<'a>(
     Ok(earlier_of_two(own, held))
 }
 
-#[tactic(auto, using(crate::proofs::Lists::rules_of_lists))]
+#[tactic(auto, using(statement_rules::proofs::Firsts::rules_of_first))]
 fn broken_function<'a>(
     alloc: Global,
     m: MachineIn<'_, 'a>,
