@@ -49,12 +49,7 @@ fn count(word: &[u8]) -> Option<u64>
 }
 
 // What is asked of a protocol, with the defaults of all else.
-fn options(
-    alloc: Global,
-    command: Command,
-    protocol: &str,
-    count: u64,
-) -> Result<Options, NoMemory>
+fn options(alloc: Global, command: Command, protocol: &str, count: u64) -> Result<Options, NoMemory>
     requires { count ≤ 1000000 }
     ensures options { IfOk result (λ o. o ≡ options_of command protocol.now count) }
     ensures bounds { IfOk result IsWithin }

@@ -10,11 +10,7 @@ use slicc_plan::Span;
 use std::alloc::Global;
 
 // The place of a span's first byte: the file's name, the line and the column.
-fn place_of(
-    alloc: Global,
-    sources: &[Source],
-    span: Span,
-) -> Result<(Text, u32, u32), NoMemory>
+fn place_of(alloc: Global, sources: &[Source], span: Span) -> Result<(Text, u32, u32), NoMemory>
     requires { All IsShort sources.now }
     ensures { IfOk result (λ place. place ≡ place_of_span sources.now span) }
 {
