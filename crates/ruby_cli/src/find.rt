@@ -19,8 +19,7 @@ use ruby_outside::Library;
 use slicc_ast::tree::Tree;
 use slicc_front::{Front, front};
 use slicc_meaning::{PlainDriver, Plan as RunPlan, RunRecord, Setting, plain_of, plan_of};
-use slicc_plan::Plan;
-use slicc_types::counts;
+use slicc_plan::{Plan, counts};
 use small_form::machine_of;
 use small_machine::Machine;
 use std::alloc::Global;
@@ -107,10 +106,7 @@ fn answer_to(alloc: Global, options: &Options, plan: &Plan) -> Result<Answer, No
     ensures alone { IfOk result IsAloneAnswer }
 {
     match options.command {
-        Command::Check => {
-            let counts = counts(alloc, plan)?;
-            Ok(Answer::Accepted(counts))
-        }
+        Command::Check => Ok(Answer::Accepted(counts(plan))),
         Command::Plain => ran(alloc, options, plan.trees()),
     }
 }

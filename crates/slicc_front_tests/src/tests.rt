@@ -5,8 +5,7 @@ use crate::msi::MSI;
 use ruby_base::{NoMemory, Seq, Text};
 use ruby_outside::MemLibrary;
 use slicc_front::{Front, front};
-use slicc_plan::{Counts, Plan, copy_plan, same_plan};
-use slicc_types::counts;
+use slicc_plan::{Counts, Plan, copy_plan, counts, same_plan};
 use std::alloc::Global;
 use std::test::Fail;
 
@@ -157,7 +156,7 @@ fn counted(alloc: Global, text: &str) -> Result<Counts, NoMemory> {
             events: 0,
             pairs: 0,
         }),
-        Some(plan) => counts(alloc, &plan),
+        Some(plan) => Ok(counts(&plan)),
     }
 }
 

@@ -19,7 +19,7 @@ pub use built_in::BuiltInType;
 pub use laws::{first_is_found, first_is_one};
 pub use machine::machine_at;
 pub use part::{Body, Part};
-pub use plan::{Plan, copy_plan, same_plan};
+pub use plan::{Plan, copy_plan, counts, same_plan};
 pub use refusal::Refusal;
 pub use row::{Counts, Row, Written};
 pub use ruby_base::{NoMemory, Seq, Text};

@@ -1,10 +1,11 @@
 ghost use Rattle.std.specs.Prelude.{◌≡◌, ◌↔◌, true, IfOk, slice_get};
 ghost use Rattle.std.specs.Option.{option_copied};
 ghost use Rattle.slicc_plan.specs.AllRules.{IsAccepted, shapes_of};
+ghost use Rattle.slicc_plan.specs.Counts.{counts_of};
 ghost use Rattle.slicc_plan.specs.Declarations.{machines_of};
 
-use crate::NoMemory;
 use crate::machine::machine_at;
+use crate::{Counts, NoMemory};
 use ruby_base::Seq;
 use slicc_ast::tree::{Machine, Tree};
 use slicc_same::same;
@@ -13,16 +14,20 @@ use std::marker::Model;
 use std::sync::Arc;
 
 /// A protocol that keeps all rules. It keeps the trees of its files in the order of reading, and a contract sees it as them: all
-/// else in it, as its machines with their states, events, ports and transitions, is read off them. Copies share the trees.
+/// else in it, as its machines with their states, events, ports and transitions, is read off them. How many of each there are is
+/// counted once. Copies share the trees.
 #[derive(Drop)]
 pub struct Plan {
     trees: Arc<Seq<Tree>, Global>,
+    counts: Counts,
 }
 
 impl Model for Plan {
     ghost use Rattle.std.specs.Prelude.{List};
     ghost use Rattle.slicc_ast.specs.declared.tree.item.Tree.{Tree as TreeRecord};
+    ghost use Rattle.std.specs.Prelude.{◌≡◌};
     ghost use Rattle.slicc_plan.specs.AllRules.{IsAccepted};
+    ghost use Rattle.slicc_plan.specs.Counts.{counts_of};
     ghost use Rattle.std.specs.Coded.{coded_list};
     ghost use Rattle.slicc_ast.specs.contracts.tree.item.Tree as tree;
 
@@ -32,17 +37,19 @@ impl Model for Plan {
 
     ghost view = { λ p. p.trees.value };
 
-    ghost invariant = { λ p. IsAccepted p.trees.value };
+    ghost invariant = { λ p. IsAccepted p.trees.value × (p.counts ≡ counts_of p.trees.value) };
 }
 
 impl Plan {
-    /// The plan of trees that keep all rules.
-    pub fn of(alloc: Global, trees: Seq<Tree>) -> Result<Plan, NoMemory>
-        requires { IsAccepted trees }
+    /// The plan of trees that keep all rules, in which there is as much as these counts say.
+    pub fn of(alloc: Global, trees: Seq<Tree>, counts: Counts) -> Result<Plan, NoMemory>
+        requires accepted { IsAccepted trees }
+        requires counts { counts ≡ counts_of trees }
         ensures { IfOk result (λ plan. plan ≡ trees) }
     {
         Ok(Plan {
             trees: Arc::new(alloc, trees)?,
+            counts,
         })
     }
 
@@ -69,7 +76,16 @@ pub fn copy_plan(plan: &Plan) -> Result<Plan, NoMemory>
 {
     Ok(Plan {
         trees: Arc::try_clone(&plan.trees)?,
+        counts: plan.counts,
     })
+}
+
+/// How many machines the protocol of a plan has, and how many states, events and pairs with a written transition, summed over
+/// them. It takes no memory.
+pub fn counts(plan: &Plan) -> Counts
+    ensures { result ≡ counts_of plan.now }
+{
+    plan.counts
 }
 
 /// Whether two plans are those of the same protocol: as many files, whose trees are alike in the order of reading, spans left

@@ -7,7 +7,6 @@ mod machines;
 mod resolving;
 
 pub use body_rules::broken_bodies;
-pub use counting::counts;
 pub use machines::broken_machines;
 pub use resolving::{resolve, told};
 pub use slicc_names::broken_declarations;

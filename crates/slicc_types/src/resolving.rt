@@ -1,17 +1,18 @@
 //! The plan of a protocol, or the first of all rules that it breaks.
 ghost use Rattle.std.specs.Prelude.{◌≡◌, [], IfOk, MatchResult};
-ghost use Rattle.slicc_plan.specs.AllRules.{IsAccepted, IsPlanOf};
+ghost use Rattle.slicc_plan.specs.AllRules.{IsPlanOf};
 ghost use Rattle.slicc_plan.specs.BrokenBodies.{broken_bodies};
 ghost use Rattle.slicc_plan.specs.BrokenDeclarations.{broken_declarations};
-ghost use Rattle.slicc_types.specs.Judged.{IsJudged};
+ghost use Rattle.slicc_types.specs.Judged.{IsCounted, IsJudged};
 
+use crate::counting::counted;
 use crate::machines::broken_machines;
 use body_rules::broken_bodies;
 use declared_types::Scopes;
 use ruby_base::{NoMemory, Seq};
 use slicc_ast::tree::Tree;
 use slicc_names::{broken_declarations, refusal};
-use slicc_plan::{Broken, Plan, Refusal};
+use slicc_plan::{Broken, Counts, Plan, Refusal};
 use std::alloc::Global;
 
 // What is told where no rule of declarations or of bodies is broken.
@@ -53,22 +54,25 @@ pub fn told(alloc: Global, trees: &[Tree]) -> Result<Option<Broken>, NoMemory>
     told_of(alloc, &scopes)
 }
 
-// Refuses trees that break a rule.
-fn accept(alloc: Global, trees: &[Tree]) -> Result<(), Refusal>
-    ensures { MatchResult result (λ done. IsAccepted trees.now) (λ r. IsPlanOf trees.now (Err r)) }
+// How much the protocol with these trees has, where it keeps all rules, or its refusal.
+fn accept(alloc: Global, trees: &[Tree]) -> Result<Counts, Refusal>
+    ensures { MatchResult result (IsCounted trees.now) (λ r. IsPlanOf trees.now (Err r)) }
 {
     match told(alloc, trees) {
-        Ok(None) => Ok(()),
+        Ok(None) => match counted(alloc, trees) {
+            Ok(counts) => Ok(counts),
+            Err(NoMemory) => Err(Refusal::NoMemory),
+        },
         Ok(Some(b)) => Err(refusal(b)),
         Err(NoMemory) => Err(Refusal::NoMemory),
     }
 }
 
-fn plan_of(alloc: Global, trees: Seq<Tree>) -> Result<Plan, Refusal>
-    requires { IsAccepted trees }
+fn plan_of(alloc: Global, trees: Seq<Tree>, counts: Counts) -> Result<Plan, Refusal>
+    requires { IsCounted trees counts }
     ensures { IsPlanOf trees result }
 {
-    match Plan::of(alloc, trees) {
+    match Plan::of(alloc, trees, counts) {
         Ok(plan) => Ok(plan),
         Err(NoMemory) => Err(Refusal::NoMemory),
     }
@@ -79,6 +83,6 @@ fn plan_of(alloc: Global, trees: Seq<Tree>) -> Result<Plan, Refusal>
 pub fn resolve(alloc: Global, trees: Seq<Tree>) -> Result<Plan, Refusal>
     ensures { IsPlanOf trees result }
 {
-    accept(alloc, trees.as_slice())?;
-    plan_of(alloc, trees)
+    let counts = accept(alloc, trees.as_slice())?;
+    plan_of(alloc, trees, counts)
 }

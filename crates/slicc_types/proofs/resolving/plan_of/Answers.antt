@@ -5,7 +5,7 @@ use Rattle.slicc_types.proofs.resolving.plan_of.Goals as goal
 
 pub returns-in-Ok : goal.returns-in-Ok
 returns-in-Ok c =
-    subst (λ (ts : List Tree). IsPlanOf c.args.trees (Ok ts)) (sym c.in-Ok.ensures) (keeps_all c.requires)
+    subst (λ (ts : List Tree). IsPlanOf c.args.trees (Ok ts)) (sym c.in-Ok.ensures) (keeps_all c.requires.accepted)
 
 pub returns-in-Err : goal.returns-in-Err
 returns-in-Err c = no_memory
