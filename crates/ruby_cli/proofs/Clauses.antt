@@ -261,6 +261,7 @@ always_of told (Some o) made a allow is =
       | inl last ↦ inl (inl (fault_status o is.files last.name a last.answer is.right))
       | inr are ↦ inr (record {
         read_as = is.files;
+        is_read = was_memory o is.files a is.right;
         over_files = (made, are, is.by_reads);
         so = record { some = (a, is.right); each = λ b also. same_status b a (same_of o made is.files b a is.by_reads also is.right) };
       })
@@ -291,16 +292,33 @@ low_status o g setting a run is =
     let ran = ran_of o g setting a run is in
     subst (λ (x : Answer). IsOneOf (0 ∷ 1 ∷ []) (status_of x)) (sym ran.1) (verdict_low ran.0.verdict)
 
+-- where a protocol that keeps all rules is to be checked, its counts are right
+counted_for : (o : Options) (ts : List Tree) (a : Answer) → o.command ≡ Check → IsRightFor ts o a → status_of a ≡ 0
+counted_for o ts (Ran r) check is = absurd (not_both o check is.1.plain)
+counted_for o ts (Accepted counts) check is = refl
+counted_for o ts (Refused refusal) check is = absurd (not_both o check is.0)
+counted_for o ts Usage check is = absurd is
+counted_for o ts (Absent name) check is = absurd is
+counted_for o ts (TooLarge name) check is = absurd is
+counted_for o ts (ReadFault name) check is = absurd is
+
+counted_of : (o : Options) (g : Gathered) (ts : List Tree) (a : Answer) → o.command ≡ Check → IsFrontOf g (front.Plan ts) → IsRightOf o g a → status_of a ≡ 0
+counted_of o g ts a check accepted is =
+    let same : is.front ≡ front.Plan ts = one_front g is.front (front.Plan ts) is.is_front accepted in
+    counted_for o ts a check (subst (λ (x : Front). IsRightTo o x a) same is.right)
+
 made_of : (o : Options) (write_rose : Type 0) (g : Gathered) (a : Answer) (whole : Bool) → (whole ≡ false → write_rose) → IsRightOf o g a → IsMade o write_rose (done_of a whole) g
 made_of o write_rose g a true cause is =
     record {
       keeps_run = λ setting run. kept_some o g setting a run is;
       runs = λ setting run well. low_status o g setting a run is;
+      checks = λ trees check accepted well. counted_of o g trees a check accepted is;
     }
 made_of o write_rose g a false cause is =
     record {
       keeps_run = λ setting run. kept_some o g setting a run is;
       runs = λ setting run well. absurd (well (cause refl));
+      checks = λ trees check accepted well. absurd (well (cause refl));
     }
 
 made_over : (told : Files) (asked : Option Options) (write_rose : Type 0) (made : List Read) (a : Answer) (whole : Bool) → (whole ≡ false → write_rose)
@@ -311,6 +329,7 @@ made_over told (Some o) write_rose made a whole cause allow still is =
       | inl last ↦ absurd (still last.read_failed)
       | inr are ↦ record {
         read_as = is.files;
+        is_read = was_memory o is.files a is.right;
         over_files = (made, are, is.by_reads);
         so = made_of o write_rose is.files a whole cause is.right;
       }
@@ -330,7 +349,12 @@ run_given told asked made r allow of =
       | inr are ↦ record {
         options = of.options;
         asked_is = of.asked_is;
-        reading = record { read_as = of.files; over_files = (made, are, of.by_reads); so = of.run_of };
+        reading = record {
+          read_as = of.files;
+          is_read = gathered_files of.options of.files r.setting of.run_of;
+          over_files = (made, are, of.by_reads);
+          so = of.run_of;
+        };
       }
     ]
 

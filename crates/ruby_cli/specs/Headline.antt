@@ -9,7 +9,10 @@ use Rattle.std.specs.Option.{ForSome}
 use Rattle.ruby_outside.specs.Files.{Files}
 use Rattle.ruby_outside.specs.Sink.{grown, IsCutOff}
 use Rattle.slicc_files.specs.Reads.{Read, MayBeGiven}
+use Rattle.slicc_ast.specs.declared.tree.item.Tree.{Tree}
 use Rattle.slicc_files.specs.declared.gathered.Gathered.{Gathered}
+use Rattle.slicc_front.specs.declared.answer.Front.TheVariants.{Plan}
+use Rattle.slicc_front.specs.Fronts.{IsFrontOf}
 use Rattle.run_journal.specs.Tally.{tally}
 use Rattle.ruby_runs.specs.Account.{IsAccounted}
 use Rattle.ruby_runs.specs.Alone.{IsAlone}
@@ -116,12 +119,14 @@ pub record IsCaused (files : Option Files) (asked : Option Options) (read_rose w
   pub read_fault : done.status ≡ 5 → read_rose
   pub write_fault : done.status ≡ 7 → write_rose
 
--- where a run of this reading is to be made, there is a record, and where no write failed the status is 0 or 1
+-- where a run of this reading is to be made, there is a record, and where no write failed the status is 0 or 1; where it is to be
+-- checked and keeps all rules, and no write failed, the status is 0
 pub record IsMade (o : Options) (write_rose : Type 0) (done : Done) (g : Gathered) : Type 0 where
   pub keeps_run : (setting : Setting) → IsRunOf o g setting → IsSome done.kept
   pub runs : (setting : Setting) → IsRunOf o g setting → (write_rose → ⊥) → IsOneOf (0 ∷ 1 ∷ []) done.status
+  pub checks : (trees : List Tree) → o.command ≡ Check → IsFrontOf g (Plan trees) → (write_rose → ⊥) → done.status ≡ 0
 
--- Where files are known and no read failed, memory ran out, or the run that is to be made of what was read was made.
+-- Where files are known and no read failed, memory ran out, or what is to be made of what was read was made.
 pub record IsComplete (files : Option Files) (asked : Option Options) (read_rose write_rose : Type 0) (done : Done) : Type 0 where
   pub made : ForSome files (λ known. (read_rose → ⊥) → (done.status ≡ 8) ⊎ IfSome asked (λ o. IsReading known o (IsMade o write_rose done)))
 

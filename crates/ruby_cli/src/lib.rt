@@ -1,5 +1,5 @@
 //! The program's work as a library: what its words ask for, and the calls that answer them. A call reads the protocol's
-//! files, makes the run and its text, and then writes them.
+//! files, finds the answer, which may be a run, makes its text, and then writes it.
 #![tactic(auto)]
 
 mod answer;

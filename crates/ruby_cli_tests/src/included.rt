@@ -41,6 +41,17 @@ const BAD_BYTE_LATER: Files = &[("m.sm", "include \"a\";"), ("a", "enumeration(E
 
 const BAD_TOKEN: Files = &[("m.sm", "include \"a\";"), ("a", "\nenumeration(E) { x, }")];
 
+const DECLARED_TWICE: Files = &[
+    ("m.sm", "include \"a\"; structure(S) { }"),
+    ("a", "\nstructure(S) { }"),
+];
+
+/// Two transitions of a pair, and an unknown type after them.
+const TWO_RULES: Files = &[(
+    "m.sm",
+    "machine(M, \"m\") : { state_declaration(State) { A, AccessPermission:Busy; } enumeration(Event) { Go; } transition(A, Go) { } transition(A, Go) { } Nope f() { } }",
+)];
+
 /// The files, the failing read, the protocol, the status, and what is written.
 type Row<'a> = (Files<'a>, u64, &'a str, u8, &'a str);
 
@@ -55,6 +66,14 @@ const ROWS: &[Row] = &[
     (SEVERAL, 3, "m.sm", 5, "library fault c\n"),
     (SEVERAL, 4, "m.sm", 5, "library fault b\n"),
     (SEVERAL, 5, "m.sm", 3, "refused m.sm:1:39 R18\n"),
+    (
+        DECLARED_TWICE,
+        99,
+        "m.sm",
+        3,
+        "refused a:2:11 R1 also m.sm:1:24\n",
+    ),
+    (TWO_RULES, 99, "m.sm", 3, "refused m.sm:1:147 R2\n"),
     (BAD_BYTE, 99, "m.sm", 3, "refused m.sm:1:14 L1\n"),
     (BAD_BYTE_LATER, 99, "m.sm", 3, "refused a:2:3 L1\n"),
     (BAD_TOKEN, 99, "m.sm", 3, "refused a:2:21 P1\n"),
@@ -116,7 +135,7 @@ fn chain(alloc: Global, count: u64) -> Result<MemLibrary, NoMemory> {
 #[test]
 fn takes_64_files_and_not_one_more(rt: HostRuntime) -> Result<(), Fail> {
     let mut library = chain(rt.alloc(), 64)?;
-    let answer = answered(&rt, rt.alloc(), &mut library, "f0", "refused f0:1:1 U1\n")?;
+    let answer = answered(&rt, rt.alloc(), &mut library, "f0", "refused f0:2:15 R18\n")?;
     assert_eq!(rt; answer, (3, true));
     let mut library = chain(rt.alloc(), 65)?;
     let answer = answered(&rt, rt.alloc(), &mut library, "f0", "refused f63:2:2 R3\n")?;

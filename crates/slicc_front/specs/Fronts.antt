@@ -19,7 +19,8 @@ use Rattle.slicc_plan.specs.Order.{number_of}
 use Rattle.slicc_front.specs.declared.answer.Front.{Front}
 use Rattle.slicc_front.specs.declared.answer.Front.TheVariants.{Plan, Refused, Absent, TooLarge, ReadFault, NoMemory}
 
--- the place of a byte of a file by the file's name, the line and the column; no rule is told in a file that wasn't read
+-- the place of a byte of a file by the file's name, the line and the column; a file that wasn't read, which no span of a tree
+-- names, has no name
 abbrev pub place_in : Option Source → ℕ → List ℕ × ℕ × ℕ
 place_in None offset = ([], 1, 1)
 place_in (Some s) offset = (s.name, line_of s.bytes offset, column_of s.bytes offset)
