@@ -1,4 +1,5 @@
 pub mod Attributes
 pub mod Lent
+pub mod LineSorts
 pub mod Scopes
 pub mod Table

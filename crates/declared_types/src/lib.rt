@@ -3,6 +3,7 @@
 
 mod attributes;
 mod lent;
+mod lines;
 mod lists;
 mod scopes;
 mod table;
@@ -14,6 +15,7 @@ pub use attributes::{
     Attribute, attribute_in, first_attribute, has_attribute, is_external, is_word,
 };
 pub use lent::{Declared, KnownType, Scope};
+pub use lines::{LineSort, first_line};
 pub use scopes::Scopes;
 pub use types::{declared_type, table_named};
 pub use words::{after_prefix, before_suffix};

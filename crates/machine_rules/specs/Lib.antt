@@ -1,4 +1,3 @@
-pub mod LineSorts
 pub mod MachinesIn
 pub mod Ports
 pub mod WantedTypes

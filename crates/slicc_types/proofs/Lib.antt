@@ -1,1 +1,3 @@
 pub mod Lists
+mod Phases
+mod SharedPairs

@@ -1,7 +1,13 @@
-//! The rules of a protocol, kind by kind. Those of bodies aren't judged yet, and so no plan is made here yet.
+//! The plan of a protocol: its trees where they keep all rules, else the first rule that they break. The rules are judged in
+//! three phases, those of declarations, of bodies and of machines.
 #![tactic(auto)]
 
+mod counting;
 mod machines;
+mod resolving;
 
+pub use body_rules::broken_bodies;
+pub use counting::counts;
 pub use machines::broken_machines;
+pub use resolving::{resolve, told};
 pub use slicc_names::broken_declarations;

@@ -1,0 +1,14 @@
+use Rattle.slicc_plan.specs.BrokenBodies.{broken_bodies}
+use Rattle.slicc_names.proofs.FirstOfAll.{is_none}
+use Rattle.slicc_types.proofs.Phases.{told_by_bodies}
+use Rattle.slicc_types.proofs.resolving.told_of_bodies.Goals as goal
+
+pub returns-in-Some : goal.returns-in-Some
+returns-in-Some c =
+    told_by_bodies c.args.scopes.now.trees.now c.in_ok-b.field-0 c.in-Some.b c.requires c.in_ok-b.ensures c.in-Some.is
+
+pub told_of_machines-requires : goal.told_of_machines-requires
+told_of_machines-requires c = record {
+  declarations = c.requires;
+  bodies = is_none (broken_bodies c.args.scopes.now.trees.now) c.in_ok-b.field-0 c.in_ok-b.ensures c.in-None.is;
+}

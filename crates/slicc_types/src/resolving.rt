@@ -1,0 +1,84 @@
+//! The plan of a protocol, or the first of all rules that it breaks.
+ghost use Rattle.std.specs.Prelude.{◌≡◌, [], IfOk, MatchResult};
+ghost use Rattle.slicc_plan.specs.AllRules.{IsAccepted, IsPlanOf};
+ghost use Rattle.slicc_plan.specs.BrokenBodies.{broken_bodies};
+ghost use Rattle.slicc_plan.specs.BrokenDeclarations.{broken_declarations};
+ghost use Rattle.slicc_types.specs.Judged.{IsJudged};
+
+use crate::machines::broken_machines;
+use body_rules::broken_bodies;
+use declared_types::Scopes;
+use ruby_base::{NoMemory, Seq};
+use slicc_ast::tree::Tree;
+use slicc_names::{broken_declarations, refusal};
+use slicc_plan::{Broken, Plan, Refusal};
+use std::alloc::Global;
+
+// What is told where no rule of declarations or of bodies is broken.
+fn told_of_machines(alloc: Global, scopes: &Scopes<'_>) -> Result<Option<Broken>, NoMemory>
+    requires declarations { broken_declarations scopes.now.trees.now ≡ [] }
+    requires bodies { broken_bodies scopes.now.trees.now ≡ [] }
+    ensures { IfOk result (IsJudged scopes.now.trees.now) }
+{
+    let first = broken_machines(alloc, scopes)?;
+    Ok(first)
+}
+
+// What is told where no rule of declarations is broken.
+fn told_of_bodies(alloc: Global, scopes: &Scopes<'_>) -> Result<Option<Broken>, NoMemory>
+    requires { broken_declarations scopes.now.trees.now ≡ [] }
+    ensures { IfOk result (IsJudged scopes.now.trees.now) }
+{
+    match broken_bodies(alloc, scopes)? {
+        Some(b) => Ok(Some(b)),
+        None => told_of_machines(alloc, scopes),
+    }
+}
+
+// What is told of the protocol of these scopes.
+fn told_of(alloc: Global, scopes: &Scopes<'_>) -> Result<Option<Broken>, NoMemory>
+    ensures { IfOk result (IsJudged scopes.now.trees.now) }
+{
+    match broken_declarations(alloc, scopes)? {
+        Some(b) => Ok(Some(b)),
+        None => told_of_bodies(alloc, scopes),
+    }
+}
+
+/// Of the rules that a protocol with these trees breaks the one that is told, or `None` where it keeps them all.
+pub fn told(alloc: Global, trees: &[Tree]) -> Result<Option<Broken>, NoMemory>
+    ensures { IfOk result (IsJudged trees.now) }
+{
+    let scopes = Scopes::new(alloc, trees)?;
+    told_of(alloc, &scopes)
+}
+
+// Refuses trees that break a rule.
+fn accept(alloc: Global, trees: &[Tree]) -> Result<(), Refusal>
+    ensures { MatchResult result (λ done. IsAccepted trees.now) (λ r. IsPlanOf trees.now (Err r)) }
+{
+    match told(alloc, trees) {
+        Ok(None) => Ok(()),
+        Ok(Some(b)) => Err(refusal(b)),
+        Err(NoMemory) => Err(Refusal::NoMemory),
+    }
+}
+
+fn plan_of(alloc: Global, trees: Seq<Tree>) -> Result<Plan, Refusal>
+    requires { IsAccepted trees }
+    ensures { IsPlanOf trees result }
+{
+    match Plan::of(alloc, trees) {
+        Ok(plan) => Ok(plan),
+        Err(NoMemory) => Err(Refusal::NoMemory),
+    }
+}
+
+/// The plan of the protocol whose files have these trees, in the order of reading. Where the protocol breaks rules, it is refused
+/// by the first that is told; where memory runs out, by that.
+pub fn resolve(alloc: Global, trees: Seq<Tree>) -> Result<Plan, Refusal>
+    ensures { IsPlanOf trees result }
+{
+    accept(alloc, trees.as_slice())?;
+    plan_of(alloc, trees)
+}
