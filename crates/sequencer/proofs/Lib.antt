@@ -1,0 +1,4 @@
+pub mod Answering
+pub mod CallbackLog
+pub mod Lines
+pub mod Oldest
