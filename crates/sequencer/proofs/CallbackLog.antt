@@ -8,9 +8,13 @@ use Rattle.ruby_value.specs.declared.asked.Answer.{Answer}
 use Rattle.sequencer.specs.Callbacks.{FitCallbacks, after_callbacks}
 use Rattle.sequencer.specs.Requests.{Requests, request_for, requests_with_answer}
 
-pub after-none : (r : Requests) → after_callbacks [] r ≡ r
+pub after_none : (r : Requests) → after_callbacks [] r ≡ r
 unfolding after_callbacks
-after-none r = refl
+after_none r = refl
+
+pub fit_none : (r : Requests) → FitCallbacks [] r
+unfolding FitCallbacks
+fit_none r = tt
 
 pub after-push : (log : List Answer) (a : Answer) (r : Requests) → after_callbacks (log ++ a ∷ []) r ≡ requests_with_answer (after_callbacks log r) a.asked.line a
 unfolding after_callbacks

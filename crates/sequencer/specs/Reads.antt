@@ -30,3 +30,17 @@ is_above (Some line) a = nat_lt line a.line
 -- the outstanding request of the least line above the given one, or of the least line
 abbrev pub next_after : Requests → Option ℕ → Option Asked
 next_after r line = first_of (filter (is_above line) (by_line r))
+
+-- one request was issued before another, or as early for no greater line
+abbrev pub IsNoLater : Asked → Asked → Type 0
+IsNoLater a b = (a.issued < b.issued) ⊎ ((a.issued ≡ b.issued) × (a.line ≤ b.line))
+
+-- it is outstanding, and each outstanding request is no earlier
+pub record IsFirst (r : Requests) (a : Asked) : Type 0 where
+  pub outstanding : request_for r a.line ≡ Some a
+  pub first : (line : ℕ) (other : Asked) → request_for r line ≡ Some other → IsNoLater a other
+
+-- the same as a relation: the first of the outstanding requests, or none where none is outstanding
+abbrev pub IsOldest : Requests → Option Asked → Type 0
+IsOldest r None = (line : ℕ) (a : Asked) → request_for r line ≡ Some a → ⊥
+IsOldest r (Some a) = IsFirst r a

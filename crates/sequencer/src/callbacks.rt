@@ -3,7 +3,7 @@ ghost use Rattle.std.specs.List.{list_any};
 ghost use Rattle.ruby_value.specs.declared.asked.Answer.{Answer as AnswerRecord};
 ghost use Rattle.sequencer.specs.Back.{block_after_write, read_back, write_back};
 ghost use Rattle.sequencer.specs.Callbacks.{CallsBack, FitCallbacks, after_callbacks};
-ghost use Rattle.sequencer.specs.Requests.{IsRequest, request_for, requests_with_answer};
+ghost use Rattle.sequencer.specs.Requests.{IsRequest, Requests, request_for, requests_with_answer};
 
 use crate::back::{is_store, stored_block};
 use crate::{Answer, Asked, BackFault, Block, CallbackFault, NoMemory, Sequencer};
@@ -28,9 +28,12 @@ impl Model for Callbacks {
 }
 
 impl Callbacks {
-    /// No callbacks. It takes no memory.
+    /// No callbacks, which fit each sequencer and change none. It takes no memory.
+    #[tactic(auto, using(crate::proofs::CallbackLog::fit_none, crate::proofs::CallbackLog::after_none))]
     pub fn new(alloc: Global) -> Callbacks
-        ensures { result ≡ [] }
+        ensures none { result ≡ [] }
+        ensures fit { (r : Requests) → FitCallbacks result r }
+        ensures unchanged { (r : Requests) → after_callbacks result r ≡ r }
     {
         Callbacks {
             log: Vec::new(alloc),

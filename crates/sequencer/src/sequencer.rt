@@ -1,7 +1,7 @@
 ghost use Rattle.std.specs.Prelude.{◌≡◌, ◌≢◌, ◌≤◌, ◌<◌, ◌+◌, ◌↔◌, None, Some, Err, IfSome, IsSome, OnOk, OnErr};
 ghost use Rattle.std.specs.Option.{option_copied};
 ghost use Rattle.sequencer.specs.Back.{Finishes, block_after_write, read_back, write_back};
-ghost use Rattle.sequencer.specs.Reads.{next_after, oldest};
+ghost use Rattle.sequencer.specs.Reads.{IsOldest, next_after, oldest};
 ghost use Rattle.sequencer.specs.Requests.{IsRequest, first_of, no_requests, request_for, requests_with_answer, with_request, without_first_answer};
 
 use crate::back::{is_store, stored_block};
@@ -160,7 +160,8 @@ impl Sequencer {
     /// The outstanding request of the least issue cycle, and of those the one of the least line, or `None` exactly where none is
     /// outstanding.
     pub fn oldest(&self) -> Option<&Asked>
-        ensures { option_copied result ≡ oldest self.now.kept }
+        ensures value { option_copied result ≡ oldest self.now.kept }
+        ensures first { IsOldest self.now.kept (option_copied result) }
     {
         oldest_of(&self.outstanding)
     }
