@@ -1,16 +1,14 @@
 -- An answer put in after the last one of no greater line; and what stays so of requests and answers after an edit.
-use Rattle.std.proofs.Common.{◌≡◌, ◌⊎◌, ℕ, zero, suc, ◌+◌, ◌-◌, ◌<◌, ◌≤◌, Bool, true, false, List, [], ◌∷◌, ◌++◌, length, get_or, refl, sym, ap, subst, ◌∙◌, ⊎_elim, inl, inr, arith}
+use Rattle.std.proofs.Common.{◌≡◌, ◌⊎◌, ℕ, zero, suc, ◌-◌, ◌<◌, ◌≤◌, Bool, true, false, List, [], ◌∷◌, length, get_or, refl, sym, ap, subst, ⊎_elim, arith}
 use Rattle.std.proofs.lemmas.Bool.Decides.{nat_tests}
 use Rattle.std.proofs.lemmas.Bool.{leb-true, ltb-true}
-use Rattle.std.proofs.lemmas.List.Elements.{All-cons, All-head, All-tail, All-weaker}
-use Rattle.std.proofs.lemmas.List.Edits.{length-insert}
-use Rattle.std.specs.List.{All, AllPairs, filter, insert, remove}
+use Rattle.std.proofs.lemmas.List.Elements.{All-tail}
+use Rattle.std.specs.List.{All, AllPairs, filter, insert}
 use Rattle.std.specs.Bool.{nat_lt, nat_le}
 use Rattle.ruby_value.specs.declared.asked.Answer.{Answer}
-use Rattle.ruby_value.specs.declared.asked.Asked.{Asked}
-use Rattle.ruby_value.proofs.Ordered.{All-insert, AllPairs-head, AllPairs-tail, AllPairs-insert}
+use Rattle.ruby_value.proofs.Ordered.{All-insert, AllPairs-insert}
 use Rattle.sequencer.specs.Kept.{NoLater, IsAnswer, AreAnswers}
-use Rattle.sequencer.specs.Requests.{IsRequest, with_answer}
+use Rattle.sequencer.specs.Requests.{with_answer}
 
 filter-all : {X : Type 0} (p : X → Bool) (xs : List X) → All (λ x. p x ≡ true) xs → filter p xs ≡ xs
 filter-all p [] all = refl

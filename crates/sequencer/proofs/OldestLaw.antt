@@ -1,5 +1,5 @@
 -- The oldest request is outstanding, and none is outstanding that was issued before it, or as early for a lesser line.
-use Rattle.std.proofs.Common.{◌≡◌, ◌⊎◌, ℕ, zero, suc, ◌+◌, ◌<◌, ◌≤◌, Bool, true, false, cond, eqb, List, [], ◌∷◌, length, get_or, map, Option, None, Some, Contains, refl, sym, ap, subst, ◌∙◌, ⊎_elim, inl, inr, arith}
+use Rattle.std.proofs.Common.{◌≡◌, ℕ, zero, suc, ◌<◌, Bool, true, false, cond, eqb, List, [], ◌∷◌, length, get_or, map, Option, None, Some, Contains, refl, sym, ap, subst, ◌∙◌, ⊎_elim, inr, arith}
 use Rattle.std.proofs.lemmas.Bool.Decides.{nat_tests}
 use Rattle.std.specs.Bool.{nat_lt}
 use Rattle.std.specs.FinMap as finite
@@ -11,7 +11,7 @@ use Rattle.ruby_value.proofs.Entries.{get_entries}
 use Rattle.ruby_value.proofs.Ordered.{AllPairs-head, AllPairs-tail}
 use Rattle.sequencer.specs.Kept.{ComesBefore}
 use Rattle.sequencer.specs.Outstanding.{entry_of, outstanding_of}
-use Rattle.sequencer.specs.Reads.{IsFirst, IsOldest, IsNoLater, older, oldest_of}
+use Rattle.sequencer.specs.Reads.{IsOldest, IsNoLater, older, oldest_of}
 use Rattle.sequencer.specs.Requests.{Requests}
 use Rattle.sequencer.proofs.Lines.{request-first}
 

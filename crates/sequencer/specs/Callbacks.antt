@@ -1,6 +1,6 @@
 -- What the callbacks of a scan make of a sequencer's requests before they are applied: a log of the answers with which they
 -- finished requests, in their order. This project's own.
-use Rattle.std.specs.Prelude.{◌≡◌, Option, Some, List, [], ◌∷◌, Result, Ok, Err}
+use Rattle.std.specs.Prelude.{◌≡◌, Some, List, [], ◌∷◌, Result, Ok, Err}
 use Rattle.ruby_value.specs.declared.asked.Answer.{Answer}
 use Rattle.sequencer.specs.declared.fault.BackFault.{BackFault}
 use Rattle.sequencer.specs.declared.fault.CallbackFault.{CallbackFault}

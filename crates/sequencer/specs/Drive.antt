@@ -2,7 +2,7 @@
 -- finds, and the next cycle at which it must act, if any. What the turn makes of its seats follows. Each answer is the first of
 -- its seat as it is taken, and no request's line is outstanding at its seat as it is issued. Answers and requests have no part
 -- in common, so it doesn't matter whether a driver takes before it issues. Drivers are this project's own.
-use Rattle.std.specs.Prelude.{◌≡◌, ◌<◌, ℕ, Option, None, Some, List, [], ◌∷◌, Contains, IsNone, length, map}
+use Rattle.std.specs.Prelude.{◌≡◌, ◌<◌, ℕ, Option, Some, List, [], ◌∷◌, Contains, IsNone, length, map}
 use Rattle.ruby_value.specs.declared.asked.Answer.{Answer}
 use Rattle.ruby_value.specs.declared.fault.Finding.{Finding}
 use Rattle.ruby_value.specs.declared.fault.Finding.TheVariants.{Incoherent, Deadlock, Passed}

@@ -1,6 +1,6 @@
 -- The requests of a sequencer: those that are outstanding, by line, and the finished answers that nobody has taken yet. That
 -- one line has at most one outstanding request is this project's own.
-use Rattle.std.specs.Prelude.{◌≡◌, ◌+◌, ◌≤◌, ◌<◌, ◌^◌, ℕ, Option, None, Some, List, [], ◌∷◌, ◌++◌, nat_le, nat_lt, refl}
+use Rattle.std.specs.Prelude.{◌+◌, ◌≤◌, ◌<◌, ◌^◌, ℕ, Option, None, Some, List, [], ◌∷◌, ◌++◌, nat_le, nat_lt, refl}
 use Rattle.std.specs.Coded.{Coded, code_by, coded×, coded_ℕ, coded_list}
 use Rattle.std.specs.FinMap as map
 use Rattle.std.specs.List.{filter}

@@ -1,7 +1,7 @@
 -- The seats of a driver, by their numbers: for each the number of its controller and, where it has a sequencer, the requests of
 -- that. Beside them stand the requests that were issued at them, in their order: a request that is issued at a seat without a
 -- sequencer stands in none, and no line is ever outstanding there. Seats are this project's own.
-use Rattle.std.specs.Prelude.{◌≡◌, ◌<◌, ◌++◌, ℕ, Option, None, Some, List, [], ◌∷◌, length, slice_get, slice_set}
+use Rattle.std.specs.Prelude.{◌++◌, ℕ, Option, None, Some, List, [], ◌∷◌, slice_get, slice_set}
 use Rattle.std.specs.Option.{option_and_then, option_map}
 use Rattle.ruby_value.specs.declared.asked.Answer.{Answer}
 use Rattle.ruby_value.specs.declared.asked.Asked.{Asked}

@@ -1,4 +1,4 @@
-use Rattle.std.proofs.Common.{◌≡◌, ◌≤◌, add-one, length, sym, ◌∙◌, arith}
+use Rattle.std.proofs.Common.{◌≤◌, add-one, length, sym, ◌∙◌, arith}
 use Rattle.sequencer.proofs.CallbackLog.{fit-here, fit-rest, after-rest, after-end}
 use Rattle.sequencer.proofs.callbacks.finish_all.Goals as goal
 

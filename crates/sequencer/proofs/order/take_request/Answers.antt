@@ -1,5 +1,4 @@
-use Rattle.std.proofs.Common.{◌<◌, arith, List, length, sym, subst, ap, ◌∙◌}
-use Rattle.ruby_value.specs.declared.asked.Asked.{Asked}
+use Rattle.std.proofs.Common.{◌<◌, arith, length, subst, ap, ◌∙◌}
 use Rattle.sequencer.specs.Outstanding.{outstanding_of}
 use Rattle.sequencer.specs.Place.{IsPlaceOf}
 use Rattle.sequencer.proofs.Lines.{at-place, outstanding-remove, request-taken}
