@@ -1,0 +1,5 @@
+pub mod Answering
+pub mod CallbackLog
+pub mod Lines
+pub mod Oldest
+pub mod OldestLaw

@@ -1,0 +1,10 @@
+pub mod Back
+pub mod Callbacks
+pub mod Drive
+pub mod Kept
+pub mod Outstanding
+pub mod Place
+pub mod PlainDriver
+pub mod Reads
+pub mod Requests
+pub mod Seats

@@ -1,0 +1,21 @@
+//! The sequencer, in which the requests of a processor wait for their answers, and the drivers that issue them.
+#![tactic(auto)]
+
+mod back;
+mod callbacks;
+mod driver;
+mod fault;
+mod order;
+mod plain_driver;
+mod seats;
+mod sequencer;
+mod uses;
+
+pub use callbacks::Callbacks;
+pub use driver::{Driver, DriverEnd};
+pub use fault::{BackFault, CallbackFault, IssueFault};
+pub use plain_driver::PlainDriver;
+pub use ruby_base::NoMemory;
+pub use ruby_value::{Answer, Ask, Asked, Block, Fault, Finding};
+pub use seats::Seats;
+pub use sequencer::Sequencer;
