@@ -1,22 +1,26 @@
 -- An act that a scan keeps, as an act on the changed mail; and what stays so of the messages that are left.
-use Rattle.std.proofs.Common.{◌≡◌, ◌≢◌, ◌⊎◌, ◌≤◌, ◌++◌, ◌+◌, ◌↔◌, ℕ, Bool, true, Option, None, Some, Result, Ok, Err, List, [], ◌∷◌, refl, sym, subst, ap, ◌∙◌, inl, inr, ⊎_elim, length, Contains, arith}
+use Rattle.std.proofs.Common.{◌≡◌, ◌≢◌, ◌⊎◌, ◌<◌, ◌≤◌, ◌++◌, ◌+◌, ◌↔◌, ℕ, ℤ, Bool, true, false, cond, nat_abs, Option, None, Some, Result, Ok, Err, List, [], ◌∷◌, refl, sym, subst, ap, ◌∙◌, inl, inr, ⊎_elim, length, Contains, arith}
 use Rattle.std.specs.List.{fold}
 use Rattle.std.proofs.lemmas.List.Elements.{Contains-append_left, Contains-push, Contains-push_cases}
-use Rattle.ruby_value.specs.declared.fault.Fault.TheVariants.{Front}
+use Rattle.ruby_value.specs.declared.fault.Fault.TheVariants.{Front, Latency}
 use Rattle.ruby_value.specs.declared.message.Message.{Message}
 use Rattle.ruby_value.specs.declared.message.MsgNo.{MsgNo}
 use Rattle.ctl_face.specs.Acts.{Acts}
 use Rattle.ctl_face.specs.AtFront.{at_front}
 use Rattle.ctl_face.specs.Ctl.{InboxMessage, Mail}
 use Rattle.ctl_face.specs.Front as face
-use Rattle.ctl_face.specs.Inbox.{without_message}
+use Rattle.ctl_face.specs.Fits.{NumbersAscend}
+use Rattle.ctl_face.specs.Inbox.{changed_message, without_message}
+use Rattle.ctl_face.specs.Latency.{is_latency}
 use Rattle.ctl_face.specs.Mailing.{incoming_message}
 use Rattle.ctl_face.specs.Pop.{mail_without, popped_mail}
+use Rattle.ctl_face.specs.Recycle.{mail_with_recycled, message_arriving_again}
 use Rattle.ctl_face.proofs.Inboxes.{ascend-without}
-use Rattle.ctl_face.proofs.OneKey.{without_message-contains}
+use Rattle.ctl_face.proofs.OneKey.{changed_message-contains, without_message-contains}
+use Rattle.ctl_mail.proofs.Changed.{ascend-changed}
 use Rattle.ctl_mail.specs.declared.act.MailAct.{MailAct}
-use Rattle.ctl_mail.specs.declared.act.MailAct.TheVariants.{Mark, Pop}
-use Rattle.ctl_mail.specs.MailView.{MailView, view_after_front, view_again, view_popped}
+use Rattle.ctl_mail.specs.declared.act.MailAct.TheVariants.{Mark, Pop, Recycle}
+use Rattle.ctl_mail.specs.MailView.{MailView, view_after_front, view_again, view_popped, view_recycled}
 use Rattle.ctl_mail.specs.Queues.{Queues, queue_of}
 use Rattle.ctl_mail.specs.declared.store.MailStore.{MailStore}
 use Rattle.ctl_mail.specs.MailOf.{mail_of}
@@ -132,6 +136,93 @@ reflects-as queues cycle old new inbox on back reflects = record {
         (reflects.free m arrived).1 (record { held = left.held; arrived = left.arrived; not_gone = λ gone. left.not_gone (on m.number gone) }),
   );
 }
+
+-- one message more is gone, and the inbox no longer has it as ready
+module _ (queues : Queues) (cycle : ℕ) (old new : Acts) (number : MsgNo) (more : (n : MsgNo) → IsGone new n → IsGone old n ⊎ (number ≡ n)) (still : (n : MsgNo) → IsGone old n → IsGone new n) (it : IsGone new number) where
+  abbrev Loses : (before after : List InboxMessage) → Message → Type 0
+  Loses before after m = Contains after (incoming_message m) ↔ (Contains before (incoming_message m) × (m.number ≢ number))
+
+  pub reflects-gone : (before after : List InboxMessage) → NumbersAscend after → ((m : Message) → m.arrival ≤ cycle → Loses before after m) → Reflects queues cycle old before → Reflects queues cycle new after
+  reflects-gone before after ascends loses reflects = record {
+    ascends = ascends;
+    free = λ m arrived. (
+      λ has.
+          let so = (loses m arrived).0 has in
+          let left = (reflects.free m arrived).0 so.0 in
+          record { held = left.held; arrived = left.arrived; not_gone = λ gone. ⊎_elim left.not_gone (λ same. so.1 (sym same)) (more m.number gone) },
+      λ left.
+          (loses m arrived).1 (
+            (reflects.free m arrived).1 (record { held = left.held; arrived = left.arrived; not_gone = λ gone. left.not_gone (still m.number gone) }),
+            λ same. left.not_gone (subst (IsGone new) (sym same) it),
+          ),
+    );
+  }
+
+-- the message of a number is no longer as it came in, or arrives later
+pub changed-loses : (inbox : List InboxMessage) (number : MsgNo) (change : InboxMessage → InboxMessage) (m : Message) → ((o : InboxMessage) → change o ≢ incoming_message m)
+    → Contains (changed_message inbox number change) (incoming_message m) ↔ (Contains inbox (incoming_message m) × (m.number ≢ number))
+changed-loses inbox number change m never = (
+  λ has.
+      ⊎_elim
+      (λ (so : Contains inbox (incoming_message m) × (m.number ≢ number)). so)
+      (λ (so : (o : InboxMessage) × Contains inbox o × (o.message.number ≡ number) × (change o ≡ incoming_message m)). absurd (never so.0 so.3))
+      ((changed_message-contains inbox number change (incoming_message m)).0 has),
+  λ so. (changed_message-contains inbox number change (incoming_message m)).1 (inl so),
+)
+
+abbrev pub told_recycled : Told → (buffer arrival : ℕ) → MsgNo → Told
+told_recycled old buffer arrival number = record old {
+  log = old.log ++ Recycle buffer arrival ∷ [];
+  acts = record old.acts { recycled = old.acts.recycled ++ number ∷ [] };
+}
+
+module _ (mail : Mail) (old : Told) where
+  recycled-mail : (buffer arrival : ℕ) (m : Message) → face.front (changed_mail mail old) buffer old.cycle ≡ Some m
+      → changed_mail mail (told_recycled old buffer arrival m.number) ≡ mail_with_recycled (changed_mail mail old) arrival m
+  recycled-mail buffer arrival m is =
+      after-more old.cycle mail old.log (Recycle buffer arrival)
+      ∙ ap (λ (o : Option Message). mail_at_front (changed_mail mail old) (at_front (mail_with_recycled (changed_mail mail old) arrival) o)) is
+
+  by-latency : (buffer : ℕ) (latency : ℤ) (b : Bool) → is_latency latency ≡ b
+      → view_recycled (changed_view mail old) buffer latency old.cycle
+      ≡ view_after_front (λ (number : MsgNo). record old.acts { recycled = old.acts.recycled ++ number ∷ [] }) (cond b (at_front (mail_with_recycled (changed_mail mail old) (old.cycle + nat_abs latency)) (face.front (changed_mail mail old) buffer old.cycle)) (Err Latency))
+  by-latency buffer latency b is =
+      ap (λ (t : Bool). view_after_front (λ (number : MsgNo). record old.acts { recycled = old.acts.recycled ++ number ∷ [] }) (cond t (at_front (mail_with_recycled (changed_mail mail old) (old.cycle + nat_abs latency)) (face.front (changed_mail mail old) buffer old.cycle)) (Err Latency))) is
+
+  by-front : (buffer arrival : ℕ) (o : Option Message) → face.front (changed_mail mail old) buffer old.cycle ≡ o
+      → view_after_front (λ (number : MsgNo). record old.acts { recycled = old.acts.recycled ++ number ∷ [] }) (at_front (mail_with_recycled (changed_mail mail old) arrival) (face.front (changed_mail mail old) buffer old.cycle))
+      ≡ view_after_front (λ (number : MsgNo). record old.acts { recycled = old.acts.recycled ++ number ∷ [] }) (at_front (mail_with_recycled (changed_mail mail old) arrival) o)
+  by-front buffer arrival o is =
+      ap (λ (p : Option Message). view_after_front (λ (number : MsgNo). record old.acts { recycled = old.acts.recycled ++ number ∷ [] }) (at_front (mail_with_recycled (changed_mail mail old) arrival) p)) is
+
+  pub does-recycle : (buffer : ℕ) (latency : ℤ) (m : Message) → is_latency latency ≡ true → face.front (changed_mail mail old) buffer old.cycle ≡ Some m
+      → view_recycled (changed_view mail old) buffer latency old.cycle ≡ Ok (changed_view mail (told_recycled old buffer (old.cycle + nat_abs latency) m.number))
+  does-recycle buffer latency m ok is =
+      by-latency buffer latency true ok
+      ∙ (by-front buffer (old.cycle + nat_abs latency) (Some m) is
+      ∙ ap (λ (after : Mail). Ok (record { mail = after; acts = record old.acts { recycled = old.acts.recycled ++ m.number ∷ [] } })) (sym (recycled-mail buffer (old.cycle + nat_abs latency) m is)))
+
+  pub no-recycle : (buffer : ℕ) (latency : ℤ) → is_latency latency ≡ true → face.front (changed_mail mail old) buffer old.cycle ≡ None
+      → view_recycled (changed_view mail old) buffer latency old.cycle ≡ Err Front
+  no-recycle buffer latency ok is = by-latency buffer latency true ok ∙ by-front buffer (old.cycle + nat_abs latency) None is
+
+  pub bad-latency : (buffer : ℕ) (latency : ℤ) → is_latency latency ≡ false → view_recycled (changed_view mail old) buffer latency old.cycle ≡ Err Latency
+  bad-latency buffer latency bad = by-latency buffer latency false bad
+
+pub are-of-recycle : (store : MailStore) (old : Told) (buffer arrival : ℕ) (m : Message) → old.cycle < arrival → face.front (changed_mail (mail_of store) old) buffer old.cycle ≡ Some m
+    → AreOf store old → AreOf store (told_recycled old buffer arrival m.number)
+are-of-recycle store old buffer arrival m later is reflects =
+    let inbox = (changed_mail (mail_of store) old).inbox in
+    let new = told_recycled old buffer arrival m.number in
+    let change : InboxMessage → InboxMessage = message_arriving_again arrival in
+    subst (λ (mail : Mail). Reflects store.buffers.items old.cycle new.acts mail.inbox) (sym (recycled-mail (mail_of store) old buffer arrival m is))
+    (reflects-gone store.buffers.items old.cycle old.acts new.acts m.number
+    (λ n gone. ⊎_elim (λ consumed. inl (inl consumed)) (λ other. ⊎_elim (λ stalled. inl (inr (inl stalled))) (λ recycled. ⊎_elim (λ has. inl (inr (inr has))) (λ same. inr same) (Contains-push_cases old.acts.recycled m.number n recycled)) other) gone)
+    (λ n gone. ⊎_elim (λ consumed. inl consumed) (λ other. ⊎_elim (λ stalled. inr (inl stalled)) (λ recycled. inr (inr (Contains-append_left old.acts.recycled (m.number ∷ []) n recycled))) other) gone)
+    (inr (inr (Contains-push old.acts.recycled m.number)))
+    inbox (changed_message inbox m.number change) (ascend-changed inbox m change (λ o. refl) reflects.ascends)
+    (λ x arrived. changed-loses inbox m.number change x (λ o same. let so : arrival ≡ x.arrival = ap (λ (z : InboxMessage). z.message.arrival) same in absurd (omega arith)))
+    reflects)
 
 -- changes of a scan of this mail still are that after an act
 pub are-of-pop : (store : MailStore) (old : Told) (buffer : ℕ) (m : Message) → face.front (changed_mail (mail_of store) old) buffer old.cycle ≡ Some m

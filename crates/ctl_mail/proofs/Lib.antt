@@ -1,9 +1,11 @@
 mod Acts
 mod Ascending
 mod Begun
+mod Changed
 mod Edits
 mod Fronts
 mod Inboxes
+mod Latencies
 mod Leasts
 pub mod Locals
 mod Makes

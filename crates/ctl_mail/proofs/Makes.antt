@@ -1,5 +1,5 @@
 -- What an act makes of the mail as it is kept is what it makes of the abstract mail.
-use Rattle.std.proofs.Common.{◌≡◌, ◌≢◌, ◌<◌, ◌≤◌, ◌-◌, ◌+◌, ℕ, Option, None, Some, List, [], ◌∷◌, refl, sym, subst, ap, ◌∙◌, Contains, IfSome, IfNone, length, get_or, replicate, arith, map}
+use Rattle.std.proofs.Common.{◌≡◌, ◌≢◌, ◌<◌, ◌≤◌, ◌-◌, ◌+◌, ℕ, Option, None, Some, List, [], ◌∷◌, refl, sym, subst, ap, ◌∙◌, Contains, IfSome, IfNone, All, true, length, get_or, replicate, arith, map}
 use Rattle.std.proofs.lemmas.List.Elements.{All-contains, Contains-get_or}
 use Rattle.std.specs.List.Sorted.{IsStrictlyIncreasing}
 use Rattle.std.specs.FinMap.{empty}
@@ -15,25 +15,35 @@ use Rattle.stall_map.specs.declared.stalled.Stalled.{Stalled}
 use Rattle.ctl_face.specs.AtFront.{at_front}
 use Rattle.ctl_face.specs.Ctl.{InboxMessage, Mail}
 use Rattle.ctl_face.specs.Front as face
+use Rattle.ctl_face.specs.Inbox.{without_message}
 use Rattle.ctl_face.specs.Mailing.{incoming_message, mail_with_mark, mail_with_message}
 use Rattle.ctl_face.specs.IsMachine.{network_count}
 use Rattle.ctl_face.specs.Lasts.{Lasts}
 use Rattle.ctl_face.specs.Opening.{no_mail}
+use Rattle.ctl_face.specs.Fits.{NumbersAscend}
 use Rattle.ctl_face.specs.Pop.{mail_without}
+use Rattle.ctl_face.specs.Recycle.{mail_with_recycled, message_arriving_again}
+use Rattle.ctl_face.proofs.Fronts.{front_first}
 use Rattle.ctl_face.proofs.Held.{nothing-there}
 use Rattle.ctl_face.proofs.Inboxes.{Before}
+use Rattle.ctl_face.proofs.OneKey.{without_message-contains}
 use Rattle.ctl_face.proofs.Marks.{IsStrictlyIncreasing-marks_from, IsStrictlyIncreasing-with_mark}
-use Rattle.ctl_mail.specs.declared.act.MailAct.TheVariants.{Mark, Pop}
+use Rattle.ctl_mail.specs.declared.act.MailAct.TheVariants.{Mark, Pop, Recycle}
 use Rattle.ctl_mail.specs.declared.store.MailStore.{MailStore}
 use Rattle.ctl_mail.specs.Inbox.{Has, Holds, IsAt, inbox_of}
-use Rattle.ctl_mail.specs.Least.{HasArrived, IsLeast}
+use Rattle.ctl_mail.specs.Least.{HasArrived, IsFree, IsLeast}
 use Rattle.ctl_mail.specs.MailOf.{IsMail, IsNewIn, mail_of}
 use Rattle.ctl_mail.specs.Queues.{Queues, Replaces, queue_of}
 use Rattle.ctl_mail.specs.Told.{after_act, mail_at_front}
 use Rattle.ctl_mail.proofs.Inboxes.{becomes, inbox-ascends, inbox-has}
-use Rattle.ctl_mail.proofs.Leasts.{front-of-queue, queue-least}
+use Rattle.ctl_mail.proofs.Leasts.{front-least, front-of-queue, queue-least}
 use Rattle.ctl_mail.proofs.Pops.{popped, replaced-same, same-held}
+use Rattle.ctl_mail.proofs.Changed.{readded}
 use Rattle.ctl_mail.proofs.Puts.{put-in}
+
+gone-out : (inbox : List InboxMessage) (number : MsgNo) → All (λ (o : InboxMessage). o.message.number ≢ number) (without_message inbox number)
+gone-out inbox number k d within =
+    ((without_message-contains inbox number (get_or (without_message inbox number) k d)).0 (Contains-get_or (without_message inbox number) k d within)).1
 
 module _ (store : MailStore) (new : Vec (Roomy (List Message)) Global) (is_mail : IsMail store) where
   abbrev pub with_buffers : MailStore
@@ -54,19 +64,27 @@ module _ (store : MailStore) (new : Vec (Roomy (List Message)) Global) (is_mail 
   front-held buffer now m is =
       (subst (IsLeast (HasArrived (queue_of store.buffers.items buffer) now)) (sym is) (queue-least (queue_of store.buffers.items buffer) now)).one.held
 
-  pub made-pop : (buffer now : ℕ) (o : Option Message) → o ≡ queue.front (queue_of store.buffers.items buffer) now
+  -- the front goes out
+  pub taken-value : (buffer now : ℕ) (o : Option Message) → o ≡ queue.front (queue_of store.buffers.items buffer) now → o ≡ face.front (mail_of store) buffer now
+  taken-value buffer now o is = is ∙ sym (front-is buffer now)
+
+  pub taken-out : (buffer now : ℕ) (o : Option Message) → o ≡ queue.front (queue_of store.buffers.items buffer) now
       → IfSome o (λ m. Replaces store.buffers.items new.items buffer (queue.without_message (queue_of store.buffers.items buffer) m.number))
-      → IfNone o (Replaces store.buffers.items new.items buffer (queue_of store.buffers.items buffer))
-      → (mail_of with_buffers ≡ after_act now (mail_of store) (Pop buffer)) × IsMail with_buffers
-  made-pop buffer now None is taken none =
-      let so = same-queues (replaced-same store.buffers.items new.items buffer none) in
-      (so.0 ∙ ap (λ (o : Option Message). mail_at_front (mail_of store) (at_front (mail_without (mail_of store)) o)) (is ∙ sym (front-is buffer now)), so.1)
-  made-pop buffer now (Some m) is taken none =
-      let so = popped store.buffers.items new.items store.stalls.kept buffer m is_mail.holds (front-held buffer now m is) taken in (
-        ap (λ xs. record (mail_of store) { inbox = xs }) so.1
-            ∙ ap (λ (o : Option Message). mail_at_front (mail_of store) (at_front (mail_without (mail_of store)) o)) (is ∙ sym (front-is buffer now)),
+      → IfSome o (λ m. (mail_of with_buffers ≡ mail_without (mail_of store) m) × IsMail with_buffers × IsNewIn (mail_of with_buffers) m.number × (m.buffer ≡ buffer))
+  taken-out buffer now None is taken = tt
+  taken-out buffer now (Some m) is taken =
+      let held = front-held buffer now m is in
+      let so = popped store.buffers.items new.items store.stalls.kept buffer m is_mail.holds held taken in (
+        ap (λ xs. record (mail_of store) { inbox = xs }) so.1,
         kept so.0,
+        subst (All (λ (o : InboxMessage). o.message.number ≢ m.number)) (sym so.1) (gone-out (inbox_of store.buffers.items store.stalls.kept) m.number),
+        is_mail.holds.own_buffer buffer m held,
       )
+
+  pub taken-none : (buffer : ℕ) (o : Option Message) → IfNone o (Replaces store.buffers.items new.items buffer (queue_of store.buffers.items buffer))
+      → IfNone o ((mail_of with_buffers ≡ mail_of store) × IsMail with_buffers)
+  taken-none buffer None none = same-queues (replaced-same store.buffers.items new.items buffer none)
+  taken-none buffer (Some m) none = tt
 
   -- a message comes in, with its mark
   fresh : (number : MsgNo) → IsNewIn (mail_of store) number → (o : InboxMessage) → Has store.buffers.items store.stalls.kept o → o.message.number ≢ number
@@ -105,3 +123,32 @@ no-messages queues none =
 pub is-no-mail : (inbox : List InboxMessage) (marks : List ℕ) (networks : List Lasts) (own : Lasts) → inbox ≡ [] → marks ≡ [] → networks ≡ replicate network_count empty → own ≡ empty
     → record { inbox = inbox; marks = marks; sent = 0; drawn = 0; copies = 0; network_last = networks; local_last = own } ≡ no_mail
 is-no-mail inbox marks networks own a b c d = λ i. record { inbox = a i; marks = b i; sent = 0; drawn = 0; copies = 0; network_last = c i; local_last = d i }
+
+-- what an act on the front makes of the mail, from what comes of the front
+pub after-pop : (mail after : Mail) (buffer now : ℕ) (o : Option Message) → o ≡ face.front mail buffer now → IfSome o (λ m. after ≡ mail_without mail m) → IfNone o (after ≡ mail) → after ≡ after_act now mail (Pop buffer)
+after-pop mail after buffer now None is taken none = none ∙ ap (λ (o : Option Message). mail_at_front mail (at_front (mail_without mail) o)) is
+after-pop mail after buffer now (Some m) is taken none = taken ∙ ap (λ (o : Option Message). mail_at_front mail (at_front (mail_without mail) o)) is
+
+pub after-recycle : (mail middle : Mail) (buffer now arrival : ℕ) (m : Message) → NumbersAscend mail.inbox → Some m ≡ face.front mail buffer now → middle ≡ mail_without mail m
+    → mail_with_message middle (record m { arrival = arrival; recycled = true }) ≡ after_act now mail (Recycle buffer arrival)
+after-recycle mail middle buffer now arrival m ascends is taken =
+    let held : Contains mail.inbox (incoming_message m) =
+    (subst (IsLeast (IsFree mail.inbox buffer now)) (sym is) (front-least mail.inbox buffer now (face.front mail buffer now) (front_first mail buffer now))).one.held in
+    ap (λ (z : Mail). mail_with_message z (record m { arrival = arrival; recycled = true })) taken
+    ∙ (ap (λ xs. record mail { inbox = xs; marks = with_mark mail.marks arrival }) (readded mail.inbox m (message_arriving_again arrival) ascends held (λ o. refl))
+    ∙ ap (λ (o : Option Message). mail_at_front mail (at_front (mail_with_recycled mail arrival) o)) is)
+
+pub no-recycle : (mail after : Mail) (buffer now arrival : ℕ) → None ≡ face.front mail buffer now → after ≡ mail → after ≡ after_act now mail (Recycle buffer arrival)
+no-recycle mail after buffer now arrival is same = same ∙ ap (λ (o : Option Message). mail_at_front mail (at_front (mail_with_recycled mail arrival) o)) is
+
+pub some-weaker : {X : Type 0} (P Q : X → Type 0) → ((x : X) → P x → Q x) → (o : Option X) → IfSome o P → IfSome o Q
+some-weaker P Q weaker None is = tt
+some-weaker P Q weaker (Some x) is = weaker x is
+
+pub some-both : {X : Type 0} (P Q : X → Type 0) (o : Option X) → IfSome o P → IfSome o Q → IfSome o (λ x. P x × Q x)
+some-both P Q None p q = tt
+some-both P Q (Some x) p q = (p, q)
+
+pub either-way : {X P : Type 0} (o : Option X) → IfSome o (λ _. P) → IfNone o P → P
+either-way None some none = none
+either-way (Some x) some none = some

@@ -1,6 +1,6 @@
 -- The mail of a controller as it is kept: what its queues, its stalled messages, its marks, its counts and its last arrivals
 -- are as one abstract mail.
-use Rattle.std.specs.Prelude.{◌≢◌, ℕ, map}
+use Rattle.std.specs.Prelude.{◌≢◌, ℕ, length, map}
 use Rattle.std.specs.List.{All}
 use Rattle.std.specs.List.Sorted.{IsStrictlyIncreasing}
 use Rattle.ruby_value.specs.Ascending.{marks_from}
@@ -34,3 +34,7 @@ IsNewIn mail number = All (λ (o : InboxMessage). o.message.number ≢ number) m
 -- the mail as a cycle begins
 abbrev pub mail_at_cycle : Mail → ℕ → Mail
 mail_at_cycle mail cycle = record mail { marks = marks_from cycle mail.marks; copies = 0 }
+
+-- how many buffers there are, by whose numbers messages go
+abbrev pub buffer_count : MailStore → ℕ
+buffer_count store = length store.buffers.items

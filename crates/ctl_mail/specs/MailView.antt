@@ -1,6 +1,6 @@
 -- What a scan has done to a controller's mail: the mail as its acts have left it, and what they have done to messages. The acts
 -- of a local on messages are these acts on its mail and its list of acts; nothing else of the local changes.
-use Rattle.std.specs.Prelude.{◌≡◌, ◌+◌, ◌++◌, ℕ, true, [], ◌∷◌, Result, Ok, Err}
+use Rattle.std.specs.Prelude.{◌≡◌, ◌+◌, ◌++◌, ℕ, ℤ, true, [], ◌∷◌, Result, Ok, Err}
 use Rattle.ruby_value.specs.declared.fault.Fault.{Fault}
 use Rattle.ruby_value.specs.declared.message.MsgNo.{MsgNo}
 use Rattle.ctl_face.specs.Acts.{Acts}
@@ -9,6 +9,7 @@ use Rattle.ctl_face.specs.Ctl.{Mail}
 use Rattle.ctl_face.specs.LocalView.{LocalView}
 use Rattle.ctl_face.specs.Mailing.{mail_with_mark}
 use Rattle.ctl_face.specs.Pop.{popped_mail}
+use Rattle.ctl_face.specs.Recycle.{recycled_mail}
 use Rattle.ctl_face.specs.declared.trouble.Trouble.{Trouble}
 use Rattle.ctl_face.specs.declared.trouble.Trouble.TheVariants as trouble
 
@@ -24,6 +25,10 @@ view_after_front told (Err fault) = Err fault
 abbrev pub view_popped : MailView → ℕ → ℕ → Result MailView Fault
 view_popped v buffer now =
     view_after_front (λ (number : MsgNo). record v.acts { consumed = v.acts.consumed ++ number ∷ [] }) (popped_mail v.mail buffer now)
+
+abbrev pub view_recycled : MailView → ℕ → ℤ → ℕ → Result MailView Fault
+view_recycled v buffer latency now =
+    view_after_front (λ (number : MsgNo). record v.acts { recycled = v.acts.recycled ++ number ∷ [] }) (recycled_mail v.mail buffer latency now)
 
 abbrev pub view_again : MailView → ℕ → MailView
 view_again v now = record { mail = mail_with_mark v.mail (now + 1); acts = record v.acts { again = true } }

@@ -6,13 +6,15 @@ use Rattle.ruby_value.specs.declared.fault.Fault.{Fault}
 use Rattle.ruby_value.specs.declared.message.Message.{Message}
 use Rattle.ruby_value.specs.declared.message.MsgNo.{MsgNo}
 use Rattle.ctl_face.specs.Acts.{Acts}
-use Rattle.ctl_face.specs.AtFront.{AtFront}
+use Rattle.ctl_face.specs.AtFront.{AtFront, at_front}
 use Rattle.ctl_face.specs.Ctl.{InboxMessage, Mail}
 use Rattle.ctl_face.specs.Fits.{NumbersAscend}
 use Rattle.ctl_face.specs.Mailing.{incoming_message, mail_with_mark}
+use Rattle.ctl_face.specs.Front.{front}
 use Rattle.ctl_face.specs.Pop.{popped_mail}
+use Rattle.ctl_face.specs.Recycle.{mail_with_recycled}
 use Rattle.ctl_mail.specs.declared.act.MailAct.{MailAct}
-use Rattle.ctl_mail.specs.declared.act.MailAct.TheVariants.{Mark, Pop}
+use Rattle.ctl_mail.specs.declared.act.MailAct.TheVariants.{Mark, Pop, Recycle}
 use Rattle.ctl_mail.specs.declared.changes.MailChanges.{MailChanges}
 use Rattle.ctl_mail.specs.declared.store.MailStore.{MailStore}
 use Rattle.ctl_mail.specs.MailOf.{mail_of}
@@ -26,6 +28,7 @@ mail_at_front mail (Err fault) = mail
 
 abbrev pub after_act : ℕ → Mail → MailAct → Mail
 after_act now mail (Pop buffer) = mail_at_front mail (popped_mail mail buffer now)
+after_act now mail (Recycle buffer arrival) = mail_at_front mail (at_front (mail_with_recycled mail arrival) (front mail buffer now))
 after_act now mail (Mark cycle) = mail_with_mark mail cycle
 
 unfoldable pub after_acts : ℕ → Mail → List MailAct → Mail

@@ -72,6 +72,25 @@ impl MailChanges {
         Ok(())
     }
 
+    // Keeps that the front of a buffer, of this number, arrives again.
+    pub(crate) fn keep_recycle(
+        &mut self,
+        buffer: u16,
+        arrival: u64,
+        number: MsgNo,
+    ) -> Result<(), NoMemory>
+        ensures ok { OnOk result (let old = told_by self.old in told_by self.new ≡ record old {
+          log = old.log ++ act.Recycle buffer arrival ∷ [];
+          acts = record old.acts { recycled = old.acts.recycled ++ number ∷ [] };
+        }) }
+        ensures err { OnErr result (told_by self.new ≡ told_by self.old) }
+    {
+        self.recycled.reserve(1)?;
+        self.log.push_back(MailAct::Recycle(buffer, arrival))?;
+        self.recycled.push_reserved(number);
+        Ok(())
+    }
+
     // Keeps that the controller must wake in this cycle, and that it was told to wake again.
     pub(crate) fn keep_again(&mut self, cycle: u64) -> Result<(), NoMemory>
         ensures ok { OnOk result (let old = told_by self.old in told_by self.new ≡ record old {

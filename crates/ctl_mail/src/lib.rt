@@ -16,5 +16,5 @@ mod store;
 pub use act::MailAct;
 pub use changes::MailChanges;
 pub use reads::peek;
-pub use scan::{again, pop};
+pub use scan::{again, pop, recycle};
 pub use store::MailStore;

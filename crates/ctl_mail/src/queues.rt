@@ -12,6 +12,7 @@ pub(crate) fn pop(buffers: &mut Vec<Buffer>, buffer: u16, now: u64) -> Option<Me
     ensures value { result ≡ front (queue_of buffers.old.items buffer) now }
     ensures taken { IfSome result (λ m. Replaces buffers.old.items buffers.new.items buffer
         (without_message (queue_of buffers.old.items buffer) m.number)) }
+    ensures place { IfSome result (λ m. 0 < room_of buffers.new.items buffer) }
     ensures none { IfNone result (Replaces buffers.old.items buffers.new.items buffer
         (queue_of buffers.old.items buffer)) }
     ensures room { LosesNoRoom buffers.old.items buffers.new.items }

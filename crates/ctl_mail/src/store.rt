@@ -1,8 +1,8 @@
-ghost use Rattle.std.specs.Prelude.{◌≡◌, ◌<◌, ◌≤◌, ◌+◌, ℕ, not, nat_lt, IfOk, OnOk, length};
+ghost use Rattle.std.specs.Prelude.{◌≡◌, ◌<◌, ◌≤◌, ◌+◌, ℕ, not, nat_lt, IfOk, OnOk};
 ghost use Rattle.std.specs.List.{find};
 ghost use Rattle.ctl_face.specs.Mailing.{mail_with_mark, mail_with_message};
 ghost use Rattle.ctl_face.specs.Opening.{no_mail};
-ghost use Rattle.ctl_mail.specs.MailOf.{IsMail, IsNewIn, mail_at_cycle, mail_of};
+ghost use Rattle.ctl_mail.specs.MailOf.{IsMail, buffer_count, IsNewIn, mail_at_cycle, mail_of};
 ghost use Rattle.ctl_mail.specs.Room.{HasRoomFor, mark_room};
 
 use crate::{lasts, make, marks, queues};
@@ -30,7 +30,7 @@ impl MailStore {
     pub fn new(alloc: Global, buffers: usize) -> Result<MailStore, NoMemory>
         ensures mail { IfOk result (λ store. mail_of store ≡ no_mail) }
         ensures holds { IfOk result IsMail }
-        ensures buffers { IfOk result (λ store. length store.buffers.items ≡ buffers) }
+        ensures buffers { IfOk result (λ store. buffer_count store ≡ buffers) }
     {
         let network_last = lasts::empty_lasts(alloc)?;
         let buffers = queues::empty_buffers(alloc, buffers)?;
@@ -52,6 +52,7 @@ impl MailStore {
         requires mail { IsMail self.old }
         ensures same { mail_of self.new ≡ mail_of self.old }
         ensures mail { IsMail self.new }
+        ensures buffers { buffer_count self.new ≡ buffer_count self.old }
         ensures ok { OnOk result (HasRoomFor self.new messages) }
     {
         self.marks.reserve(messages)?;
@@ -62,10 +63,11 @@ impl MailStore {
     pub fn arrive(&mut self, m: Message)
         requires mail { IsMail self.old }
         requires new { IsNewIn (mail_of self.old) m.number }
-        requires buffer { m.buffer < length self.old.buffers.items }
+        requires buffer { m.buffer < buffer_count self.old }
         requires room { HasRoomFor self.old 1 }
         ensures after { mail_of self.new ≡ mail_with_message (mail_of self.old) m }
         ensures mail { IsMail self.new }
+        ensures buffers { buffer_count self.new ≡ buffer_count self.old }
         ensures room { (more : ℕ) → HasRoomFor self.old (more + 1) → HasRoomFor self.new more }
     {
         let arrival = m.arrival;
@@ -79,6 +81,7 @@ impl MailStore {
         requires room { 0 < mark_room self.old }
         ensures after { mail_of self.new ≡ mail_with_mark (mail_of self.old) cycle }
         ensures mail { IsMail self.new }
+        ensures buffers { buffer_count self.new ≡ buffer_count self.old }
         ensures room { mark_room self.old ≤ mark_room self.new + 1 }
     {
         make::mark(self, cycle)
@@ -97,6 +100,7 @@ impl MailStore {
         requires mail { IsMail self.old }
         ensures after { mail_of self.new ≡ mail_at_cycle (mail_of self.old) cycle }
         ensures mail { IsMail self.new }
+        ensures buffers { buffer_count self.new ≡ buffer_count self.old }
         ensures room { mark_room self.old ≤ mark_room self.new }
     {
         marks::drop_below(&mut self.marks, cycle);

@@ -1,10 +1,7 @@
-use Rattle.ctl_mail.proofs.Makes.{made-pop}
+use Rattle.ctl_mail.specs.MailOf.{mail_of}
+use Rattle.ctl_mail.proofs.Makes.{after-pop}
 use Rattle.ctl_mail.proofs.make.pop.Goals as goal
 
 pub returns-clause-after : goal.returns-clause-after
 returns-clause-after c =
-    (made-pop c.args.store.now c.pop-taken.new.buffers c.requires.mail c.args.buffer c.args.now c.pop-taken.result c.pop-taken.ensures.value c.pop-taken.ensures.taken c.pop-taken.ensures.none).0
-
-pub returns-clause-mail : goal.returns-clause-mail
-returns-clause-mail c =
-    (made-pop c.args.store.now c.pop-taken.new.buffers c.requires.mail c.args.buffer c.args.now c.pop-taken.result c.pop-taken.ensures.value c.pop-taken.ensures.taken c.pop-taken.ensures.none).1
+    after-pop (mail_of c.args.store.now) (mail_of c.take-taken.new.store) c.args.buffer c.args.now c.take-taken.result c.take-taken.ensures.value c.take-taken.ensures.taken c.take-taken.ensures.none

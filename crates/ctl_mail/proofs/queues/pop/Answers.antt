@@ -1,10 +1,10 @@
-use Rattle.std.proofs.Common.{◌≡◌, ◌≤◌, ◌+◌, ◌∙◌, ℕ, List, Option, Result, Ok, Err, None, Some, IfNone, IfSome, IfOk, OnErr, OnOk, slice_get, slice_set, refl, sym, subst, ap, arith}
+use Rattle.std.proofs.Common.{◌≡◌, ◌<◌, ◌≤◌, ◌+◌, ◌∙◌, ℕ, List, Option, Result, Ok, Err, None, Some, IfNone, IfSome, IfOk, OnErr, OnOk, slice_get, slice_set, refl, sym, subst, ap, arith}
 use Rattle.std.specs.Result.{result_ok}
 use Rattle.ruby_value.specs.declared.message.Message.{Message}
 use Rattle.ruby_value.specs.Roomy.{Roomy}
 use Rattle.msg_buffer.specs.Queue.{front, without_message}
 use Rattle.ctl_mail.specs.Queues.{Queues, Replaces, queue_of, room_of}
-use Rattle.ctl_mail.proofs.Edits.{past-end, queue-at, queue-none, read-at, read-past, replaces, rooms}
+use Rattle.ctl_mail.proofs.Edits.{past-end, queue-at, queue-none, read-at, read-past, replaces, room-at, rooms, set-here}
 use Rattle.ctl_mail.proofs.queues.pop.Goals as goal
 
 module _ {E : Type 0} (messages : List Message) (now : ℕ) where
@@ -23,6 +23,11 @@ module _ {E : Type 0} (queues : Queues) (at buffer : ℕ) (old new : Roomy (List
   stayed : (r : Result Message E) → OnErr r (new.kept ≡ old.kept) → IfNone (result_ok r) (Replaces queues (slice_set queues at new) buffer (queue_of queues buffer))
   stayed (Ok m) is = tt
   stayed (Err e) is = replaces queues at buffer old new (queue_of queues buffer) same there (is ∙ sym (queue-at queues at buffer old same there))
+
+module _ {E : Type 0} (queues : Queues) (at buffer : ℕ) (old new : Roomy (List Message)) (same : at ≡ buffer) (there : slice_get queues at ≡ Some old) where
+  placed : (r : Result Message E) → IfOk r (λ m. new.room ≡ old.room + 1) → IfSome (result_ok r) (λ m. 0 < room_of (slice_set queues at new) buffer)
+  placed (Ok m) is = rw (room-at (slice_set queues at new) at buffer new same (set-here queues at old new there)) (omega arith)
+  placed (Err e) is = tt
 
 pub returns-in-Some-clause-value : goal.returns-in-Some-clause-value
 returns-in-Some-clause-value c =
@@ -57,3 +62,10 @@ returns-in-None-clause-value c =
     let there : slice_get c.args.buffers.now.items c.from.result ≡ None =
     read-past c.args.buffers.now.items c.from.result (omega (arith, past-end _ c.from.result c.in-None.ensures.variant.1, c.args.buffers.now.ok.0)) in
     ap (λ (xs : List Message). front xs c.args.now) (sym (queue-none c.args.buffers.now.items c.from.result c.args.buffer c.from.ensures there))
+
+pub returns-in-Some-clause-place : goal.returns-in-Some-clause-place
+returns-in-Some-clause-place c =
+    let queues = c.args.buffers.now.items in
+    let there : slice_get queues c.from.result ≡ Some c.in-Some.queue.now =
+    read-at queues c.from.result c.in-Some.queue.now (omega (arith, c.in-Some.ensures.variant.0 refl, c.args.buffers.now.ok.0)) c.in-Some.ensures.value in
+    rw c.ok.ensures.value (placed queues c.from.result c.args.buffer c.in-Some.queue.now c.pop.new.self c.from.ensures there c.pop.result c.pop.ensures.more_room)

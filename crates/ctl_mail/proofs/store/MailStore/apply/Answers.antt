@@ -15,6 +15,7 @@ loop-act-preserved c =
     let items : c.loop-act.changes.log.items ≡ c.in-Some.act ∷ rest = c.in-Some.ensures.items in
     record {
       mail = c.make.ensures.mail;
+      buffers = c.make.ensures.buffers ∙ c.loop-act.invariant.buffers;
       leads =
           ap (λ (m : Mail). after_acts cycle m rest) c.make.ensures.after
           ∙ (sym (after-first cycle mail c.in-Some.act rest) ∙ (ap (λ (log : List MailAct). after_acts cycle mail log) (sym items) ∙ c.loop-act.invariant.leads));
