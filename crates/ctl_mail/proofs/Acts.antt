@@ -1,5 +1,5 @@
 -- An act that a scan keeps, as an act on the changed mail; and what stays so of the messages that are left.
-use Rattle.std.proofs.Common.{◌≡◌, ◌≢◌, ◌⊎◌, ◌<◌, ◌≤◌, ◌++◌, ◌+◌, ◌↔◌, ℕ, ℤ, Bool, true, false, cond, nat_abs, Option, None, Some, Result, Ok, Err, List, [], ◌∷◌, refl, sym, subst, ap, ◌∙◌, inl, inr, ⊎_elim, length, Contains, arith}
+use Rattle.std.proofs.Common.{◌≡◌, ◌≢◌, ◌⊎◌, ◌<◌, ◌≤◌, ◌++◌, ◌+◌, ◌↔◌, ℕ, ℤ, Bool, true, false, cond, nat_abs, Option, None, Some, Ok, Err, List, [], ◌∷◌, refl, sym, subst, ap, ◌∙◌, inl, inr, ⊎_elim, length, Contains, arith}
 use Rattle.std.specs.List.{fold}
 use Rattle.std.proofs.lemmas.List.Elements.{Contains-append_left, Contains-push, Contains-push_cases}
 use Rattle.ruby_value.specs.declared.fault.Fault.TheVariants.{Front, Latency}
@@ -13,14 +13,14 @@ use Rattle.ctl_face.specs.Fits.{NumbersAscend}
 use Rattle.ctl_face.specs.Inbox.{changed_message, without_message}
 use Rattle.ctl_face.specs.Latency.{is_latency}
 use Rattle.ctl_face.specs.Mailing.{incoming_message}
-use Rattle.ctl_face.specs.Pop.{mail_without, popped_mail}
+use Rattle.ctl_face.specs.Pop.{mail_without}
 use Rattle.ctl_face.specs.Recycle.{mail_with_recycled, message_arriving_again}
 use Rattle.ctl_face.proofs.Inboxes.{ascend-without}
 use Rattle.ctl_face.proofs.OneKey.{changed_message-contains, without_message-contains}
 use Rattle.ctl_mail.proofs.Changed.{ascend-changed}
 use Rattle.ctl_mail.specs.declared.act.MailAct.{MailAct}
 use Rattle.ctl_mail.specs.declared.act.MailAct.TheVariants.{Mark, Pop, Recycle}
-use Rattle.ctl_mail.specs.MailView.{MailView, view_after_front, view_again, view_popped, view_recycled}
+use Rattle.ctl_mail.specs.MailView.{view_after_front, view_again, view_popped, view_recycled}
 use Rattle.ctl_mail.specs.Queues.{Queues, queue_of}
 use Rattle.ctl_mail.specs.declared.store.MailStore.{MailStore}
 use Rattle.ctl_mail.specs.MailOf.{mail_of}

@@ -1,6 +1,5 @@
 -- As a scan begins, what is ready in the mail is what its queues have.
-use Rattle.std.proofs.Common.{◌≡◌, ◌≤◌, ◌⊎◌, ℕ, [], sym, subst, ⊎_elim, Contains}
-use Rattle.ruby_value.specs.declared.message.Message.{Message}
+use Rattle.std.proofs.Common.{ℕ, [], sym, subst, ⊎_elim}
 use Rattle.ruby_value.specs.declared.message.MsgNo.{MsgNo}
 use Rattle.ctl_face.specs.Ctl.{Mail}
 use Rattle.ctl_face.specs.Mailing.{incoming_message}

@@ -1,7 +1,6 @@
 -- A message that goes out of an inbox and comes back changed, with its number, is changed there.
-use Rattle.std.proofs.Common.{◌≡◌, ◌≢◌, ◌⊎◌, Bool, true, false, List, cond, refl, sym, subst, ap, ◌∙◌, inl, inr, ⊎_elim, Contains}
+use Rattle.std.proofs.Common.{◌≡◌, Bool, true, false, List, cond, refl, sym, ap, ◌∙◌, inl, inr, ⊎_elim, Contains}
 use Rattle.ruby_value.specs.declared.message.Message.{Message}
-use Rattle.ruby_value.specs.declared.message.MsgNo.{MsgNo}
 use Rattle.ruby_value.specs.NumberBefore.{same_number}
 use Rattle.ctl_face.specs.Ctl.{InboxMessage}
 use Rattle.ctl_face.specs.Fits.{NumbersAscend}

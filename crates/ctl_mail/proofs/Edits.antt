@@ -1,5 +1,5 @@
 -- A buffer among others, and another one in its place.
-use Rattle.std.proofs.Common.{◌≡◌, ◌≢◌, ◌⊎◌, ⊎_elim, ◌≤◌, ◌<◌, ◌+◌, ℕ, zero, suc, Option, None, Some, List, [], ◌∷◌, refl, sym, subst, ap, ◌∙◌, All, map, replicate, length, slice_get, slice_set, get_or, true, false, arith}
+use Rattle.std.proofs.Common.{◌≡◌, ◌≢◌, ◌⊎◌, ⊎_elim, ◌≤◌, ◌<◌, ◌+◌, ℕ, zero, suc, None, Some, List, [], ◌∷◌, refl, sym, subst, ap, ◌∙◌, All, map, replicate, length, slice_get, slice_set, get_or, true, false, arith}
 use Rattle.std.proofs.lemmas.List.Elements.{All-head, All-tail}
 use Rattle.std.proofs.lemmas.Option.{slice_get_past}
 use Rattle.std.specs.FinMap.{empty}

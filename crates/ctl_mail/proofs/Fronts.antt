@@ -1,5 +1,5 @@
 -- Going along a queue past the messages that are gone leads to the first that is left, which is the front of the changed mail.
-use Rattle.std.proofs.Common.{nat_le, ◌≡◌, ◌≢◌, ◌⊎◌, ◌≤◌, ◌<◌, ◌+◌, ◌&&◌, ◌↔◌, ℕ, zero, suc, Bool, true, false, not, Option, None, Some, List, [], ◌∷◌, refl, sym, subst, ap, ◌∙◌, inl, inr, ⊎_elim, cond, length, Contains, IsTrue, filter, arith}
+use Rattle.std.proofs.Common.{nat_le, ◌≡◌, ◌⊎◌, ◌≤◌, ◌<◌, ◌+◌, ◌&&◌, ℕ, Bool, true, false, not, Option, None, Some, List, [], ◌∷◌, refl, sym, subst, ⊎_elim, cond, length, Contains, IsTrue, filter, arith}
 use Rattle.std.proofs.lemmas.Bool.Decides.{nat_tests}
 use Rattle.ruby_value.specs.declared.message.Message.{Message}
 use Rattle.ruby_value.specs.declared.message.MsgNo.{MsgNo}
@@ -9,9 +9,8 @@ use Rattle.ruby_value.proofs.Fronts.{front-is}
 use Rattle.msg_buffer.specs.Queue as queue
 use Rattle.msg_buffer.specs.Queue.{ComesBefore, is_after, next_after}
 use Rattle.ctl_face.specs.Acts.{Acts}
-use Rattle.ctl_face.specs.Ctl.{InboxMessage, Mail}
+use Rattle.ctl_face.specs.Ctl.{Mail}
 use Rattle.ctl_face.specs.Front as face
-use Rattle.ctl_face.specs.Mailing.{incoming_message}
 use Rattle.ctl_face.proofs.Held.{nothing-there}
 use Rattle.ctl_mail.specs.Least.{HasArrived, IsFirst, IsFree, IsLeast}
 use Rattle.ctl_mail.specs.Queues.{Queues, queue_of}

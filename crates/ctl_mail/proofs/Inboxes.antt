@@ -1,12 +1,11 @@
 -- The inbox that queues and stalled messages make: it ascends, and has what they have; and there is one such list alone.
-use Rattle.std.proofs.Common.{◌≡◌, ◌≢◌, ◌⊎◌, ◌↔◌, ◌++◌, ◌<◌, ℕ, zero, suc, Bool, true, false, Option, None, Some, List, [], ◌∷◌, refl, sym, subst, ap, ◌∙◌, inl, inr, ⊎_elim, Contains, map, slice_get, IsTrue, length, get_or, arith}
+use Rattle.std.proofs.Common.{◌≡◌, ◌≢◌, ◌⊎◌, ◌↔◌, ◌++◌, ℕ, zero, suc, true, false, Option, None, Some, List, [], ◌∷◌, refl, sym, subst, ap, ◌∙◌, inl, inr, ⊎_elim, Contains, map, IsTrue, arith}
 use Rattle.std.specs.List.{fold}
 use Rattle.std.proofs.lemmas.Bool.Decides.{nat_tests}
 use Rattle.std.proofs.lemmas.List.Elements.{All-contains, Contains-append_cases, Contains-append_left, Contains-append_right}
 use Rattle.ruby_value.specs.declared.message.Message.{Message}
 use Rattle.ruby_value.specs.declared.message.MsgNo.{MsgNo}
 use Rattle.ruby_value.specs.NumberBefore.{number_before, same_number}
-use Rattle.ruby_value.specs.Roomy.{Roomy}
 use Rattle.ruby_value.proofs.Contained.{Contains-cons_cases, Contains-cons_here, Contains-cons_there}
 use Rattle.ruby_value.proofs.Ordered.{AllPairs-head, AllPairs-nil, AllPairs-tail}
 use Rattle.stall_map.specs.declared.stalled.Stalled.{Stalled}
@@ -18,7 +17,7 @@ use Rattle.ctl_face.proofs.Held.{from-map, nothing-there, to-map}
 use Rattle.ctl_face.proofs.Inboxes.{Before, ascend-with}
 use Rattle.ctl_face.proofs.OneKey.{with_message-contains}
 use Rattle.ctl_mail.specs.Inbox.{Has, Holds, inbox_of, queued_messages, waiting_message}
-use Rattle.ctl_mail.specs.Queues.{Queues, messages_in, queue_of}
+use Rattle.ctl_mail.specs.Queues.{Queues, queue_of}
 
 number-parts : (a b : MsgNo) → ((a.sender ≡ b.sender) × (a.count ≡ b.count)) ⊎ (same_number a b ≡ false)
 number-parts a b = grind (arith, nat_tests)

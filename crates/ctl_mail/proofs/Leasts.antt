@@ -1,10 +1,7 @@
 -- The front of a buffer is the first of its free messages, and there is one such message alone.
-use Rattle.std.proofs.Common.{◌≡◌, ◌≢◌, ◌⊎◌, ◌≤◌, ◌<◌, ◌&&◌, ◌==◌, ℕ, Bool, true, false, Option, None, Some, List, refl, sym, subst, ap, inl, inr, ⊎_elim, Contains, IsTrue, nat_le, is_none, arith}
-use Rattle.std.specs.Option.{option_map}
+use Rattle.std.proofs.Common.{◌≡◌, ◌≤◌, ℕ, Option, None, Some, List, refl, sym, subst, ap, Contains, IsTrue, arith}
 use Rattle.std.proofs.lemmas.Bool.Decides.{nat_tests}
 use Rattle.ruby_value.specs.declared.message.Message.{Message}
-use Rattle.ruby_value.specs.declared.message.MsgNo.{MsgNo}
-use Rattle.ruby_value.specs.Front as general
 use Rattle.ruby_value.proofs.Fronts.{front-is}
 use Rattle.stall_map.specs.declared.stalled.Stalled.{Stalled}
 use Rattle.ctl_face.specs.Ctl.{InboxMessage, Mail}
@@ -15,7 +12,7 @@ use Rattle.ctl_face.proofs.Fronts.{front_first}
 use Rattle.msg_buffer.specs.Queue as queue
 use Rattle.msg_buffer.specs.Queue.{ComesBefore}
 use Rattle.ctl_mail.specs.Inbox.{Holds, inbox_of}
-use Rattle.ctl_mail.specs.Least.{HasArrived, IsFirst, IsFree, IsLeast}
+use Rattle.ctl_mail.specs.Least.{HasArrived, IsFree, IsLeast}
 use Rattle.ctl_mail.specs.Queues.{Queues, queue_of}
 use Rattle.ctl_mail.proofs.Inboxes.{inbox-ascends, inbox-has, one-of-ascending}
 

@@ -1,5 +1,5 @@
 -- What an act makes of the mail as it is kept is what it makes of the abstract mail.
-use Rattle.std.proofs.Common.{◌≡◌, ◌≢◌, ◌<◌, ◌≤◌, ◌-◌, ◌+◌, ℕ, Option, None, Some, List, [], ◌∷◌, refl, sym, subst, ap, ◌∙◌, Contains, IfSome, IfNone, All, true, length, get_or, replicate, arith, map}
+use Rattle.std.proofs.Common.{◌≡◌, ◌≢◌, ℕ, Option, None, Some, List, [], refl, sym, subst, ap, ◌∙◌, Contains, IfSome, IfNone, All, true, get_or, replicate}
 use Rattle.std.proofs.lemmas.List.Elements.{All-contains, Contains-get_or}
 use Rattle.std.specs.List.Sorted.{IsStrictlyIncreasing}
 use Rattle.std.specs.FinMap.{empty}
@@ -27,15 +27,14 @@ use Rattle.ctl_face.proofs.Fronts.{front_first}
 use Rattle.ctl_face.proofs.Held.{nothing-there}
 use Rattle.ctl_face.proofs.Inboxes.{Before}
 use Rattle.ctl_face.proofs.OneKey.{without_message-contains}
-use Rattle.ctl_face.proofs.Marks.{IsStrictlyIncreasing-marks_from, IsStrictlyIncreasing-with_mark}
-use Rattle.ctl_mail.specs.declared.act.MailAct.TheVariants.{Mark, Pop, Recycle}
+use Rattle.ctl_mail.specs.declared.act.MailAct.TheVariants.{Pop, Recycle}
 use Rattle.ctl_mail.specs.declared.store.MailStore.{MailStore}
 use Rattle.ctl_mail.specs.Inbox.{Has, Holds, IsAt, inbox_of}
 use Rattle.ctl_mail.specs.Least.{HasArrived, IsFree, IsLeast}
 use Rattle.ctl_mail.specs.MailOf.{IsMail, IsNewIn, mail_of}
 use Rattle.ctl_mail.specs.Queues.{Queues, Replaces, queue_of}
 use Rattle.ctl_mail.specs.Told.{after_act, mail_at_front}
-use Rattle.ctl_mail.proofs.Inboxes.{becomes, inbox-ascends, inbox-has}
+use Rattle.ctl_mail.proofs.Inboxes.{becomes, inbox-has}
 use Rattle.ctl_mail.proofs.Leasts.{front-least, front-of-queue, queue-least}
 use Rattle.ctl_mail.proofs.Pops.{popped, replaced-same, same-held}
 use Rattle.ctl_mail.proofs.Changed.{readded}

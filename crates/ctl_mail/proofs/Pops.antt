@@ -1,23 +1,19 @@
 -- The front of a buffer goes out of its queue, and so out of the inbox.
-use Rattle.std.proofs.Common.{◌≡◌, ◌≢◌, ◌⊎◌, ◌≤◌, ◌<◌, ◌↔◌, ℕ, Bool, true, false, not, Option, None, Some, Result, Ok, Err, List, refl, sym, subst, ap, ◌∙◌, inl, inr, ⊎_elim, Contains, IfSome, IfNone, filter, arith}
+use Rattle.std.proofs.Common.{◌≡◌, ◌≢◌, ℕ, Bool, true, false, not, Option, None, Some, List, refl, sym, subst, ap, ◌∙◌, ⊎_elim, Contains}
 use Rattle.ruby_value.specs.declared.message.Message.{Message}
 use Rattle.ruby_value.specs.declared.message.MsgNo.{MsgNo}
 use Rattle.ruby_value.specs.NumberBefore.{same_number}
 use Rattle.stall_map.specs.declared.stalled.Stalled.{Stalled}
 use Rattle.msg_buffer.specs.Queue as queue
-use Rattle.ctl_face.specs.Ctl.{InboxMessage, Mail}
-use Rattle.ctl_face.specs.Front as face
+use Rattle.ctl_face.specs.Ctl.{InboxMessage}
 use Rattle.ctl_face.specs.Inbox.{without_message}
 use Rattle.ctl_face.specs.Mailing.{incoming_message}
-use Rattle.ctl_face.specs.Pop.{mail_without, popped_mail}
 use Rattle.ctl_face.proofs.Held.{from-filter, in-filter}
 use Rattle.ctl_face.proofs.Inboxes.{ascend-without}
 use Rattle.ctl_face.proofs.OneKey.{without_message-contains}
 use Rattle.ctl_mail.specs.Inbox.{Has, Holds, IsAt, inbox_of}
-use Rattle.ctl_mail.specs.Least.{HasArrived, IsLeast}
 use Rattle.ctl_mail.specs.Queues.{Queues, Replaces, queue_of}
 use Rattle.ctl_mail.proofs.Inboxes.{becomes, differ-by, differ-test, inbox-ascends, inbox-has, nat-or-not}
-use Rattle.ctl_mail.proofs.Leasts.{front-of-queue, queue-least}
 
 -- a message list without a number
 pub without-from : (xs : List Message) (number : MsgNo) (m : Message) → Contains (queue.without_message xs number) m → Contains xs m × (m.number ≢ number)

@@ -1,6 +1,6 @@
 -- The changes that a scan makes to mail, as plain data: the cycle, the acts on mail in their order, and what they did to
 -- messages. The changed mail is the mail after these acts, one after another.
-use Rattle.std.specs.Prelude.{◌≤◌, ◌⊎◌, ◌≡◌, ◌↔◌, ℕ, Bool, List, [], Result, Ok, Err, Contains}
+use Rattle.std.specs.Prelude.{◌≤◌, ◌⊎◌, ◌↔◌, ℕ, List, [], Result, Ok, Err, Contains}
 use Rattle.std.specs.List.{fold}
 use Rattle.ruby_value.specs.declared.fault.Fault.{Fault}
 use Rattle.ruby_value.specs.declared.message.Message.{Message}

@@ -1,4 +1,4 @@
-use Rattle.std.proofs.Common.{◌≡◌, ◌<◌, ◌≤◌, ◌+◌, ◌∙◌, ℕ, List, Option, Result, Ok, Err, None, Some, IfNone, IfSome, IfOk, OnErr, OnOk, slice_get, slice_set, refl, sym, subst, ap, arith}
+use Rattle.std.proofs.Common.{◌≡◌, ◌<◌, ◌≤◌, ◌+◌, ◌∙◌, ℕ, List, Result, Ok, Err, None, Some, IfNone, IfSome, IfOk, OnErr, slice_get, slice_set, refl, sym, ap, arith}
 use Rattle.std.specs.Result.{result_ok}
 use Rattle.ruby_value.specs.declared.message.Message.{Message}
 use Rattle.ruby_value.specs.Roomy.{Roomy}
