@@ -1,0 +1,162 @@
+-- Going along a queue past the messages that are gone leads to the first that is left, which is the front of the changed mail.
+use Rattle.std.proofs.Common.{nat_le, ◌≡◌, ◌⊎◌, ◌≤◌, ◌<◌, ◌+◌, ◌&&◌, ℕ, Bool, true, false, not, Option, None, Some, List, [], ◌∷◌, refl, sym, subst, ⊎_elim, cond, length, Contains, IsTrue, filter, arith}
+use Rattle.std.proofs.lemmas.Bool.Decides.{nat_tests}
+use Rattle.ruby_value.specs.declared.message.Message.{Message}
+use Rattle.ruby_value.specs.declared.message.MsgNo.{MsgNo}
+use Rattle.ruby_value.specs.Front as general
+use Rattle.ruby_value.proofs.Contained.{Contains-cons_cases}
+use Rattle.ruby_value.proofs.Fronts.{front-is}
+use Rattle.msg_buffer.specs.Queue as queue
+use Rattle.msg_buffer.specs.Queue.{ComesBefore, is_after, next_after}
+use Rattle.ctl_face.specs.Acts.{Acts}
+use Rattle.ctl_face.specs.Ctl.{Mail}
+use Rattle.ctl_face.specs.Front as face
+use Rattle.ctl_face.proofs.Held.{nothing-there}
+use Rattle.ctl_mail.specs.Least.{HasArrived, IsFirst, IsFree, IsLeast}
+use Rattle.ctl_mail.specs.Queues.{Queues, queue_of}
+use Rattle.ctl_mail.specs.Told.{IsGone, IsLeft, Reflects}
+use Rattle.ctl_mail.proofs.Leasts.{front-only, least-as, queue-least}
+
+module _ (messages : List Message) (cycle : ℕ) (acts : Acts) where
+  abbrev pub NoneBefore : Message → Type 0
+  NoneBefore x = (m : Message) → IsLeft messages cycle acts m → ComesBefore m x → ⊥
+
+  -- a place of the queue before which all are gone, or its end
+  abbrev pub Reached : Option Message → Type 0
+  Reached None = (m : Message) → IsLeft messages cycle acts m → ⊥
+  Reached (Some x) = HasArrived messages cycle x × NoneBefore x
+
+  has-arrived : (m : Message) → IsLeft messages cycle acts m → HasArrived messages cycle m
+  has-arrived m left = record { held = left.held; arrived = left.arrived }
+
+  reached-by : (o : Option Message) → IsLeast (HasArrived messages cycle) o → Reached o
+  reached-by None is = λ m left. is m (has-arrived m left)
+  reached-by (Some x) is = (is.one, λ m left. is.none_before m (has-arrived m left))
+
+  pub reached-front : Reached (queue.front messages cycle)
+  reached-front = reached-by (queue.front messages cycle) (queue-least messages cycle)
+
+  tied-or-after : (x m : Message) → (ComesBefore m x → ⊥) → ((x.number.sender ≡ m.number.sender) × (x.number.count ≡ m.number.count)) ⊎ (is_after x.arrival x.number m ≡ true)
+  tied-or-after x m not_before = grind (arith, nat_tests, not_before)
+
+  number-is : (a b : MsgNo) → a.sender ≡ b.sender → a.count ≡ b.count → a ≡ b
+  number-is a b s n = λ i. record { sender = s i; count = n i }
+
+  passes : (x m : Message) → IsGone acts x.number → NoneBefore x → IsLeft messages cycle acts m → IsTrue (queue.is_ready cycle m && is_after x.arrival x.number m)
+  passes x m gone none left =
+      let arrived : m.arrival ≤ cycle = left.arrived in
+      ⊎_elim
+      (λ same. absurd (left.not_gone (subst (IsGone acts) (number-is x.number m.number same.0 same.1) gone)))
+      (λ (after : is_after x.arrival x.number m ≡ true). both m.arrival (is_after x.arrival x.number m) arrived after)
+      (tied-or-after x m (none m left))
+    where
+      both : (a : ℕ) (b : Bool) → a ≤ cycle → b ≡ true → IsTrue (nat_le a cycle && b)
+      both a b le is = grind (arith, nat_tests)
+
+  parted : (x y : Message) → IsTrue (queue.is_ready cycle y && is_after x.arrival x.number y) → (y.arrival ≤ cycle) × (is_after x.arrival x.number y ≡ true)
+  parted x y is = split (is_after x.arrival x.number y) is
+    where
+      split : (b : Bool) → IsTrue (nat_le y.arrival cycle && b) → (y.arrival ≤ cycle) × (b ≡ true)
+      split b is = grind (arith, nat_tests)
+
+  abbrev Tests : Message → Message → Bool
+  Tests x m = queue.is_ready cycle m && is_after x.arrival x.number m
+
+  next-by : (x : Message) (o : Option Message) → IsGone acts x.number → NoneBefore x
+      → general.IsFront (Tests x) (λ (m : Message). m.arrival) (λ (m : Message). m.number) messages o → Reached o
+  next-by x None gone none is = λ m left. is m left.held (passes x m gone none left)
+  next-by x (Some y) gone none is = (
+    record { held = is.held; arrived = (parted x y is.ready).0 },
+    λ m left before. is.first m left.held (passes x m gone none left) before,
+  )
+
+  next-is : (x : Message) → general.IsFront (Tests x) (λ (m : Message). m.arrival) (λ (m : Message). m.number) messages (next_after messages cycle x.arrival x.number)
+  next-is x = front-is (Tests x) (λ (m : Message). m.arrival) (λ (m : Message). m.number) messages
+
+  pub reached-next : (x : Message) → IsGone acts x.number → Reached (Some x) → Reached (next_after messages cycle x.arrival x.number)
+  reached-next x gone here = next-by x (next_after messages cycle x.arrival x.number) gone here.1 (next-is x)
+
+  pub reached-left : (x : Message) → (IsGone acts x.number → ⊥) → Reached (Some x) → IsFirst (IsLeft messages cycle acts) x
+  reached-left x stays here = record { one = record { held = here.0.held; arrived = here.0.arrived; not_gone = stays }; none_before = here.1 }
+
+-- how many come after a place
+module _ (messages : List Message) where
+  abbrev pub steps_from : Option Message → ℕ
+  steps_from None = 0
+  steps_from (Some x) = 1 + length (filter (is_after x.arrival x.number) messages)
+
+  no-longer : (p q : Message → Bool) → ((m : Message) → q m ≡ true → p m ≡ true) → (xs : List Message) → length (filter q xs) ≤ length (filter p xs)
+  no-longer p q weaker [] = omega arith
+  no-longer p q weaker (x ∷ xs) = by (p x) (q x) (weaker x) (no-longer p q weaker xs)
+    where
+      by : (a b : Bool) → (b ≡ true → a ≡ true) → length (filter q xs) ≤ length (filter p xs) → length (cond b (x ∷ filter q xs) (filter q xs)) ≤ length (cond a (x ∷ filter p xs) (filter p xs))
+      by true true is rest = omega arith
+      by true false is rest = omega arith
+      by false true is rest = absurd (cc (is refl))
+      by false false is rest = rest
+
+  shorter : (p q : Message → Bool) → ((m : Message) → q m ≡ true → p m ≡ true) → (y : Message) → p y ≡ true → q y ≡ false → (xs : List Message) → Contains xs y → length (filter q xs) < length (filter p xs)
+  shorter p q weaker y is not [] has = absurd (nothing-there y has)
+  shorter p q weaker y is not (x ∷ xs) has =
+      ⊎_elim
+      (λ (same : x ≡ y). here (p x) (q x) (subst (λ z. p z ≡ true) (sym same) is) (subst (λ z. q z ≡ false) (sym same) not) (no-longer p q weaker xs))
+      (λ there. later (p x) (q x) (weaker x) (shorter p q weaker y is not xs there))
+      (Contains-cons_cases x y xs has)
+    where
+      here : (a b : Bool) → a ≡ true → b ≡ false → length (filter q xs) ≤ length (filter p xs) → length (cond b (x ∷ filter q xs) (filter q xs)) < length (cond a (x ∷ filter p xs) (filter p xs))
+      here true false is not rest = omega arith
+      here true true is not rest = absurd (cc not)
+      here false b is not rest = absurd (cc is)
+
+      later : (a b : Bool) → (b ≡ true → a ≡ true) → length (filter q xs) < length (filter p xs) → length (cond b (x ∷ filter q xs) (filter q xs)) < length (cond a (x ∷ filter p xs) (filter p xs))
+      later true true is rest = omega arith
+      later true false is rest = omega arith
+      later false true is rest = absurd (cc (is refl))
+      later false false is rest = rest
+
+  after-far : (x y m : Message) → is_after x.arrival x.number y ≡ true → is_after y.arrival y.number m ≡ true → is_after x.arrival x.number m ≡ true
+  after-far x y m first second = grind (arith, nat_tests, first, second)
+
+  not-itself : (y : Message) → is_after y.arrival y.number y ≡ false
+  not-itself y = grind (arith, nat_tests)
+
+  falls-by : (cycle : ℕ) (x : Message) (o : Option Message)
+      → general.IsFront (λ m. queue.is_ready cycle m && is_after x.arrival x.number m) (λ (m : Message). m.arrival) (λ (m : Message). m.number) messages o
+      → steps_from o < steps_from (Some x)
+  falls-by cycle x None is = omega arith
+  falls-by cycle x (Some y) is =
+      let after : is_after x.arrival x.number y ≡ true = second (queue.is_ready cycle y) (is_after x.arrival x.number y) is.ready in
+      let short : length (filter (is_after y.arrival y.number) messages) < length (filter (is_after x.arrival x.number) messages) =
+      shorter (is_after x.arrival x.number) (is_after y.arrival y.number) (λ m. after-far x y m after) y after (not-itself y) messages is.held in
+      omega arith
+    where
+      second : (a b : Bool) → IsTrue (a && b) → b ≡ true
+      second true b is = is
+      second false b is = absurd (cc is)
+
+  pub falls : (cycle : ℕ) (x : Message) → steps_from (next_after messages cycle x.arrival x.number) < steps_from (Some x)
+  falls cycle x =
+      falls-by cycle x (next_after messages cycle x.arrival x.number)
+      (front-is (λ m. queue.is_ready cycle m && is_after x.arrival x.number m) (λ (m : Message). m.arrival) (λ (m : Message). m.number) messages)
+
+-- what is left in a buffer's queue is what is free in the changed inbox
+module _ (queues : Queues) (cycle : ℕ) (acts : Acts) (mail : Mail) (own : (buffer : ℕ) (m : Message) → Contains (queue_of queues buffer) m → m.buffer ≡ buffer) (reflects : Reflects queues cycle acts mail.inbox) where
+  left-free : (buffer : ℕ) (m : Message) → IsLeft (queue_of queues buffer) cycle acts m → IsFree mail.inbox buffer cycle m
+  left-free buffer m left =
+      let is : m.buffer ≡ buffer = own buffer m left.held in
+      record {
+        held = (reflects.free m left.arrived).1 (subst (λ (b : ℕ). IsLeft (queue_of queues b) cycle acts m) (sym is) left);
+        in_buffer = is;
+        arrived = left.arrived;
+      }
+
+  free-left : (buffer : ℕ) (m : Message) → IsFree mail.inbox buffer cycle m → IsLeft (queue_of queues buffer) cycle acts m
+  free-left buffer m free = subst (λ (b : ℕ). IsLeft (queue_of queues b) cycle acts m) free.in_buffer ((reflects.free m free.arrived).0 free.held)
+
+  pub front-left : (buffer : ℕ) (o : Option Message) → IsLeast (IsLeft (queue_of queues buffer) cycle acts) o → face.front mail buffer cycle ≡ o
+  front-left buffer o is =
+      front-only mail buffer cycle o reflects.ascends
+      (least-as (IsLeft (queue_of queues buffer) cycle acts) (IsFree mail.inbox buffer cycle) (left-free buffer) (free-left buffer) o is)
+
+pub none-left : (cycle : ℕ) (acts : Acts) (m : Message) → IsLeft [] cycle acts m → ⊥
+none-left cycle acts m left = nothing-there m left.held

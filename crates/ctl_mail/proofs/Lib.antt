@@ -1,0 +1,13 @@
+mod Acts
+mod Ascending
+mod Begun
+mod Changed
+mod Edits
+mod Fronts
+mod Inboxes
+mod Latencies
+mod Leasts
+pub mod Locals
+mod Makes
+mod Pops
+mod Puts

@@ -1,0 +1,30 @@
+-- The acts of a local on messages are the acts on its mail.
+use Rattle.std.proofs.Common.{◌≡◌, ◌∷◌, ◌++◌, [], ℕ, ℤ, Result, Ok, Err, refl}
+use Rattle.ruby_value.specs.declared.fault.Fault.{Fault}
+use Rattle.ruby_value.specs.declared.message.MsgNo.{MsgNo}
+use Rattle.ctl_face.specs.Acts.{Acts}
+use Rattle.ctl_face.specs.Again.{again}
+use Rattle.ctl_face.specs.AtFront.{AtFront, after_front}
+use Rattle.ctl_face.specs.LocalView.{LocalView}
+use Rattle.ctl_face.specs.Pop.{pop, popped_mail}
+use Rattle.ctl_face.specs.Recycle.{recycle, recycled_mail}
+use Rattle.ctl_mail.specs.MailView.{MailView, mail_view, view_after_front, view_again, view_popped, view_recycled, with_mail_view}
+
+-- the local after it, or the fault
+abbrev pub in_local : LocalView → Result MailView Fault → Result LocalView Fault
+in_local v (Ok w) = Ok (with_mail_view v w)
+in_local v (Err fault) = Err fault
+
+front-is : (v : LocalView) (told : MsgNo → Acts) (r : Result AtFront Fault) → after_front v told r ≡ in_local v (view_after_front told r)
+front-is v told (Ok a) = refl
+front-is v told (Err fault) = refl
+
+pub pop-is : (v : LocalView) (buffer : ℕ) → pop v buffer ≡ in_local v (view_popped (mail_view v) buffer v.now)
+pop-is v buffer = front-is v (λ (number : MsgNo). record v.acts { consumed = v.acts.consumed ++ number ∷ [] }) (popped_mail v.ctl.mail buffer v.now)
+
+pub again-is : (v : LocalView) → again v ≡ with_mail_view v (view_again (mail_view v) v.now)
+again-is v = refl
+
+pub recycle-is : (v : LocalView) (buffer : ℕ) (latency : ℤ) → recycle v buffer latency ≡ in_local v (view_recycled (mail_view v) buffer latency v.now)
+recycle-is v buffer latency =
+    front-is v (λ (number : MsgNo). record v.acts { recycled = v.acts.recycled ++ number ∷ [] }) (recycled_mail v.ctl.mail buffer latency v.now)

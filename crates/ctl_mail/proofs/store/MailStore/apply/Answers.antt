@@ -1,0 +1,32 @@
+use Rattle.std.proofs.Common.{◌≡◌, ◌≤◌, ◌∷◌, List, length, sym, ap, ◌∙◌, arith}
+use Rattle.ctl_face.specs.Ctl.{Mail}
+use Rattle.ctl_mail.specs.declared.act.MailAct.{MailAct}
+use Rattle.ctl_mail.specs.MailOf.{mail_of}
+use Rattle.ctl_mail.specs.Told.{after_acts}
+use Rattle.ctl_mail.proofs.Acts.{after-first, after-none, none-there}
+use Rattle.ctl_mail.proofs.Edits.{past-end}
+use Rattle.ctl_mail.proofs.store.MailStore.apply.Goals as goal
+
+pub loop-act-preserved : goal.loop-act-preserved
+loop-act-preserved c =
+    let cycle = c.loop-act.changes.cycle in
+    let mail = mail_of c.loop-act.self in
+    let rest = c.pop_front.new.self.items in
+    let items : c.loop-act.changes.log.items ≡ c.in-Some.act ∷ rest = c.in-Some.ensures.items in
+    record {
+      mail = c.make.ensures.mail;
+      buffers = c.make.ensures.buffers ∙ c.loop-act.invariant.buffers;
+      leads =
+          ap (λ (m : Mail). after_acts cycle m rest) c.make.ensures.after
+          ∙ (sym (after-first cycle mail c.in-Some.act rest) ∙ (ap (λ (log : List MailAct). after_acts cycle mail log) (sym items) ∙ c.loop-act.invariant.leads));
+      room = omega (arith, c.make.ensures.room, c.loop-act.invariant.room, ap length items);
+      cycle = c.loop-act.invariant.cycle;
+      acts = c.loop-act.invariant.acts;
+    }
+
+pub returns-clause-after : goal.returns-clause-after
+returns-clause-after c =
+    let cycle = c.loop-act.changes.cycle in
+    let mail = mail_of c.loop-act.self in
+    let none : length c.loop-act.changes.log.items ≤ 0 = omega (arith, past-end _ 0 c.in_default.ensures.variant.1) in
+    sym (after-none cycle mail) ∙ (ap (λ (log : List MailAct). after_acts cycle mail log) (sym (none-there c.loop-act.changes.log.items none)) ∙ c.loop-act.invariant.leads)

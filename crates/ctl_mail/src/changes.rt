@@ -1,0 +1,112 @@
+ghost use Rattle.std.specs.Prelude.{◌≡◌, ◌++◌, [], ◌∷◌, ◌⊎◌, ◌↔◌, true, OnOk, OnErr, Contains, IsTrue};
+ghost use Rattle.ruby_value.specs.declared.message.MsgNo.{MsgNo as MsgNoRecord};
+ghost use Rattle.ctl_face.specs.ScanView.{no_acts};
+ghost use Rattle.ctl_mail.specs.declared.act.MailAct.TheVariants as act;
+ghost use Rattle.ctl_mail.specs.MailOf.{IsMail};
+ghost use Rattle.ctl_mail.specs.Told.{AreOf, IsGone, told_by};
+
+use crate::MailStore;
+use crate::act::MailAct;
+use ruby_value::{MsgNo, NoMemory};
+use std::alloc::Global;
+use std::collections::VecDeque;
+
+/// What a scan changes in the mail of a controller, kept beside the mail until it is made or dropped.
+#[derive(Drop)]
+pub struct MailChanges {
+    pub(crate) cycle: u64,
+    pub(crate) log: VecDeque<MailAct>,
+    pub(crate) consumed: Vec<MsgNo>,
+    pub(crate) stalled: Vec<MsgNo>,
+    pub(crate) woken: Vec<MsgNo>,
+    pub(crate) recycled: Vec<MsgNo>,
+    pub(crate) again: bool,
+}
+
+impl MailChanges {
+    /// No changes yet of this mail, of a scan in this cycle. It takes no memory.
+    pub fn begin(alloc: Global, store: &MailStore, cycle: u64) -> MailChanges
+        requires { IsMail store.now }
+        ensures none { told_by result ≡ record { cycle = cycle; log = []; acts = no_acts } }
+        ensures changes { AreOf store.now (told_by result) }
+    {
+        let _store = store;
+        MailChanges::new(alloc, cycle)
+    }
+
+    // No changes yet, of a scan in this cycle.
+    fn new(alloc: Global, cycle: u64) -> MailChanges
+        ensures { told_by result ≡ record { cycle = cycle; log = []; acts = no_acts } }
+    {
+        MailChanges {
+            cycle,
+            log: VecDeque::new(alloc),
+            consumed: Vec::new(alloc),
+            stalled: Vec::new(alloc),
+            woken: Vec::new(alloc),
+            recycled: Vec::new(alloc),
+            again: false,
+        }
+    }
+
+    // Whether the message of this number is no longer ready since the scan began.
+    pub(crate) fn is_gone(&self, number: MsgNo) -> bool
+        ensures { IsTrue result ↔ IsGone (told_by self.now).acts number }
+    {
+        contains(&self.consumed, number)
+            || contains(&self.stalled, number)
+            || contains(&self.recycled, number)
+    }
+
+    // Keeps that the front of a buffer, of this number, is consumed.
+    pub(crate) fn keep_pop(&mut self, buffer: u16, number: MsgNo) -> Result<(), NoMemory>
+        ensures ok { OnOk result (let old = told_by self.old in told_by self.new ≡ record old {
+          log = old.log ++ act.Pop buffer ∷ [];
+          acts = record old.acts { consumed = old.acts.consumed ++ number ∷ [] };
+        }) }
+        ensures err { OnErr result (told_by self.new ≡ told_by self.old) }
+    {
+        self.consumed.reserve(1)?;
+        self.log.push_back(MailAct::Pop(buffer))?;
+        self.consumed.push_reserved(number);
+        Ok(())
+    }
+
+    // Keeps that the front of a buffer, of this number, arrives again.
+    pub(crate) fn keep_recycle(
+        &mut self,
+        buffer: u16,
+        arrival: u64,
+        number: MsgNo,
+    ) -> Result<(), NoMemory>
+        ensures ok { OnOk result (let old = told_by self.old in told_by self.new ≡ record old {
+          log = old.log ++ act.Recycle buffer arrival ∷ [];
+          acts = record old.acts { recycled = old.acts.recycled ++ number ∷ [] };
+        }) }
+        ensures err { OnErr result (told_by self.new ≡ told_by self.old) }
+    {
+        self.recycled.reserve(1)?;
+        self.log.push_back(MailAct::Recycle(buffer, arrival))?;
+        self.recycled.push_reserved(number);
+        Ok(())
+    }
+
+    // Keeps that the controller must wake in this cycle, and that it was told to wake again.
+    pub(crate) fn keep_again(&mut self, cycle: u64) -> Result<(), NoMemory>
+        ensures ok { OnOk result (let old = told_by self.old in told_by self.new ≡ record old {
+          log = old.log ++ act.Mark cycle ∷ [];
+          acts = record old.acts { again = true };
+        }) }
+        ensures err { OnErr result (told_by self.new ≡ told_by self.old) }
+    {
+        self.log.push_back(MailAct::Mark(cycle))?;
+        self.again = true;
+        Ok(())
+    }
+}
+
+fn contains(numbers: &[MsgNo], number: MsgNo) -> bool
+    ensures { IsTrue result ↔ Contains numbers.now number }
+{
+    numbers.iter().any(|n| *n == number)
+}

@@ -1,0 +1,20 @@
+//! The mail of a controller as it is kept, and what a scan changes in it: messages in buffers and stalled ones, the cycles at
+//! which the controller must wake, and what its sends go by. A scan reads through to the mail and keeps its changes beside it,
+//! which are dropped or made.
+#![tactic(auto)]
+
+mod act;
+mod changes;
+mod lasts;
+mod make;
+mod marks;
+mod queues;
+mod reads;
+mod scan;
+mod store;
+
+pub use act::MailAct;
+pub use changes::MailChanges;
+pub use reads::peek;
+pub use scan::{again, pop, recycle};
+pub use store::MailStore;
