@@ -1,5 +1,5 @@
 -- An act that a change stands for: what the act has for the tables is what the change makes of them, and the log replays with it.
-use Rattle.std.proofs.Common.{◌≡◌, ◌<◌, ℕ, List, [], ◌∷◌, length, set, Option, None, Some, is_some, is_ok, IfSome, IsSome, IsSomeAnd, Result, Ok, Err, IsOk, IfErr, OnOk, OnErr, slice_get, refl, sym, ap, subst, ◌∙◌}
+use Rattle.std.proofs.Common.{◌≡◌, ◌<◌, ℕ, List, ◌∷◌, length, set, Option, None, Some, is_ok, IfSome, IsSome, IsSomeAnd, Result, Ok, Err, IfErr, OnOk, OnErr, slice_get, refl, sym, ap, subst, ◌∙◌}
 use Rattle.std.specs.Option.{option_and_then}
 use Rattle.ruby_value.specs.declared.fault.Fault.{Fault}
 use Rattle.ruby_value.specs.declared.fault.Fault.TheVariants.{Reference}
@@ -14,7 +14,7 @@ use Rattle.ctl_tables.specs.declared.change.TableChange.{TableChange}
 use Rattle.ctl_tables.specs.After.{after_changes, or_same, with_change, with_change_in, CanChange, CanEdit, HasFieldOf, Replays}
 use Rattle.ctl_tables.specs.Change.{edit_in, kept_in}
 use Rattle.ctl_tables.specs.Logged.{DoesIn}
-use Rattle.ctl_tables.specs.TableActs.{after_change_in, change_if_there_in, changed_in, fields_at, set_in}
+use Rattle.ctl_tables.specs.TableActs.{after_change_in, change_if_there_in, changed_in, set_in}
 use Rattle.ctl_tables.specs.Ways.{IsUnwritten}
 use Rattle.ctl_tables.proofs.Stays.{default_in, fields_are, kept_or}
 

@@ -1,17 +1,16 @@
 -- What a change of a line leaves of the fields that a table keeps, of that line and of each other.
-use Rattle.std.proofs.Common.{◌≡◌, ℕ, Bool, true, false, cond, eqb, List, [], ◌∷◌, ◌++◌, set, Option, None, Some, is_some, Result, Ok, Err, refl, sym, ap, ◌∙◌, not, inl, inr}
+use Rattle.std.proofs.Common.{◌≡◌, ℕ, true, false, cond, eqb, List, [], ◌∷◌, ◌++◌, set, Option, None, Some, is_some, refl, sym, ap, ◌∙◌, not, inl, inr}
 use mathlib.Core.Bool.{false≢true}
 use Rattle.std.proofs.lemmas.Bool.{cases_eq, cond_both, eq-eqb, eqb-true, ne_eqb}
 use Rattle.std.proofs.lemmas.Option.{cond_some}
 use Rattle.std.specs.Cmp.{nat_cmp_total, unsigned_tied}
 use Rattle.std.specs.FinMap as map
-use Rattle.std.specs.Ordering.{nat_cmp, eq_by_cmp}
+use Rattle.std.specs.Ordering.{nat_cmp}
 use Rattle.std.specs.Option.{option_map}
-use Rattle.ruby_value.specs.declared.fault.Fault.{Fault}
 use Rattle.ruby_value.specs.declared.fault.Fault.TheVariants.{Absent, Full, Present, Reference}
 use Rattle.ruby_value.specs.declared.value.Value.{Value}
 use Rattle.ruby_value.specs.Available.{available}
-use Rattle.ruby_value.specs.Cache.{Cache, Line}
+use Rattle.ruby_value.specs.Cache.{Cache}
 use Rattle.ruby_value.specs.FieldsOf.{fields_of}
 use Rattle.ruby_value.specs.MadeRecent.{made_recent}
 use Rattle.ruby_value.specs.SetOf.{set_of}
@@ -19,7 +18,6 @@ use Rattle.ruby_value.specs.WithFields.{with_fields}
 use Rattle.ruby_value.specs.WithSet.{with_set}
 use Rattle.ruby_value.specs.WithoutLine.{without_line}
 use Rattle.ruby_value.proofs.CacheSets.{set_lines}
-use Rattle.ctl_face.specs.FieldsIn.{fields_in}
 use Rattle.ctl_face.specs.Set.{table_with_field}
 use Rattle.ctl_face.specs.Table.{Table, CacheTable, DirectoryTable, TbeTable, ParameterTable}
 use Rattle.ctl_face.proofs.Cases.{Good, good_ok, good_err, good_cond}
@@ -51,13 +49,13 @@ none_from (Some x) wrong = absurd (false≢true (sym wrong))
 at_other : (at line : ℕ) (w other old new : Option (List Value)) → AtLine at line w old new → (line ≡ at → w ≡ other) → AtLine at line other old new
 at_other at line w other old new is same = elim (cases_eq line at) [
   | inl here ↦
-    let a = eq-eqb line at here in
-    let now : new ≡ w = simp a at is in
-    simp a (now ∙ same here)
+      let a = eq-eqb line at here in
+      let now : new ≡ w = simp a at is in
+      simp a (now ∙ same here)
   | inr apart ↦
-    let a = ne_eqb line at apart in
-    let now : new ≡ old = simp a at is in
-    simp a now
+      let a = ne_eqb line at apart in
+      let now : new ≡ old = simp a at is in
+      simp a now
 ]
 
 module _ (at line : ℕ) where
@@ -84,8 +82,8 @@ module _ (at line : ℕ) where
         let new = with_fields (set_of cache at) at (set fs field value) in
         let one = written_at (set_of cache at) at line (set fs field value) in
         let mine : line ≡ at → option_map (λ _. set fs field value) old ≡ W (fields_of (set_of cache line) line) =
-            λ here. ap (λ l. option_map (λ _. set fs field value) (fields_of (set_of cache at) l)) here ∙ ap (option_map (λ _. set fs field value)) is
-            ∙ sym (ap (λ l. W (fields_of (set_of cache l) l)) here ∙ ap W is) in
+        λ here. ap (λ l. option_map (λ _. set fs field value) (fields_of (set_of cache at) l)) here ∙ ap (option_map (λ _. set fs field value)) is
+        ∙ sym (ap (λ l. W (fields_of (set_of cache l) l)) here ∙ ap W is) in
         edited_at cache at ok new line (W (fields_of (set_of cache line) line))
         (at_other at line (option_map (λ _. set fs field value) old) (W (fields_of (set_of cache line) line)) old (fields_of new line) one mine)
 
@@ -95,13 +93,13 @@ module _ (at line : ℕ) where
         let zero_at : at ≡ 0 = eqb-true at 0 parts.0 in
         elim (cases_eq line 0) [
           | inl here ↦
-            let a = eq-eqb line 0 here in
-            let b : eqb line at ≡ true = eq-eqb line at (here ∙ sym zero_at) in
-            simp (a, b) (ap (λ vs. Some (set vs field value)) (sym parts.1))
+              let a = eq-eqb line 0 here in
+              let b : eqb line at ≡ true = eq-eqb line at (here ∙ sym zero_at) in
+              simp (a, b) (ap (λ vs. Some (set vs field value)) (sym parts.1))
           | inr apart ↦
-            let a = ne_eqb line 0 apart in
-            let b : eqb line at ≡ false = ne_eqb line at (λ e. apart (e ∙ zero_at)) in
-            simp (a, b)
+              let a = ne_eqb line 0 apart in
+              let b : eqb line at ≡ false = ne_eqb line at (λ e. apart (e ∙ zero_at)) in
+              simp (a, b)
         ]
 
     by_write : (t : Table) → IsTable t → (o : Option (List Value)) → kept_in t at ≡ o → Good (Keeps (edit.Write field value) at line t) (table_with_field t at field value o)

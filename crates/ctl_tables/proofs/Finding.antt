@@ -1,8 +1,6 @@
 -- The way to a line, through a log.
-use Rattle.std.proofs.Common.{◌≡◌, ℕ, Bool, true, false, List, Option, None, Some, is_some, IfSome, IsSome, IsSomeAnd, map, reverse, slice_get, refl, sym, ap, subst, ◌∙◌}
+use Rattle.std.proofs.Common.{◌≡◌, ℕ, true, false, List, Option, None, Some, is_some, IfSome, IsSome, IsSomeAnd, map, slice_get, refl, sym, ap, ◌∙◌}
 use mathlib.Core.Bool.{false≢true}
-use Rattle.std.specs.List.{find}
-use Rattle.std.specs.FinMap as finmap
 use Rattle.std.specs.Option.{option_and_then, option_map}
 use Rattle.std.proofs.lemmas.Option.{slice_get-map}
 use Rattle.ruby_value.specs.declared.value.Value.{Value}
@@ -16,11 +14,9 @@ use Rattle.ctl_tables.specs.After.{after_changes, IsTable, Replays}
 use Rattle.ctl_tables.specs.Change.{kept_in}
 use Rattle.ctl_tables.specs.Container.{table_of}
 use Rattle.ctl_tables.specs.TableActs.{fields_at}
-use Rattle.ctl_tables.specs.Told.{tells, told_there}
 use Rattle.ctl_tables.specs.Ways.{IsUnwritten, IsWay, IsWayIn}
-use Rattle.ctl_tables.specs.Frames.{Frame, DirectoryFrame, frame_of}
+use Rattle.ctl_tables.specs.Frames.{DirectoryFrame, frame_of}
 use Rattle.ctl_tables.proofs.Steps.{frames_after, kept_at}
-use Rattle.ctl_tables.proofs.Readings.{kept_is_told, kept_untold, line_told, line_untold}
 
 none_is : {X : Type 0} (o : Option X) → is_some o ≡ false → o ≡ None
 none_is None is = refl
@@ -70,6 +66,7 @@ module _ (log : List TableChange) (ts : List Table) (n line : ℕ) (replays : Re
         directory_only (DirectoryTable directory) initial first same is_first none = (none, (let e : directory.initial ≡ initial = cc in e) ∙ is_first)
         directory_only (TbeTable tbes) initial first same is_first none = absurd (cc)
         directory_only (ParameterTable values) initial first same is_first none = absurd (cc)
+
         unwritten_by : (v : Table) (u : Table) → frame_of u ≡ frame_of v → (first : List Value) → IsUnwritten v line first → kept_in u line ≡ kept_in v line → IsUnwritten u line first
         unwritten_by (CacheTable cache) u same first unwritten kept = absurd unwritten
         unwritten_by (DirectoryTable directory) u same first unwritten kept = directory_only u directory.initial first same unwritten.1 (kept ∙ unwritten.0)

@@ -1,12 +1,9 @@
 -- A line that is taken out of a table, or used.
-use Rattle.std.proofs.Common.{◌≡◌, ℕ, zero, suc, Bool, true, false, cond, List, [], ◌∷◌, set, Option, None, Some, is_some, IfSome, Result, Ok, Err, slice_get, refl, sym, ap, subst, ◌∙◌}
+use Rattle.std.proofs.Common.{◌≡◌, ℕ, zero, suc, true, false, cond, List, [], ◌∷◌, set, Option, None, Some, is_some, Ok, Err, slice_get, refl, sym, ap, ◌∙◌}
 use Rattle.std.proofs.lemmas.Bool.{true≢false}
 use Rattle.std.specs.FinMap as map
 use Rattle.std.specs.Option.{option_and_then, option_map}
-use Rattle.ruby_value.specs.declared.fault.Fault.{Fault}
 use Rattle.ruby_value.specs.declared.fault.Fault.TheVariants.{Absent}
-use Rattle.ruby_value.specs.declared.value.Value.{Value}
-use Rattle.ruby_value.specs.FieldsOf.{fields_of}
 use Rattle.ruby_value.specs.MadeRecent.{made_recent}
 use Rattle.ruby_value.specs.SetOf.{set_of}
 use Rattle.ruby_value.specs.WithSet.{with_set}

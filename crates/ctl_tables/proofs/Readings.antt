@@ -1,7 +1,7 @@
 -- What a read through a log answers, by the newest change that tells of what is asked for, or else by the tables before the log.
 use Rattle.std.proofs.Common.{◌≡◌, ℕ, Bool, true, false, List, Option, None, Some, is_some, reverse, slice_get, refl, sym, ap, ◌∙◌, subst}
 use Rattle.std.specs.List.{find}
-use Rattle.std.specs.Option.{IfSome, option_and_then, option_map}
+use Rattle.std.specs.Option.{IfSome, option_and_then}
 use Rattle.ruby_value.specs.declared.value.Value.{Value}
 use Rattle.ctl_face.specs.Table.{Table}
 use Rattle.ctl_tables.specs.declared.change.TableChange.{TableChange}

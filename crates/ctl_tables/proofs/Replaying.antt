@@ -1,5 +1,5 @@
 -- Changes that are made in the containers.
-use Rattle.std.proofs.Common.{◌≡◌, ◌≤◌, ◌<◌, ◌+◌, ℕ, zero, suc, List, [], ◌∷◌, ◌++◌, All, length, get_or, map, set, take, Option, None, Some, slice_get, refl, sym, ap, subst, ◌∙◌, arith}
+use Rattle.std.proofs.Common.{◌≡◌, ◌≤◌, ◌<◌, ◌+◌, ℕ, zero, suc, List, [], ◌∷◌, ◌++◌, All, length, get_or, map, set, take, None, Some, slice_get, refl, sym, ap, subst, ◌∙◌, arith}
 use Rattle.std.proofs.lemmas.List.{length-map, map-append, map-set, take_more, take_more_set}
 use Rattle.std.proofs.lemmas.List.Elements.{All-push, All-set}
 use Rattle.std.proofs.lemmas.Option.{slice_get-map, slice_get_read, slice_get_past}
@@ -10,7 +10,7 @@ use Rattle.ctl_face.specs.Table.{Table}
 use Rattle.ctl_tables.specs.declared.change.TableChange.{TableChange}
 use Rattle.ctl_tables.specs.declared.stored.StoredTable.{StoredTable}
 use Rattle.ctl_tables.specs.declared.stored.StoredTable.TheVariants as stored
-use Rattle.ctl_tables.specs.After.{after_changes, or_same, table_after, with_change, with_change_in, Replays}
+use Rattle.ctl_tables.specs.After.{after_changes, or_same, with_change, with_change_in, Replays}
 use Rattle.ctl_tables.specs.Change.{edit_in}
 use Rattle.ctl_tables.specs.Container.{table_of, HasRoom}
 

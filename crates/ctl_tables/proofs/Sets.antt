@@ -13,7 +13,7 @@ use Rattle.ruby_value.specs.SetOf.{set_of}
 use Rattle.ruby_value.specs.WithFields.{with_fields}
 use Rattle.ruby_value.specs.WithSet.{with_set}
 use Rattle.ruby_value.specs.WithoutLine.{without_line}
-use Rattle.ruby_value.proofs.CacheSets.{set_is, set_lines}
+use Rattle.ruby_value.proofs.CacheSets.{set_is}
 
 -- what is under a line, where `w` is under the one that was edited
 abbrev pub AtLine : ℕ → ℕ → Option (List Value) → Option (List Value) → Option (List Value) → Type 0
@@ -27,26 +27,26 @@ written_at [] at line f = same_both (eqb line at)
 written_at (x ∷ rest) at line f = elim (cases_eq x.0 at) [
   | inl here ↦ elim (cases_eq x.0 line) [
     | inl found ↦
-      let a = eq-eqb x.0 at here in
-      let b = eq-eqb x.0 line found in
-      let c : eqb line at ≡ true = eq-eqb line at (sym found ∙ here) in
-      simp (a, b, c)
+        let a = eq-eqb x.0 at here in
+        let b = eq-eqb x.0 line found in
+        let c : eqb line at ≡ true = eq-eqb line at (sym found ∙ here) in
+        simp (a, b, c)
     | inr apart ↦
-      let a = eq-eqb x.0 at here in
-      let b = ne_eqb x.0 line apart in
-      let c : eqb line at ≡ false = ne_eqb line at (λ e. apart (here ∙ sym e)) in
-      simp (a, b, c)
+        let a = eq-eqb x.0 at here in
+        let b = ne_eqb x.0 line apart in
+        let c : eqb line at ≡ false = ne_eqb line at (λ e. apart (here ∙ sym e)) in
+        simp (a, b, c)
   ]
   | inr other ↦ elim (cases_eq x.0 line) [
     | inl found ↦
-      let a = ne_eqb x.0 at other in
-      let b = eq-eqb x.0 line found in
-      let c : eqb line at ≡ false = ne_eqb line at (λ e. other (found ∙ e)) in
-      simp (a, b, c)
+        let a = ne_eqb x.0 at other in
+        let b = eq-eqb x.0 line found in
+        let c : eqb line at ≡ false = ne_eqb line at (λ e. other (found ∙ e)) in
+        simp (a, b, c)
     | inr apart ↦
-      let a = ne_eqb x.0 at other in
-      let b = ne_eqb x.0 line apart in
-      simp (a, b) (written_at rest at line f)
+        let a = ne_eqb x.0 at other in
+        let b = ne_eqb x.0 line apart in
+        simp (a, b) (written_at rest at line f)
   ]
 ]
 
@@ -55,68 +55,68 @@ removed_at sets place [] at line own = same_both (eqb line at)
 removed_at sets place (x ∷ rest) at line own = elim (cases_eq x.0 at) [
   | inl here ↦ elim (cases_eq x.0 line) [
     | inl found ↦
-      let a = eq-eqb x.0 at here in
-      let c : eqb line at ≡ true = eq-eqb line at (sym found ∙ here) in
-      let gone : fields_of rest line ≡ None = ap (fields_of rest) (sym found) ∙ own.1 in
-      simp (a, c) gone
+        let a = eq-eqb x.0 at here in
+        let c : eqb line at ≡ true = eq-eqb line at (sym found ∙ here) in
+        let gone : fields_of rest line ≡ None = ap (fields_of rest) (sym found) ∙ own.1 in
+        simp (a, c) gone
     | inr apart ↦
-      let a = eq-eqb x.0 at here in
-      let b = ne_eqb x.0 line apart in
-      let c : eqb line at ≡ false = ne_eqb line at (λ e. apart (here ∙ sym e)) in
-      simp (a, b, c)
+        let a = eq-eqb x.0 at here in
+        let b = ne_eqb x.0 line apart in
+        let c : eqb line at ≡ false = ne_eqb line at (λ e. apart (here ∙ sym e)) in
+        simp (a, b, c)
   ]
   | inr other ↦ elim (cases_eq x.0 line) [
     | inl found ↦
-      let a = ne_eqb x.0 at other in
-      let b = eq-eqb x.0 line found in
-      let c : eqb line at ≡ false = ne_eqb line at (λ e. other (found ∙ e)) in
-      simp (a, b, c)
+        let a = ne_eqb x.0 at other in
+        let b = eq-eqb x.0 line found in
+        let c : eqb line at ≡ false = ne_eqb line at (λ e. other (found ∙ e)) in
+        simp (a, b, c)
     | inr apart ↦
-      let a = ne_eqb x.0 at other in
-      let b = ne_eqb x.0 line apart in
-      simp (a, b) (removed_at sets place rest at line own.2)
+        let a = ne_eqb x.0 at other in
+        let b = ne_eqb x.0 line apart in
+        simp (a, b) (removed_at sets place rest at line own.2)
   ]
 ]
 
 pub pushed_at : (lines : List Line) (at line : ℕ) (f : List Value) → fields_of lines at ≡ None → AtLine at line (Some f) (fields_of lines line) (fields_of (lines ++ (at, f) ∷ []) line)
 pushed_at [] at line f none = elim (cases_eq at line) [
   | inl same ↦
-    let a = eq-eqb at line same in
-    let b = eq-eqb line at (sym same) in
-    simp (a, b)
+      let a = eq-eqb at line same in
+      let b = eq-eqb line at (sym same) in
+      simp (a, b)
   | inr apart ↦
-    let a = ne_eqb at line apart in
-    let b : eqb line at ≡ false = ne_eqb line at (λ e. apart (sym e)) in
-    simp (a, b)
+      let a = ne_eqb at line apart in
+      let b : eqb line at ≡ false = ne_eqb line at (λ e. apart (sym e)) in
+      simp (a, b)
 ]
 pushed_at (x ∷ rest) at line f none = elim (cases_eq x.0 at) [
   | inl here ↦
-    let wrong : Some x.1 ≡ None = simp (eq-eqb x.0 at here) at none in
-    absurd (cc)
+      let wrong : Some x.1 ≡ None = simp (eq-eqb x.0 at here) at none in
+      absurd (cc)
   | inr other ↦
-    let no : fields_of rest at ≡ None = simp (ne_eqb x.0 at other) at none in
-    elim (cases_eq x.0 line) [
-      | inl found ↦
-        let b = eq-eqb x.0 line found in
-        let c : eqb line at ≡ false = ne_eqb line at (λ e. other (found ∙ e)) in
-        simp (b, c)
-      | inr apart ↦
-        let b = ne_eqb x.0 line apart in
-        simp b (pushed_at rest at line f no)
-    ]
+      let no : fields_of rest at ≡ None = simp (ne_eqb x.0 at other) at none in
+      elim (cases_eq x.0 line) [
+        | inl found ↦
+            let b = eq-eqb x.0 line found in
+            let c : eqb line at ≡ false = ne_eqb line at (λ e. other (found ∙ e)) in
+            simp (b, c)
+        | inr apart ↦
+            let b = ne_eqb x.0 line apart in
+            simp b (pushed_at rest at line f no)
+      ]
 ]
 
 recent_by : (sets place : ℕ) (lines : List Line) (at line : ℕ) → AreLinesOf sets place lines → (o : Option (List Value)) → fields_of lines at ≡ o → fields_of (without_line lines at ++ option_to_list (option_map (λ f. (at, f)) o)) line ≡ fields_of lines line
 recent_by sets place lines at line own None is = rw append-nil (elim (cases_eq line at) [
   | inl same ↦
-    let gone = removed_at sets place lines at line own in
-    let c = eq-eqb line at same in
-    let now : fields_of (without_line lines at) line ≡ None = simp c at gone in
-    now ∙ sym (ap (fields_of lines) same ∙ is)
+      let gone = removed_at sets place lines at line own in
+      let c = eq-eqb line at same in
+      let now : fields_of (without_line lines at) line ≡ None = simp c at gone in
+      now ∙ sym (ap (fields_of lines) same ∙ is)
   | inr apart ↦
-    let gone = removed_at sets place lines at line own in
-    let c = ne_eqb line at apart in
-    simp c at gone
+      let gone = removed_at sets place lines at line own in
+      let c = ne_eqb line at apart in
+      simp c at gone
 ])
 recent_by sets place lines at line own (Some f) is =
     let gone = removed_at sets place lines at at own in
@@ -124,14 +124,14 @@ recent_by sets place lines at line own (Some f) is =
     let back = pushed_at (without_line lines at) at line f none in
     elim (cases_eq line at) [
       | inl same ↦
-        let c = eq-eqb line at same in
-        let now : fields_of (without_line lines at ++ (at, f) ∷ []) line ≡ Some f = simp c at back in
-        now ∙ sym (ap (fields_of lines) same ∙ is)
+          let c = eq-eqb line at same in
+          let now : fields_of (without_line lines at ++ (at, f) ∷ []) line ≡ Some f = simp c at back in
+          now ∙ sym (ap (fields_of lines) same ∙ is)
       | inr apart ↦
-        let c = ne_eqb line at apart in
-        let rest = removed_at sets place lines at line own in
-        let now : fields_of (without_line lines at ++ (at, f) ∷ []) line ≡ fields_of (without_line lines at) line = simp c at back in
-        now ∙ (simp c at rest)
+          let c = ne_eqb line at apart in
+          let rest = removed_at sets place lines at line own in
+          let now : fields_of (without_line lines at ++ (at, f) ∷ []) line ≡ fields_of (without_line lines at) line = simp c at back in
+          now ∙ (simp c at rest)
     ]
 
 pub recent_at : (sets place : ℕ) (lines : List Line) (at line : ℕ) → AreLinesOf sets place lines → fields_of (made_recent lines at) line ≡ fields_of lines line
@@ -162,7 +162,7 @@ module _ (cache : Cache) (at : ℕ) (ok : IsCache cache) (new : List Line) (line
   edited_at w edit = elim (cases_eq (place line) (place at)) [
     | inl here ↦ ap (λ s. fields_of s line) (same_set here) ∙ edit ∙ ap (λ s. cond (eqb line at) w (fields_of s line)) (sym (one_set here))
     | inr apart ↦
-      let other : eqb line at ≡ false = ne_eqb line at (λ e. apart (ap place e)) in
-      let old : fields_of (set_of (with_set cache at new) line) line ≡ fields_of (set_of cache line) line = ap (λ s. fields_of s line) (other_set apart) in
-      rw other old
+        let other : eqb line at ≡ false = ne_eqb line at (λ e. apart (ap place e)) in
+        let old : fields_of (set_of (with_set cache at new) line) line ≡ fields_of (set_of cache line) line = ap (λ s. fields_of s line) (other_set apart) in
+        rw other old
   ]

@@ -1,12 +1,11 @@
 -- What no change of a line changes of its table: what it is apart from its lines, and that the sets of a cache are lawful.
-use Rattle.std.proofs.Common.{◌≡◌, ℕ, ◌%◌, ◌<◌, ◌||◌, Bool, true, false, cond, not, List, [], ◌∷◌, ◌++◌, length, set, Option, None, Some, is_some, Result, Ok, Err, IsOk, refl, sym, ap, ◌∙◌, arith}
+use Rattle.std.proofs.Common.{◌≡◌, ℕ, ◌%◌, ◌<◌, ◌||◌, Bool, true, false, not, List, [], ◌∷◌, ◌++◌, length, set, Option, None, Some, is_some, IsOk, refl, ap, ◌∙◌, arith}
 use mathlib.Core.Bool.{false≢true}
 use Rattle.std.proofs.lemmas.Bool.{not-false}
 use Rattle.std.proofs.lemmas.List.{get_or_default, length-set}
 use Rattle.std.specs.Bool.{nat_lt}
 use Rattle.std.specs.Option.{unwrap_or}
 use Rattle.std.specs.FinMap as map
-use Rattle.ruby_value.specs.declared.fault.Fault.{Fault}
 use Rattle.ruby_value.specs.declared.fault.Fault.TheVariants.{Absent, Full, Present, Reference}
 use Rattle.ruby_value.specs.declared.value.Value.{Value}
 use Rattle.ruby_value.specs.Available.{available}

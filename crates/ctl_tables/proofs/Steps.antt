@@ -1,13 +1,11 @@
 -- One change of a log: what it makes of the tables, and of the fields that are kept for each line of each of them.
-use Rattle.std.proofs.Common.{◌≡◌, ◌≢◌, ℕ, zero, suc, Bool, true, false, cond, ◌&&◌, eqb, List, [], ◌∷◌, All, set, Option, None, Some, IsSomeAnd, Result, Ok, Err, IsOk, slice_get, refl, sym, ap, subst, ◌∙◌, inl, inr}
+use Rattle.std.proofs.Common.{◌≡◌, ◌≢◌, ℕ, zero, suc, Bool, cond, ◌&&◌, eqb, List, [], ◌∷◌, set, Option, None, Some, IsSomeAnd, Result, Ok, Err, IsOk, slice_get, refl, sym, ap, subst, ◌∙◌, inl, inr}
 use mathlib.Core.Bool.{false≢true}
 use Rattle.std.proofs.lemmas.Bool.{cases_eq, eq-eqb, ne_eqb}
 use Rattle.std.specs.Option.{IfSome, option_and_then, option_map}
 use Rattle.ruby_value.specs.declared.fault.Fault.{Fault}
 use Rattle.ruby_value.specs.declared.value.Value.{Value}
 use Rattle.ctl_face.specs.Table.{Table}
-use Rattle.ctl_face.proofs.Cases.{Good}
-use Rattle.ctl_tables.specs.declared.change.Edit.{Edit}
 use Rattle.ctl_tables.specs.declared.change.TableChange.{TableChange}
 use Rattle.ctl_tables.specs.After.{after_changes, with_change, with_change_in, or_same, CanChange, CanEdit, HasFieldOf, IsTable, Replays}
 use Rattle.ctl_tables.specs.Change.{edit_in, kept_in}
@@ -95,23 +93,23 @@ module _ (c : TableChange) (ts : List Table) (can : CanChange c ts) (n : ℕ) (l
   pub frame_step : frame_at (with_change c ts) n ≡ frame_at ts n
   frame_step = elim (cases_eq n c.table) [
     | inl here ↦
-      let D : Option Table → Option Frame = option_map frame_of in
-      ap D (here_after here) ∙ ap Some ((stays_after c.line c.edit s.before (ok here)).good s.after s.edited).frame ∙ sym (ap D (here_before here))
+        let D : Option Table → Option Frame = option_map frame_of in
+        ap D (here_after here) ∙ ap Some ((stays_after c.line c.edit s.before (ok here)).good s.after s.edited).frame ∙ sym (ap D (here_before here))
     | inr apart ↦ ap (option_map frame_of) (else_after apart)
   ]
 
   pub kept_step : (line : ℕ) → kept_at (with_change c ts) n line ≡ cond (is_of_line n line c) (after_edit c.edit (kept_at ts n line)) (kept_at ts n line)
   kept_step line = elim (cases_eq n c.table) [
     | inl here ↦
-      let K : Option Table → Option (List Value) = option_and_then (λ t. kept_in t line) in
-      let old : kept_at ts n line ≡ kept_in s.before line = ap K (here_before here) in
-      let new : kept_at (with_change c ts) n line ≡ kept_in s.after line = ap K (here_after here) in
-      let kept = (kept_after c.line line c.edit s.before (ok here)).good s.after s.edited in
-      let a = eq-eqb n c.table here in
-      rw (a, old) (new ∙ kept)
+        let K : Option Table → Option (List Value) = option_and_then (λ t. kept_in t line) in
+        let old : kept_at ts n line ≡ kept_in s.before line = ap K (here_before here) in
+        let new : kept_at (with_change c ts) n line ≡ kept_in s.after line = ap K (here_after here) in
+        let kept = (kept_after c.line line c.edit s.before (ok here)).good s.after s.edited in
+        let a = eq-eqb n c.table here in
+        rw (a, old) (new ∙ kept)
     | inr apart ↦
-      let a = ne_eqb n c.table apart in
-      rw a (ap (option_and_then (λ t. kept_in t line)) (else_after apart))
+        let a = ne_eqb n c.table apart in
+        rw a (ap (option_and_then (λ t. kept_in t line)) (else_after apart))
   ]
 
 -- after a log the table is a table still, and what it was, apart from its lines

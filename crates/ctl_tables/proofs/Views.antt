@@ -1,12 +1,12 @@
 -- The acts on a local's tables are the acts on its list of tables: what a draft, whose view has the tables as its changes have left
 -- them, takes from the calls of this crate.
-use Rattle.std.proofs.Common.{◌≡◌, ℕ, List, Option, None, Some, Result, Ok, Err, slice_get, set, refl, sym, ap, subst, ◌∙◌}
+use Rattle.std.proofs.Common.{◌≡◌, ℕ, List, Option, None, Some, Result, Ok, Err, slice_get, refl, ap}
 use Rattle.ruby_value.specs.declared.fault.Fault.{Fault}
 use Rattle.ruby_value.specs.declared.value.Ref.{Ref}
 use Rattle.ruby_value.specs.declared.value.Value.{Value}
 use Rattle.ctl_face.specs.declared.trouble.Trouble.{Trouble}
 use Rattle.ctl_face.specs.declared.trouble.Trouble.TheVariants as trouble
-use Rattle.ctl_face.specs.Does.{Does, DoesWith}
+use Rattle.ctl_face.specs.Does.{Does}
 use Rattle.ctl_face.specs.FieldsIn.{fields_in}
 use Rattle.ctl_face.specs.LocalView.{LocalView}
 use Rattle.ctl_face.specs.Set.{set as set_field, table_with_field}

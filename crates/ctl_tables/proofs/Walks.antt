@@ -1,14 +1,14 @@
 -- The newest change of a log that tells of a line, or of one of its fields, has the last word on it; where none tells, it is as in
 -- the tables before the log.
-use Rattle.std.proofs.Common.{◌≡◌, ◌<◌, ℕ, zero, suc, Bool, true, false, cond, ◌&&◌, ◌≢◌, eqb, List, [], ◌∷◌, All, length, set, Option, None, Some, is_some, IsSome, is_ok, Result, Ok, Err, IsOk, slice_get, refl, sym, ap, subst, ◌∙◌, inl, inr, arith}
+use Rattle.std.proofs.Common.{◌≡◌, ◌<◌, ℕ, zero, suc, Bool, true, false, cond, eqb, List, [], ◌∷◌, length, set, Option, None, Some, is_some, IsSome, is_ok, IsOk, slice_get, refl, sym, ap, subst, ◌∙◌, inl, inr, arith}
 use mathlib.Core.Bool.{false≢true}
-use Rattle.std.proofs.lemmas.Bool.{cases_Bool, cases_eq, eq-eqb, eqb-true, eqb-false, ne_eqb, and_parts}
+use Rattle.std.proofs.lemmas.Bool.{cases_Bool, eqb-true, eqb-false, and_parts}
 use Rattle.std.specs.List.{find}
 use Rattle.std.specs.Option.{IfSome, option_and_then, option_map}
 use Rattle.ruby_value.specs.declared.value.Value.{Value}
 use Rattle.ctl_face.specs.FieldsIn.{fields_in}
 use Rattle.ctl_face.specs.Set.{table_with_field}
-use Rattle.ctl_face.specs.Table.{Table, CacheTable, DirectoryTable, TbeTable, ParameterTable}
+use Rattle.ctl_face.specs.Table.{Table}
 use Rattle.ctl_tables.specs.declared.change.Edit.{Edit}
 use Rattle.ctl_tables.specs.declared.change.Edit.TheVariants as edit
 use Rattle.ctl_tables.specs.declared.change.TableChange.{TableChange}
@@ -19,8 +19,8 @@ use Rattle.ctl_tables.specs.Told.{edit_tells, tells, told_there, told_value}
 use Rattle.ctl_tables.specs.Frames.{frame_of}
 use Rattle.ctl_tables.proofs.Effects.{after_edit}
 use Rattle.ctl_tables.proofs.Stays.{default_in, frame_default, kept_or, fields_are, removable}
-use Rattle.ctl_tables.proofs.Steps.{IsStep, step_of, default_at, frame_step, is_of_line, kept_at, kept_step, law_after}
-use Rattle.ctl_tables.proofs.Steps.{got_same, got_other}
+use Rattle.ctl_tables.proofs.Steps.{step_of, default_at, frame_step, is_of_line, kept_at, kept_step, law_after}
+use Rattle.ctl_tables.proofs.Steps.{got_other}
 
 -- what a table has for a line, by what it keeps
 pub fields_split : (ts : List Table) (n line : ℕ) → fields_at ts n line ≡ kept_or (kept_at ts n line) (default_at ts n)
@@ -77,6 +77,7 @@ module _ (n line : ℕ) where
       written : (field : ℕ) (value : Value) (o : Option (List Value)) → IsSome o → is_some (option_map (λ fields. set fields field value) o) ≡ true
       written field value None wrong = absurd (false≢true wrong)
       written field value (Some fs) is = refl
+
       by : (e : Edit) → edit_tells None e ≡ true → Made e kept default → now ≡ after_edit e kept → (is_some now ≡ told_there e) × (told_there e ≡ false → default ≡ None)
       by (edit.Write field value) t m i = (ap is_some i ∙ written field value kept m.1, λ wrong. absurd (cc))
       by (edit.Fill fields) t m i = (ap is_some i, λ wrong. absurd (cc))
@@ -103,21 +104,21 @@ module _ (n line : ℕ) where
       let G : Bool → Type 0 = λ b. Goal (cond b (Some c) (find (tells n line None) older)) (kept_at (with_change c now) n line) (default_at (with_change c now) n) in
       let H : Option (List Value) → Option (List Value) → Type 0 = Goal (find (tells n line None) older) in
       let on : kept_at (with_change c now) n line ≡ kept_at now n line → H (kept_at (with_change c now) n line) (default_at (with_change c now) n) =
-          λ same. subst (λ k. H k (default_at (with_change c now) n)) (sym same) (subst (H (kept_at now n line)) (sym same_default) rest) in
+      λ same. subst (λ k. H k (default_at (with_change c now) n)) (sym same) (subst (H (kept_at now n line)) (sym same_default) rest) in
       elim (cases_Bool (is_of_line n line c)) [
         | inl here ↦ elim (cases_Bool (edit_tells None c.edit)) [
           | inl says ↦
-            let passes : tells n line None c ≡ true = rw (here, says) refl in
-            let after : kept_at (with_change c now) n line ≡ after_edit c.edit (kept_at now n line) = simp here at step in
-            subst G (sym passes) (subst (Goal (Some c) (kept_at (with_change c now) n line)) (sym same_default) (told_kept c (kept_at now n line) (kept_at (with_change c now) n line) (kept_at ts n line) (default_at now n) says (made_here c now replays.0 here) after))
+              let passes : tells n line None c ≡ true = rw (here, says) refl in
+              let after : kept_at (with_change c now) n line ≡ after_edit c.edit (kept_at now n line) = simp here at step in
+              subst G (sym passes) (subst (Goal (Some c) (kept_at (with_change c now) n line)) (sym same_default) (told_kept c (kept_at now n line) (kept_at (with_change c now) n line) (kept_at ts n line) (default_at now n) says (made_here c now replays.0 here) after))
           | inr silent ↦
-            let fails : tells n line None c ≡ false = rw (here, silent) refl in
-            let after : kept_at (with_change c now) n line ≡ after_edit c.edit (kept_at now n line) = simp here at step in
-            subst G (sym fails) (on (after ∙ untold_kept c.edit (kept_at now n line) silent))
+              let fails : tells n line None c ≡ false = rw (here, silent) refl in
+              let after : kept_at (with_change c now) n line ≡ after_edit c.edit (kept_at now n line) = simp here at step in
+              subst G (sym fails) (on (after ∙ untold_kept c.edit (kept_at now n line) silent))
         ]
         | inr apart ↦
-          let fails : tells n line None c ≡ false = rw apart refl in
-          subst G (sym fails) (on (simp apart at step))
+            let fails : tells n line None c ≡ false = rw apart refl in
+            subst G (sym fails) (on (simp apart at step))
       ]
 
   -- the value of one field
@@ -166,21 +167,21 @@ module _ (n line : ℕ) where
         let G : Bool → Type 0 = λ b. value_at (with_change c now) ≡ by_newest (value_at ts) (cond b (Some c) (find (tells n line (Some field)) older)) in
         elim (cases_Bool (is_of_line n line c)) [
           | inl here ↦
-            let after : kept_at (with_change c now) n line ≡ after_edit c.edit (kept_at now n line) = simp here at step in
-            let value : value_at (with_change c now) ≡ value_of (after_edit c.edit (kept_at now n line)) (default_at now n) = ap (λ k. value_of k (default_at (with_change c now) n)) after ∙ ap (value_of (after_edit c.edit (kept_at now n line))) same_default in
-            elim (cases_Bool (edit_tells (Some field) c.edit)) [
-              | inl says ↦
-                let passes : tells n line (Some field) c ≡ true = rw (here, says) refl in
-                subst G (sym passes) (value ∙ told_of_value c.edit (kept_at now n line) (default_at now n) says (made_here c now replays.0 here))
-              | inr silent ↦
-                let fails : tells n line (Some field) c ≡ false = rw (here, silent) refl in
-                subst G (sym fails) (value ∙ untold_of_value c.edit (kept_at now n line) (default_at now n) silent ∙ rest)
-            ]
+              let after : kept_at (with_change c now) n line ≡ after_edit c.edit (kept_at now n line) = simp here at step in
+              let value : value_at (with_change c now) ≡ value_of (after_edit c.edit (kept_at now n line)) (default_at now n) = ap (λ k. value_of k (default_at (with_change c now) n)) after ∙ ap (value_of (after_edit c.edit (kept_at now n line))) same_default in
+              elim (cases_Bool (edit_tells (Some field) c.edit)) [
+                | inl says ↦
+                    let passes : tells n line (Some field) c ≡ true = rw (here, says) refl in
+                    subst G (sym passes) (value ∙ told_of_value c.edit (kept_at now n line) (default_at now n) says (made_here c now replays.0 here))
+                | inr silent ↦
+                    let fails : tells n line (Some field) c ≡ false = rw (here, silent) refl in
+                    subst G (sym fails) (value ∙ untold_of_value c.edit (kept_at now n line) (default_at now n) silent ∙ rest)
+              ]
           | inr apart ↦
-            let fails : tells n line (Some field) c ≡ false = rw apart refl in
-            let same : kept_at (with_change c now) n line ≡ kept_at now n line = simp apart at step in
-            let value : value_at (with_change c now) ≡ value_at now = ap (λ k. value_of k (default_at (with_change c now) n)) same ∙ ap (value_of (kept_at now n line)) same_default in
-            subst G (sym fails) (value ∙ rest)
+              let fails : tells n line (Some field) c ≡ false = rw apart refl in
+              let same : kept_at (with_change c now) n line ≡ kept_at now n line = simp apart at step in
+              let value : value_at (with_change c now) ≡ value_at now = ap (λ k. value_of k (default_at (with_change c now) n)) same ∙ ap (value_of (kept_at now n line)) same_default in
+              subst G (sym fails) (value ∙ rest)
         ]
 
     -- read as the definition reads it

@@ -1,7 +1,7 @@
 -- What a list of tables is after the changes of a log, whose newest change is the first of the list. A change that can't be
 -- made, or is of a table that isn't there, changes nothing. `Replays` says that each change could be made in its turn, with a field
 -- that is there.
-use Rattle.std.specs.Prelude.{ℕ, Option, None, Some, List, [], ◌∷◌, Result, Ok, Err, IsOk, IfSome, IsSomeAnd, ◌<◌, length, slice_get, slice_set}
+use Rattle.std.specs.Prelude.{Option, None, Some, List, [], ◌∷◌, Result, Ok, Err, IsOk, IfSome, IsSomeAnd, ◌<◌, length, slice_get, slice_set}
 use Rattle.ruby_value.specs.IsCache.{IsCache}
 use Rattle.ctl_face.specs.Table.{Table, CacheTable, DirectoryTable, TbeTable, ParameterTable}
 use Rattle.ruby_value.specs.declared.value.Value.{Value}

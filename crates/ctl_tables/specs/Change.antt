@@ -1,7 +1,7 @@
 -- What one entry of a log of changes does to a table: it is what the act that logged it does, where that act may be done; else
 -- it isn't an entry that a log has. A write of one field is for a line whose fields are kept by themselves. A line of a directory
 -- has its default fields until it is first written, and then all its fields come at once.
-use Rattle.std.specs.Prelude.{ℕ, Bool, Option, None, Some, List, Result, Ok, Err}
+use Rattle.std.specs.Prelude.{ℕ, Option, List, Result, Ok, Err}
 use Rattle.std.specs.FinMap as map
 use Rattle.ruby_value.specs.declared.fault.Fault.{Fault}
 use Rattle.ruby_value.specs.declared.fault.Fault.TheVariants.{Reference}

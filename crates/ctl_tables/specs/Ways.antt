@@ -1,8 +1,7 @@
 -- How a field of a line of a table may be written: nothing is where the table isn't there, the line isn't there, its fields are kept
 -- by themselves, or it is a line of a directory that was never written, which still has the directory's default fields.
-use Rattle.std.specs.Prelude.{◌≡◌, ℕ, Option, None, Some, List, IsSome, IsSomeAnd, slice_get}
+use Rattle.std.specs.Prelude.{◌≡◌, ℕ, None, List, IsSome, IsSomeAnd, slice_get}
 use Rattle.std.specs.FinMap as map
-use Rattle.std.specs.Option.{option_and_then}
 use Rattle.ruby_value.specs.declared.value.Value.{Value}
 use Rattle.ctl_face.specs.FieldsIn.{fields_in}
 use Rattle.ctl_face.specs.Table.{Table, CacheTable, DirectoryTable, TbeTable, ParameterTable}

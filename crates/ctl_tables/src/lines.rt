@@ -61,12 +61,7 @@ impl Tables {
 
     /// Makes a line of a cache the most recently used one of its set. The fault `Absent` comes exactly where it isn't there.
     /// Another table doesn't change.
-    pub fn touch(
-        &self,
-        changes: &mut TableChanges,
-        table: u16,
-        line: u64,
-    ) -> Result<(), Trouble>
+    pub fn touch(&self, changes: &mut TableChanges, table: u16, line: u64) -> Result<(), Trouble>
         requires { AreOf changes.old self.now }
         ensures does { DoesIn (touch_in (tables_now self.now changes.old) table line) result
             (tables_now self.now changes.old) (tables_now self.now changes.new) }

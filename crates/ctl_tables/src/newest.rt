@@ -61,12 +61,7 @@ impl TableChange {
 }
 
 // The newest change that tells of a field of a line, or else of the line. It takes no memory, and costs a step for each change.
-fn newest_in(
-    log: &[TableChange],
-    table: u16,
-    line: u64,
-    field: Option<u16>,
-) -> Option<&TableChange>
+fn newest_in(log: &[TableChange], table: u16, line: u64, field: Option<u16>) -> Option<&TableChange>
     ensures { option_copied result ≡ find (tells table line field) (reverse log.now) }
 {
     for i in (0..log.len()).rev() {

@@ -61,13 +61,7 @@ impl StoredTable {
             StoredTable::Cache(cache) => cache.lookup(line),
             StoredTable::Directory(directory) => Some(directory.lookup(line)),
             StoredTable::Tbe(tbes) => tbes.lookup(line),
-            StoredTable::Parameters(values) => {
-                if line == 0 {
-                    Some(values)
-                } else {
-                    None
-                }
-            }
+            StoredTable::Parameters(values) => { if line == 0 { Some(values) } else { None } }
         }
     }
 

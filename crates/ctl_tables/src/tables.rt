@@ -16,11 +16,7 @@ use std::alloc::Global;
 
 impl Tables {
     /// The tables of a machine's setup as a run begins, and no states. A line whose state was never set has the default one.
-    pub fn new(
-        alloc: Global,
-        setups: &[TableSetup],
-        default_state: u16,
-    ) -> Result<Tables, NoMemory>
+    pub fn new(alloc: Global, setups: &[TableSetup], default_state: u16) -> Result<Tables, NoMemory>
         requires { All (λ (s : SetupRecord). HasPlaces s.size) setups.now }
         ensures tables { IfOk result (λ s. tables_of s
             ≡ map (λ (u : SetupRecord). opening_table u.size u.initial) setups.now) }
@@ -63,7 +59,10 @@ impl Tables {
         ensures states { states_of self.new ≡ states_now self.old changes }
         ensures default { default_of self.new ≡ default_of self.old }
     {
-        let TableChanges { mut log, mut states } = changes;
+        let TableChanges {
+            mut log,
+            mut states,
+        } = changes;
         log.reverse();
         states.reverse();
         change_all(&mut self.tables, log);

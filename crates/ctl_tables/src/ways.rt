@@ -5,8 +5,8 @@ ghost use Rattle.ctl_tables.specs.Stored.{tables_now, AreOf};
 ghost use Rattle.ctl_tables.specs.Ways.{IsWay, IsWayIn};
 
 use crate::change::TableChanges;
-use crate::stored::StoredTable;
 use crate::held::Tables;
+use crate::stored::StoredTable;
 use ruby_value::Fields;
 
 /// How a field of a line may be written.

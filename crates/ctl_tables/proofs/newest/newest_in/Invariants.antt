@@ -1,4 +1,4 @@
-use Rattle.std.proofs.Common.{◌≡◌, ◌≤◌, Some, length, reverse, take}
+use Rattle.std.proofs.Common.{◌≡◌, reverse, take}
 use Rattle.std.specs.List.{find}
 use Rattle.ctl_tables.specs.Told.{tells}
 use Rattle.ctl_tables.proofs.newest.newest_in.Given as goal

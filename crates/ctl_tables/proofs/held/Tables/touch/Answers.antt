@@ -1,4 +1,4 @@
-use Rattle.std.proofs.Common.{◌≡◌, ◌∙◌, Bool, true, false, ap, is_some, refl, sym}
+use Rattle.std.proofs.Common.{◌≡◌, ◌∙◌, true, false, ap, is_some, refl, sym}
 use Rattle.ctl_tables.specs.declared.change.Edit.TheVariants as edit
 use Rattle.ctl_tables.specs.Frames.{frame_at, keeps_order}
 use Rattle.ctl_tables.specs.Stored.{log_of, tables_now, tables_of}

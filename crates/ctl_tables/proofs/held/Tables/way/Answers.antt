@@ -1,4 +1,4 @@
-use Rattle.std.proofs.Common.{◌∙◌, refl, sym, ap}
+use Rattle.std.proofs.Common.{◌∙◌, refl, sym}
 use Rattle.ctl_tables.specs.Container.{table_of}
 use Rattle.ctl_tables.specs.Stored.{log_of, tables_of}
 use Rattle.ctl_tables.proofs.Finding.{nowhere, way_absent, way_as_before, way_kept}
