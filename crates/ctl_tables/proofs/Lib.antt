@@ -11,3 +11,4 @@ pub mod Stays
 pub mod Steps
 pub mod Views
 pub mod Walks
+pub mod Within
