@@ -1,4 +1,4 @@
-ghost use Rattle.std.specs.Prelude.{◌≡◌, ◌≢◌, ◌≤◌, ◌<◌, ◌*◌, ◌%◌, ◌↔◌, [], ◌∷◌, ◌++◌, length, replicate, slice_get, slice_set, is_some, IsTrue, IsNone, IsSome, IsOk, IsErrOf, IfOk, IfErr, IfSome, OnOk, OnErr, OnSome, None, Some, false};
+ghost use Rattle.std.specs.Prelude.{◌≡◌, ◌≢◌, ◌==◌, ◌≤◌, ◌<◌, ◌*◌, ◌%◌, ◌↔◌, [], ◌∷◌, ◌++◌, length, replicate, slice_get, slice_set, is_some, IsTrue, IsNone, IsSome, IsOk, IsErrOf, IfOk, IfErr, IfSome, OnOk, OnErr, OnSome, None, Some, false};
 ghost use Rattle.std.specs.Option.{option_copied, option_map};
 ghost use Rattle.ruby_value.specs.Available.{available};
 ghost use Rattle.ruby_value.specs.FieldsOf.{fields_of};
@@ -189,6 +189,28 @@ impl CacheArray {
         ensures { result ≡ option_map (λ l. l.0) (slice_get (set_of self.now line) i) }
     {
         self.set(line).line_at(i as usize)
+    }
+
+    /// How many lines the set of a line has. It takes no memory.
+    pub fn set_len(&self, line: u64) -> usize
+        ensures { result ≡ length (set_of self.now line) }
+    {
+        self.set(line).len()
+    }
+
+    /// Whether two lines belong to one set. It takes no memory.
+    pub fn share_set(&self, a: u64, b: u64) -> bool
+        ensures { result ≡ (a % length self.now.sets == b % length self.now.sets) }
+    {
+        self.place(a) == self.place(b)
+    }
+
+    /// How many lines a set may hold.
+    pub fn ways(&self) -> u32
+        ensures ways { result ≡ self.now.ways }
+        ensures lawful { IsCache self.now }
+    {
+        self.ways
     }
 
     // Where the set of a line stands.

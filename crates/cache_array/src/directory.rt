@@ -86,6 +86,13 @@ impl DirMemory {
     {
         self.written.set_field(line, field, v)
     }
+
+    /// Whether the line was written, so that it has fields of its own. It takes no memory.
+    pub fn is_written(&self, line: u64) -> bool
+        ensures { result ≡ map.contains_key self.now.kept.written line }
+    {
+        self.written.contains(line)
+    }
 }
 
 // Writes lines one after another. None wants memory, since there is room for all of them.

@@ -1,0 +1,14 @@
+pub mod Backwards
+pub mod Doing
+pub mod Effects
+pub mod Finding
+pub mod Losing
+pub mod Readings
+pub mod Replaying
+pub mod Sets
+pub mod StatesSet
+pub mod Stays
+pub mod Steps
+pub mod Views
+pub mod Walks
+pub mod Within

@@ -1,0 +1,37 @@
+use Rattle.std.proofs.Common.{◌≡◌, ◌∙◌, true, false, ap, is_some, refl, sym}
+use Rattle.ctl_tables.specs.declared.change.Edit.TheVariants as edit
+use Rattle.ctl_tables.specs.Frames.{frame_at, loses_lines}
+use Rattle.ctl_tables.specs.Stored.{log_of, tables_now, tables_of}
+use Rattle.ctl_tables.specs.TableActs.{deallocate_in, fields_at}
+use Rattle.ctl_tables.proofs.Doing.{does_by_log, replays_by_log}
+use Rattle.ctl_tables.proofs.Losing.{remove_absent, remove_done, remove_nothing}
+use Rattle.ctl_tables.proofs.Steps.{frames_after}
+use Rattle.ctl_tables.proofs.held.Tables.deallocate.Goals as goal
+
+pub returns-then-has_line-clause-does : goal.returns-then-has_line-clause-does
+returns-then-has_line-clause-does c =
+    let kind : loses_lines (frame_at (tables_now c.args.self.now c.args.changes.now) c.args.table) ≡ true = ap loses_lines (frames_after c.args.table (log_of c.args.changes.now) (tables_of c.args.self.now) c.requires c.loses_lines.ensures.law) ∙ sym c.loses_lines.ensures.kind ∙ c.if-loses_lines.true in
+    let there : is_some (fields_at (tables_now c.args.self.now c.args.changes.now) c.args.table c.args.line) ≡ true = sym c.has_line.ensures ∙ c.if-has_line.true in
+    does_by_log c.log.result (log_of c.args.changes.now) (log_of c.log.new.self) (tables_of c.args.self.now) (record { table = c.args.table; line = c.args.line; edit = edit.Remove })
+    (deallocate_in (tables_now c.args.self.now c.args.changes.now) c.args.table c.args.line)
+    (remove_done (tables_now c.args.self.now c.args.changes.now) c.args.table c.args.line kind there)
+    c.log.ensures.ok c.log.ensures.err c.log.ensures.memory
+
+pub returns-then-has_line-clause-replays : goal.returns-then-has_line-clause-replays
+returns-then-has_line-clause-replays c =
+    let kind : loses_lines (frame_at (tables_now c.args.self.now c.args.changes.now) c.args.table) ≡ true = ap loses_lines (frames_after c.args.table (log_of c.args.changes.now) (tables_of c.args.self.now) c.requires c.loses_lines.ensures.law) ∙ sym c.loses_lines.ensures.kind ∙ c.if-loses_lines.true in
+    let there : is_some (fields_at (tables_now c.args.self.now c.args.changes.now) c.args.table c.args.line) ≡ true = sym c.has_line.ensures ∙ c.if-has_line.true in
+    replays_by_log c.log.result (log_of c.args.changes.now) (log_of c.log.new.self) (tables_of c.args.self.now) (record { table = c.args.table; line = c.args.line; edit = edit.Remove })
+    (remove_done (tables_now c.args.self.now c.args.changes.now) c.args.table c.args.line kind there).can
+    c.requires c.log.ensures.ok c.log.ensures.err
+
+pub returns-else-has_line-clause-does : goal.returns-else-has_line-clause-does
+returns-else-has_line-clause-does c =
+    let kind : loses_lines (frame_at (tables_now c.args.self.now c.args.changes.now) c.args.table) ≡ true = ap loses_lines (frames_after c.args.table (log_of c.args.changes.now) (tables_of c.args.self.now) c.requires c.loses_lines.ensures.law) ∙ sym c.loses_lines.ensures.kind ∙ c.if-loses_lines.true in
+    let gone : is_some (fields_at (tables_now c.args.self.now c.args.changes.now) c.args.table c.args.line) ≡ false = sym c.has_line.ensures ∙ c.if-has_line.false in
+    (remove_absent (tables_now c.args.self.now c.args.changes.now) c.args.table c.args.line kind gone, refl)
+
+pub returns-else-loses_lines-clause-does : goal.returns-else-loses_lines-clause-does
+returns-else-loses_lines-clause-does c =
+    let kind : loses_lines (frame_at (tables_now c.args.self.now c.args.changes.now) c.args.table) ≡ false = ap loses_lines (frames_after c.args.table (log_of c.args.changes.now) (tables_of c.args.self.now) c.requires c.loses_lines.ensures.law) ∙ sym c.loses_lines.ensures.kind ∙ c.if-loses_lines.false in
+    remove_nothing (tables_now c.args.self.now c.args.changes.now) c.args.table c.args.line kind

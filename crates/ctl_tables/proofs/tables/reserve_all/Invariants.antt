@@ -1,0 +1,6 @@
+use Rattle.std.proofs.Common.{◌≡◌, All, map, take}
+use Rattle.ctl_tables.specs.Container.{table_of, HasRoom}
+use Rattle.ctl_tables.proofs.tables.reserve_all.Given as goal
+
+abbrev pub invariant-loop-i : goal.invariant-loop-i
+invariant-loop-i l = (map table_of l.tables ≡ map table_of l.initial.tables) × All (HasRoom l.more) (take l.i l.tables)

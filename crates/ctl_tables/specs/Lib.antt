@@ -1,0 +1,9 @@
+pub mod After
+pub mod Change
+pub mod Container
+pub mod Frames
+pub mod Logged
+pub mod Stored
+pub mod TableActs
+pub mod Told
+pub mod Ways

@@ -1,0 +1,119 @@
+ghost use Rattle.std.specs.Prelude.{◌≡◌, ◌+◌, ℕ, IfOk, OnOk, map, vec_len};
+ghost use Rattle.std.specs.List.{All};
+ghost use Rattle.std.specs.FinMap as finmap;
+ghost use Rattle.ruby_value.specs.declared.setup.TableSetup.{TableSetup as SetupRecord};
+ghost use Rattle.ctl_face.specs.IsMachine.{HasPlaces};
+ghost use Rattle.ctl_face.specs.Opening.{opening_table};
+ghost use Rattle.ctl_tables.specs.After.{after_changes, with_change};
+ghost use Rattle.ctl_tables.specs.Container.{table_of, HasRoom};
+ghost use Rattle.ctl_tables.specs.Stored.{default_of, states_now, states_of, tables_now, tables_of, AreOf, HasRoomFor};
+
+use crate::change::{Edit, TableChange, TableChanges};
+use crate::held::Tables;
+use crate::stored::StoredTable;
+use ruby_value::{LineMap, NoMemory, TableSetup};
+use std::alloc::Global;
+
+impl Tables {
+    /// The tables of a machine's setup as a run begins, and no states. A line whose state was never set has the default one.
+    pub fn new(alloc: Global, setups: &[TableSetup], default_state: u16) -> Result<Tables, NoMemory>
+        requires { All (λ (s : SetupRecord). HasPlaces s.size) setups.now }
+        ensures tables { IfOk result (λ s. tables_of s
+            ≡ map (λ (u : SetupRecord). opening_table u.size u.initial) setups.now) }
+        ensures states { IfOk result (λ s. states_of s ≡ finmap.empty) }
+        ensures default { IfOk result (λ s. default_of s ≡ default_state) }
+    {
+        let tables = open_all(alloc, setups)?;
+        Ok(Tables {
+            tables,
+            states: LineMap::new(alloc),
+            default_state,
+        })
+    }
+
+    /// No changes yet. It takes no memory.
+    pub fn changes(&self, alloc: Global) -> TableChanges
+        ensures replays { AreOf result self.now }
+        ensures tables { tables_now self.now result ≡ tables_of self.now }
+        ensures states { states_now self.now result ≡ states_of self.now }
+    {
+        TableChanges::new(alloc)
+    }
+
+    /// Makes room for changes, or answers that there is no memory for them. Tables and states stay as they are.
+    pub fn reserve(&mut self, changes: &TableChanges) -> Result<(), NoMemory>
+        ensures tables { tables_of self.new ≡ tables_of self.old }
+        ensures states { states_of self.new ≡ states_of self.old }
+        ensures default { default_of self.new ≡ default_of self.old }
+        ensures room { OnOk result (HasRoomFor changes.now self.new) }
+    {
+        reserve_all(&mut self.tables, changes.log.len())?;
+        self.states.reserve(changes.states.len())?;
+        Ok(())
+    }
+
+    /// Makes changes for which there is room. It takes no memory.
+    pub fn apply(&mut self, changes: TableChanges)
+        requires { HasRoomFor changes self.old }
+        ensures tables { tables_of self.new ≡ tables_now self.old changes }
+        ensures states { states_of self.new ≡ states_now self.old changes }
+        ensures default { default_of self.new ≡ default_of self.old }
+    {
+        let TableChanges {
+            mut log,
+            mut states,
+        } = changes;
+        log.reverse();
+        states.reverse();
+        change_all(&mut self.tables, log);
+        self.states.put_all(states);
+    }
+}
+
+// The tables of a machine's setup as a run begins.
+fn open_all(alloc: Global, setups: &[TableSetup]) -> Result<Vec<StoredTable>, NoMemory>
+    requires { All (λ (s : SetupRecord). HasPlaces s.size) setups.now }
+    ensures { IfOk result (λ ts. map table_of ts.items
+        ≡ map (λ (s : SetupRecord). opening_table s.size s.initial) setups.now) }
+{
+    let mut tables = Vec::with_capacity(alloc, setups.len())?;
+    for setup in setups {
+        tables.push(StoredTable::opening(alloc, setup)?)?;
+    }
+    Ok(tables)
+}
+
+// Makes room for so many more lines in each of the tables.
+#[tactic(auto, using(crate::proofs::Replaying::same_tables, crate::proofs::Replaying::more_room))]
+fn reserve_all(tables: &mut [StoredTable], more: usize) -> Result<(), NoMemory>
+    ensures same { map table_of tables.new ≡ map table_of tables.old }
+    ensures ok { OnOk result (All (HasRoom more) tables.new) }
+{
+    for i in 0..tables.len() {
+        tables[i].reserve(more)?;
+    }
+    Ok(())
+}
+
+// Makes one change, where its table is there.
+fn change_one(tables: &mut [StoredTable], table: u16, line: u64, edit: Edit)
+    requires { All (HasRoom 1) tables.old }
+    ensures after { map table_of tables.new
+        ≡ with_change (record { table = table; line = line; edit = edit }) (map table_of tables.old) }
+    ensures room { (n : ℕ) → All (HasRoom (n + 1)) tables.old → All (HasRoom n) tables.new }
+{
+    let at = usize::from(table);
+    if at < tables.len() {
+        tables[at].edit(line, edit);
+    }
+}
+
+// Makes changes that stand with the newest first, from the last one on.
+fn change_all(tables: &mut [StoredTable], mut newest_first: Vec<TableChange>)
+    requires { All (HasRoom (vec_len newest_first)) tables.old }
+    ensures { map table_of tables.new ≡ after_changes newest_first.items (map table_of tables.old) }
+{
+    while let Some(change) = newest_first.pop() {
+        change_one(tables, change.table, change.line, change.edit);
+    }
+}
