@@ -16,6 +16,6 @@ pub use driver::{Driver, DriverEnd};
 pub use fault::{BackFault, CallbackFault, IssueFault};
 pub use plain_driver::PlainDriver;
 pub use ruby_base::NoMemory;
-pub use ruby_value::{Answer, Ask, Asked, Block, Fault, Finding};
+pub use ruby_value::{Answer, Ask, Asked, Block, Finding};
 pub use seats::Seats;
 pub use sequencer::Sequencer;

@@ -1,6 +1,6 @@
 // Two generic uses of seats and drivers, which nothing calls: what a turn does after room was made for it, and what a request does
 // after an answer, is proved from the traits alone.
-ghost use Rattle.std.specs.Prelude.{◌≡◌, ◌≤◌, ◌<◌, IfOk, IsTrue, OnOk, OnErr, length};
+ghost use Rattle.std.specs.Prelude.{◌≡◌, ◌≤◌, ◌<◌, ◌^◌, IfOk, IsTrue, OnOk, OnErr, length};
 ghost use Rattle.sequencer.specs.Drive.{after_drive};
 ghost use Rattle.sequencer.specs.Requests.{IsRequest};
 ghost use Rattle.sequencer.specs.Seats.{with_issued, with_seats, without_answer_at};
@@ -12,7 +12,8 @@ fn reserved_turn<D: Driver, S: Seats>(
     now: u64,
     seats: &mut S,
 ) -> Result<DriverEnd, NoMemory>
-    requires { D.least driver.old ≤ length (S.view seats.old).kept.seats }
+    requires seats { D.least driver.old ≤ length (S.view seats.old).kept.seats }
+    requires cycle { now ≤ 10 ^ 12 }
     ensures driver { OnOk result
         (driver.new ≡ (D.drive driver.old (S.view seats.old).kept.seats now).driver) }
     ensures seats { OnOk result ((S.view seats.new).kept ≡ after_drive (S.view seats.old).kept

@@ -3,6 +3,9 @@ use sequencer::{Driver, PlainDriver, Sequencer};
 use std::alloc::Global;
 use std::test::Fail;
 
+/// The last cycle that a run may come to.
+const LAST_CYCLE: u64 = 1_000_000_000_000;
+
 /// The turn of a cycle of a driver of so many requests at a fresh seat, or one at which it has acted in the cycle before: the next
 /// cycle, how many requests were issued in all, and the issue cycle of the last one.
 struct Row {
@@ -23,11 +26,12 @@ fn is_so(alloc: Global, row: &Row) -> bool {
     let mut seat = OneSeat::new(sequencer, alloc);
     let mut driver = PlainDriver::new(row.requests);
     let mut next = None;
-    for now in row.cycles {
-        if driver.reserve(*now, &mut seat).is_err() {
+    for cycle in row.cycles {
+        let now = *cycle;
+        if now > LAST_CYCLE || driver.reserve(now, &mut seat).is_err() {
             return false;
         }
-        let end = driver.turn(*now, &mut seat);
+        let end = driver.turn(now, &mut seat);
         next = end.next;
     }
     let (issued, last) = seat.last_issued();
@@ -86,7 +90,7 @@ const ROWS: &[Row] = &[
     Row {
         requests: 9,
         has_sequencer: false,
-        cycles: &[u64::MAX],
+        cycles: &[LAST_CYCLE],
         next: None,
         issued: 0,
         last: None,
