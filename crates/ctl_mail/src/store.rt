@@ -46,8 +46,8 @@ impl MailStore {
         })
     }
 
-    /// Makes room for so many messages, each with a mark, and for as many marks beside them, or answers that there is no memory
-    /// for them. The mail stays as it is.
+    /// Makes room for so many messages, each with its mark, and for one mark beside them, or answers that there is no memory for
+    /// them. The mail stays as it is.
     pub fn room(&mut self, messages: usize) -> Result<(), NoMemory>
         requires mail { IsMail self.old }
         ensures same { mail_of self.new ≡ mail_of self.old }
@@ -55,7 +55,10 @@ impl MailStore {
         ensures buffers { buffer_count self.new ≡ buffer_count self.old }
         ensures ok { OnOk result (HasRoomFor self.new messages) }
     {
-        self.marks.reserve(messages)?;
+        let Some(marks) = messages.checked_add(1) else {
+            return Err(NoMemory);
+        };
+        self.marks.reserve(marks)?;
         queues::reserve(&mut self.buffers, messages)
     }
 
