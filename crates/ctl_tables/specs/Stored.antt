@@ -1,6 +1,5 @@
 -- The tables and states that a controller has, by the containers that keep them, and those that a scan's changes make of them.
---
--- `AreOf` says that the changes are those of a scan of these tables.
+-- `AreOf` says that each of the changes can be made in its turn, beginning with these tables.
 use Rattle.std.specs.Prelude.{ℕ, ◌≤◌, List, length, map, reverse}
 use Rattle.std.specs.FinMap as finmap
 use Rattle.std.specs.List.{All}

@@ -1,5 +1,6 @@
 -- What one change of a log tells of a line of a table: whether the line is there, or the value of one of its fields. The newest
--- change that tells it is the one that counts. That a line was used tells neither.
+-- change that tells it is the one that counts. A use is made only of a line that is
+-- there, and tells no field.
 use Rattle.std.specs.Prelude.{ℕ, Bool, true, false, Option, None, Some, ◌==◌, ◌&&◌, slice_get}
 use Rattle.ruby_value.specs.declared.value.Value.{Value}
 use Rattle.ctl_tables.specs.declared.change.Edit.{Edit}

@@ -1,5 +1,5 @@
--- How a field of a line of a table may be written: nothing is where the table isn't there, the line isn't there, its fields are kept
--- by themselves, or it is a line of a directory that was never written, which still has the directory's default fields.
+-- How a field of a line of a table may be written: nothing is written where the table isn't there; the line isn't there; its
+-- fields are kept by themselves; or it is a line of a directory that was never written, which still has the directory's default fields.
 use Rattle.std.specs.Prelude.{◌≡◌, ℕ, None, List, IsSome, IsSomeAnd, slice_get}
 use Rattle.std.specs.FinMap as map
 use Rattle.ruby_value.specs.declared.value.Value.{Value}

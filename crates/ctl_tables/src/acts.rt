@@ -37,7 +37,7 @@ fn with_field(fields: &Fields, field: u16, v: Value) -> Result<Fields, NoMemory>
 
 impl Tables {
     /// Writes a field of the line that a reference names, which has that field where it is there. The fault `Reference` comes
-    /// exactly where the line isn't there.
+    /// exactly where the table is there and the line isn't; where no table is there nothing changes.
     pub fn set(
         &self,
         changes: &mut TableChanges,

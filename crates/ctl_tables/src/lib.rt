@@ -1,4 +1,5 @@
-//! The tables of a controller and the states of its lines, and what one scan changes in them.
+//! The tables of a controller and the states of its lines, and what one scan changes in them. Tables and fields have numbers from
+//! 0, and lines are byte addresses divided by 64.
 #![tactic(auto)]
 
 mod acts;
