@@ -11,3 +11,6 @@ returns-in-Ok-Some c =
 
 pub returns-in-Err : goal.returns-in-Err
 returns-in-Err c = no_memory
+
+pub returns-in-Err-counted : goal.returns-in-Err-counted
+returns-in-Err-counted c = no_memory

@@ -5,4 +5,4 @@ use Rattle.slicc_types.proofs.resolving.resolve.Goals as goal
 
 pub plan_of-requires : goal.plan_of-requires
 plan_of-requires c =
-    subst (λ (ts : List Tree). IsCounted ts c.in_ok-counts.field-0) c.as_slice.ensures c.in_ok-counts.ensures
+    subst (λ (ts : List Tree). IsCounted ts c.in_ok-counts.counts) c.as_slice.ensures c.in_ok-counts.ensures
