@@ -18,8 +18,8 @@ const STATES: &str = "machine(MachineType:Node, \"ticker\")
     B, AccessPermission:Read_Write, desc=\"b\";
 ";
 
-/// The ticker from there to its last transition.
-const REST: &str = "  }
+/// The ticker from there to its action.
+const PORT: &str = "  }
   enumeration(Event, desc=\"events\") { Go, desc=\"go\"; }
   in_port(mandatory_in, RubyRequest, mandatoryQueue) {
     if (mandatory_in.isReady(clockEdge())) {
@@ -28,8 +28,19 @@ const REST: &str = "  }
       }
     }
   }
-  action(p_pop, \"p\", desc=\"pop\") { mandatory_in.dequeue(clockEdge()); }
-  transition(A, Go, B) { p_pop; }
+";
+
+/// Its action.
+const ACTION: &str = "  action(p_pop, \"p\", desc=\"pop\") { mandatory_in.dequeue(clockEdge()); }
+";
+
+/// An action that names a port that isn't there.
+const ACTION_WITHOUT_PORT: &str =
+    "  action(p_pop, \"p\", desc=\"pop\") { mandatory_on.dequeue(clockEdge()); }
+";
+
+/// Its first transition.
+const THERE: &str = "  transition(A, Go, B) { p_pop; }
 ";
 
 const BACK: &str = "  transition(B, Go, A) { p_pop; }
@@ -121,35 +132,23 @@ enum File {
     Open,
 }
 
-/// The ticker with `more` states beyond its two, and with this as its last transition.
-fn ticker(alloc: Global, more: u64, last: &str) -> Result<Text, NoMemory> {
+/// The ticker with `more` states beyond its two, with this action, and with this as its last transition.
+fn ticker_with(alloc: Global, more: u64, action: &str, last: &str) -> Result<Text, NoMemory> {
     let mut text = Text::copied(alloc, STATES.as_bytes())?;
     for i in 0..more {
         let state = format!(in alloc; "    S{i}, AccessPermission:Busy, desc=\"s\";\n")?;
         text.append(state.as_bytes())?;
     }
-    text.append(REST.as_bytes())?;
+    text.append(PORT.as_bytes())?;
+    text.append(action.as_bytes())?;
+    text.append(THERE.as_bytes())?;
     text.append(last.as_bytes())?;
     text.append(b"}\n")?;
     Ok(text)
 }
 
-/// The ticker with the last letters of its port's name in its action changed.
-fn without_port(alloc: Global) -> Result<Text, NoMemory> {
-    let ticker = ticker(alloc, 0, BACK)?;
-    let mut text = Text::new(alloc);
-    let mut rest = ticker.as_slice();
-    let name = b"mandatory_in.dequeue".as_slice();
-    while let [first, tail @ ..] = rest {
-        if rest.starts_with(name) {
-            text.append(b"mandatory_on.dequeue")?;
-            rest = &rest[name.len()..];
-        } else {
-            text.push(*first)?;
-            rest = tail;
-        }
-    }
-    Ok(text)
+fn ticker(alloc: Global, more: u64, last: &str) -> Result<Text, NoMemory> {
+    ticker_with(alloc, more, ACTION, last)
 }
 
 /// The ticker with spaces after it, of `length` bytes.
@@ -170,7 +169,7 @@ fn bytes_of(alloc: Global, file: File) -> Result<Text, NoMemory> {
         File::MostStates => ticker(alloc, 254, BACK),
         File::TooManyStates => ticker(alloc, 255, BACK),
         File::Twice => ticker(alloc, 0, AGAIN),
-        File::NoPort => without_port(alloc),
+        File::NoPort => ticker_with(alloc, 0, ACTION_WITHOUT_PORT, BACK),
         File::OtherForm => ticker(alloc, 0, LOCAL),
         File::Comment => Text::copied(alloc, b"// a comment"),
         File::Empty => Ok(Text::new(alloc)),
