@@ -72,20 +72,28 @@ fn is_number(alloc: Global, trees: &[Tree], name: &(u16, &str, Option<u16>)) -> 
     }
 }
 
+/// The next state, the transition, how many actions there are, up to 9, and the first of them or 0.
+fn numbers_of(row: &Row) -> [u32; 4] {
+    let actions = row.actions.as_slice();
+    let first = match actions {
+        [] => 0,
+        [a, ..] => *a as u32,
+    };
+    let count = if actions.len() < 9 {
+        actions.len() as u32
+    } else {
+        9
+    };
+    [row.next as u32, row.transition, count, first]
+}
+
 fn is_row(row: Option<&Row>, expected: Option<[u32; 4]>) -> bool {
-    match (row, expected) {
-        (Some(r), Some([next, transition, actions, first])) => {
-            let found = match r.actions.get(0) {
-                Some(a) => *a as u32,
-                None => 0,
-            };
-            r.next as u32 == next
-                && r.transition == transition
-                && r.actions.len() == actions as usize
-                && found == first
-        }
-        (None, None) => true,
-        _ => false,
+    match row {
+        None => expected.is_none(),
+        Some(r) => match expected {
+            Some(numbers) => numbers_of(r) == numbers,
+            None => false,
+        },
     }
 }
 
