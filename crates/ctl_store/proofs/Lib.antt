@@ -1,0 +1,5 @@
+pub mod Beginning
+pub mod CallSteps
+pub mod MailSteps
+pub mod Stays
+pub mod TableSteps

@@ -1,0 +1,21 @@
+-- A call that does what a definition has leaves a lawful local lawful, where the definition does.
+use Rattle.std.proofs.Common.{◌≡◌, Result, Ok, Err, sym, subst}
+use Rattle.ruby_value.specs.declared.fault.Fault.{Fault}
+use Rattle.ctl_face.specs.declared.trouble.Trouble.{Trouble}
+use Rattle.ctl_face.specs.declared.trouble.Trouble.TheVariants as trouble
+use Rattle.ctl_face.specs.Does.{DoesWith}
+use Rattle.ctl_face.specs.Fits.{IsLawful}
+use Rattle.ctl_face.specs.LocalView.{LocalView}
+use Rattle.ctl_store.specs.Scanned.{IsScan, Scanned, local_of}
+
+pub stays_lawful : {A : Type 0} (want : Result LocalView Fault) (answer : A) (result : Result A Trouble) (v new : LocalView)
+    → ((after : LocalView) → want ≡ Ok after → IsLawful after) → IsLawful v → DoesWith want answer result v new → IsLawful new
+stays_lawful want answer (Ok a) v new kept lawful does = kept new does.comes.0
+stays_lawful want answer (Err (trouble.Fault fault)) v new kept lawful does = subst IsLawful (sym does.comes.1) lawful
+stays_lawful want answer (Err trouble.NoMemory) v new kept lawful does = subst IsLawful (sym does.comes) lawful
+
+-- what a call on the scan has done to the local that it is, and that it is a scan still
+pub record Steps {A : Type 0} (want : LocalView → Result LocalView Fault) (answer : LocalView → A) (result : Result A Trouble) (s new : Scanned) : Type 0 where
+  pub does : DoesWith (want (local_of s)) (answer (local_of s)) result (local_of s) (local_of new)
+  pub lawful : IsLawful (local_of new)
+  pub scan : IsScan new

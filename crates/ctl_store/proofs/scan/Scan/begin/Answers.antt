@@ -1,0 +1,14 @@
+use Rattle.ctl_store.proofs.Beginning.{begun_scan, begun_view}
+use Rattle.ctl_store.proofs.scan.Scan.begin.Goals as goal
+
+pub invariant_of-result : goal.invariant_of-result
+invariant_of-result c =
+    begun_scan c.args.parts.now c.args.routes.now c.args.seed c.args.now c.changes.result c.begin.result c.new.result
+    c.requires.kept c.requires.routes c.requires.cycle c.requires.fits
+    (begun_view c.args.parts.now c.args.routes.now c.args.seed c.args.now c.changes.result c.begin.result c.new.result c.changes.ensures.tables c.changes.ensures.states c.begin.ensures.none c.new.ensures.unchanged)
+    c.changes.ensures.replays c.begin.ensures.changes c.new.ensures.none c.new.ensures.fit
+
+pub returns : goal.returns
+returns c =
+    begun_view c.args.parts.now c.args.routes.now c.args.seed c.args.now c.changes.result c.begin.result c.new.result
+    c.changes.ensures.tables c.changes.ensures.states c.begin.ensures.none c.new.ensures.unchanged

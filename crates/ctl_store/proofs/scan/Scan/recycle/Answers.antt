@@ -1,0 +1,28 @@
+use Rattle.std.proofs.Common.{ℤ, subst, w64}
+use Rattle.std.proofs.lemmas.Int.{to_z-of_z}
+use Rattle.ctl_mail.specs.MailView.{MailDoes, view_recycled}
+use Rattle.ctl_mail.specs.Told.{told_by}
+use Rattle.ctl_face.specs.Recycle.{recycle}
+use Rattle.ctl_store.specs.Scanned.{scanned}
+use Rattle.ctl_store.proofs.MailSteps.{after, before, recycle_step, with_mail_changes}
+use Rattle.ctl_store.proofs.Stays.{Steps}
+use Rattle.ctl_store.proofs.scan.Scan.recycle.Goals as goal
+
+step : (c : goal.After-recycle)
+    → Steps (λ v. recycle v c.args.buffer c.args.latency) (λ v. tt) c.recycle.result c.args.self.now
+    (with_mail_changes (scanned c.self.inside.parts.now c.self.inside.routes.now c.self.inside.seed c.self.inside.changes) c.recycle.new.changes)
+step c =
+    recycle_step (scanned c.self.inside.parts.now c.self.inside.routes.now c.self.inside.seed c.self.inside.changes)
+    c.args.self.now c.recycle.new.changes c.recycle.result c.self.view_is c.self.invariant c.recycle.ensures.cycle c.recycle.ensures.changes
+    c.args.buffer c.args.latency
+    (subst (λ (z : ℤ). MailDoes (view_recycled (before (scanned c.self.inside.parts.now c.self.inside.routes.now c.self.inside.seed c.self.inside.changes) c.recycle.new.changes) c.args.buffer z (told_by c.self.inside.changes.mail).cycle) c.recycle.result (before (scanned c.self.inside.parts.now c.self.inside.routes.now c.self.inside.seed c.self.inside.changes) c.recycle.new.changes) (after (scanned c.self.inside.parts.now c.self.inside.routes.now c.self.inside.seed c.self.inside.changes) c.recycle.new.changes))
+    (to_z-of_z w64 c.args.latency c.ranges.latency) c.recycle.ensures.does)
+
+pub invariant_of-self : goal.invariant_of-self
+invariant_of-self c = (step c).scan
+
+pub returns-clause-does : goal.returns-clause-does
+returns-clause-does c = (step c).does
+
+pub returns-clause-lawful : goal.returns-clause-lawful
+returns-clause-lawful c = (step c).lawful

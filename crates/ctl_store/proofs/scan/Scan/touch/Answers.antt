@@ -1,0 +1,22 @@
+use Rattle.ctl_face.specs.Touch.{touch}
+use Rattle.ctl_store.specs.Scanned.{scanned}
+use Rattle.ctl_store.proofs.Stays.{Steps}
+use Rattle.ctl_store.proofs.TableSteps.{touch_step, with_changes}
+use Rattle.ctl_store.proofs.scan.Scan.touch.Goals as goal
+
+step : (c : goal.After-touch)
+    → Steps (λ v. touch v c.args.table c.args.line) (λ v. tt) c.touch.result c.args.self.now
+    (with_changes (scanned c.self.inside.parts.now c.self.inside.routes.now c.self.inside.seed c.self.inside.changes) c.touch.new.changes)
+step c =
+    touch_step (scanned c.self.inside.parts.now c.self.inside.routes.now c.self.inside.seed c.self.inside.changes)
+    c.args.self.now c.touch.new.changes c.args.table c.args.line c.touch.result
+    c.self.view_is c.self.invariant c.touch.ensures.does c.touch.ensures.states c.touch.ensures.replays
+
+pub invariant_of-self : goal.invariant_of-self
+invariant_of-self c = (step c).scan
+
+pub returns-clause-does : goal.returns-clause-does
+returns-clause-does c = (step c).does
+
+pub returns-clause-lawful : goal.returns-clause-lawful
+returns-clause-lawful c = (step c).lawful

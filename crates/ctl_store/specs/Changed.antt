@@ -1,0 +1,34 @@
+-- What the changes of a scan make of the controller that it began with. The view of a draft and the store that its changes were
+-- applied to are both this. Changes that finish requests fit a controller where each of these requests is outstanding at
+-- its turn, as in the controller that they are changes of.
+use Rattle.std.specs.Prelude.{◌≡◌, Option, None, Some, List, []}
+use Rattle.std.specs.Option.{option_map}
+use Rattle.ruby_value.specs.declared.asked.Answer.{Answer}
+use Rattle.ruby_value.specs.WithAll.{with_all}
+use Rattle.ctl_face.specs.Acts.{Acts}
+use Rattle.ctl_face.specs.Ctl.{Ctl, Requests}
+use Rattle.ctl_mail.specs.Told.{changed_mail, told_by}
+use Rattle.ctl_tables.specs.After.{after_changes}
+use Rattle.ctl_tables.specs.Stored.{log_of, state_log_of}
+use Rattle.sequencer.specs.Callbacks.{FitCallbacks, after_callbacks}
+use Rattle.ctl_store.specs.declared.changes.Changes.{Changes}
+use Rattle.ctl_store.specs.Kept.{face_requests, own_requests}
+
+abbrev pub after_calls : List Answer → Option Requests → Option Requests
+after_calls calls o = option_map (λ (r : Requests). face_requests (after_callbacks calls (own_requests r))) o
+
+abbrev pub FitCalls : List Answer → Option Requests → Type 0
+FitCalls calls None = calls ≡ []
+FitCalls calls (Some r) = FitCallbacks calls (own_requests r)
+
+abbrev pub changed_ctl : Changes → Ctl → Ctl
+changed_ctl changes ctl = record ctl {
+  tables = after_changes (log_of changes.tables) ctl.tables;
+  states = with_all ctl.states (state_log_of changes.tables);
+  mail = changed_mail ctl.mail (told_by changes.mail);
+  sequencer = after_calls changes.calls ctl.sequencer;
+}
+
+-- what the acts of the scan have done to messages
+abbrev pub acts_of : Changes → Acts
+acts_of changes = (told_by changes.mail).acts

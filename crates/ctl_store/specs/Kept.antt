@@ -1,0 +1,39 @@
+-- The controller that a store keeps, by the parts that keep it: tables and states, mail, and the requests of a sequencer where
+-- there is one. Beside it a store has what it was made for, and room in its containers, which is no part of a controller.
+use Rattle.std.specs.Prelude.{◌≡◌, Option, length, is_some, unwrap_or}
+use Rattle.std.specs.Option.{option_map}
+use Rattle.ruby_value.specs.Roomy.{Roomy}
+use Rattle.ctl_face.specs.Ctl.{Ctl, Requests}
+use Rattle.ctl_face.specs.IsMachine.{IsMachine}
+use Rattle.ctl_mail.specs.MailOf.{IsMail, buffer_count, mail_of}
+use Rattle.ctl_tables.specs.Stored.{default_of, states_of, tables_of}
+use Rattle.sequencer.specs.Requests as own
+use Rattle.ctl_store.specs.declared.parts.Parts.{Parts}
+
+-- the requests of a sequencer as those of a controller, and back
+abbrev pub face_requests : own.Requests → Requests
+face_requests r = record { outstanding = r.outstanding; finished = r.finished }
+
+abbrev pub own_requests : Requests → own.Requests
+own_requests r = record { outstanding = r.outstanding; finished = r.finished }
+
+abbrev pub requests_of : Option (Roomy own.Requests) → Option Requests
+requests_of s = option_map (λ (r : Roomy own.Requests). face_requests r.kept) s
+
+abbrev pub ctl_of : Parts → Ctl
+ctl_of p = record {
+  tables = tables_of p.tables;
+  states = states_of p.tables;
+  mail = mail_of p.mail;
+  sequencer = requests_of p.sequencer;
+  fired = p.fired;
+  stopped = p.stopped;
+}
+
+-- what holds of the parts of each store
+pub record IsKept (p : Parts) : Type 0 where
+  pub machine : IsMachine p.machine
+  pub default : default_of p.tables ≡ unwrap_or p.machine.default_state 0
+  pub mail : IsMail p.mail
+  pub buffers : buffer_count p.mail ≡ length p.machine.buffers
+  pub sequencer : is_some p.sequencer ≡ p.machine.has_sequencer

@@ -1,0 +1,4 @@
+pub mod Answered
+pub mod Changed
+pub mod Kept
+pub mod Scanned

@@ -1,0 +1,11 @@
+//! The store of a controller, and the draft of one of its scans, which reads through to the store, keeps what the scan
+//! changes, and is dropped or sealed. What is sealed can be applied to the store.
+#![tactic(auto)]
+
+mod changes;
+mod parts;
+mod scan;
+mod scan_calls;
+mod scan_mail;
+mod scan_tables;
+
