@@ -34,6 +34,13 @@ impl MailChanges {
         MailChanges::new(alloc, cycle)
     }
 
+    /// The cycle of the scan.
+    pub fn cycle(&self) -> u64
+        ensures { result ≡ (told_by self.now).cycle }
+    {
+        self.cycle
+    }
+
     // No changes yet, of a scan in this cycle.
     fn new(alloc: Global, cycle: u64) -> MailChanges
         ensures { told_by result ≡ record { cycle = cycle; log = []; acts = no_acts } }

@@ -1,7 +1,8 @@
 -- The controller that a store keeps, by the parts that keep it: tables and states, mail, and the requests of a sequencer where
 -- there is one. Beside it a store has what it was made for, and room in its containers, which is no part of a controller.
-use Rattle.std.specs.Prelude.{◌≡◌, Option, length, is_some, unwrap_or}
+use Rattle.std.specs.Prelude.{◌≡◌, ℕ, Option, length, is_some, unwrap_or}
 use Rattle.std.specs.Option.{option_map}
+use Rattle.ruby_value.specs.declared.setup.MachineSetup.{MachineSetup}
 use Rattle.ruby_value.specs.Roomy.{Roomy}
 use Rattle.ctl_face.specs.Ctl.{Ctl, Requests}
 use Rattle.ctl_face.specs.IsMachine.{IsMachine}
@@ -29,6 +30,13 @@ ctl_of p = record {
   fired = p.fired;
   stopped = p.stopped;
 }
+
+-- what the store was made for: a machine, and the controller's actor number
+abbrev pub machine_of : Parts → MachineSetup
+machine_of p = p.machine
+
+abbrev pub me_of : Parts → ℕ
+me_of p = p.me
 
 -- what holds of the parts of each store
 pub record IsKept (p : Parts) : Type 0 where

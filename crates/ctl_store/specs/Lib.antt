@@ -1,4 +1,5 @@
 pub mod Answered
 pub mod Changed
 pub mod Kept
+pub mod Room
 pub mod Scanned

@@ -3,9 +3,13 @@
 #![tactic(auto)]
 
 mod changes;
+mod draft;
+mod draft_local;
 mod parts;
 mod scan;
 mod scan_calls;
 mod scan_mail;
 mod scan_tables;
+mod store;
+mod stubs;
 

@@ -75,4 +75,16 @@ impl<'a> Scan<'a> {
     {
         let _open = &self.seed;
     }
+
+    pub(crate) fn now(&self) -> u64
+        ensures { result ≡ (local_of self.now).now }
+    {
+        self.changes.mail.cycle()
+    }
+
+    pub(crate) fn me(&self) -> u32
+        ensures { result ≡ (local_of self.now).actor.me }
+    {
+        self.parts.me
+    }
 }

@@ -1,0 +1,23 @@
+-- The room that a store has beside its controller: for messages that arrive, each with its mark, and for the changes of a scan.
+-- Of both there is room for one mark more.
+use Rattle.std.specs.Prelude.{◌≡◌, ◌<◌, ℕ}
+use Rattle.ctl_mail.specs.Room as mail_room
+use Rattle.ctl_mail.specs.Told.{told_by}
+use Rattle.ctl_tables.specs.Stored as tables
+use Rattle.ctl_store.specs.declared.changes.Changes.{Changes}
+use Rattle.ctl_store.specs.declared.parts.Parts.{Parts}
+
+abbrev pub HasRoomForMessages : Parts → ℕ → Type 0
+HasRoomForMessages p messages = mail_room.HasRoomFor p.mail messages
+
+abbrev pub HasRoomForMark : Parts → Type 0
+HasRoomForMark p = 0 < mail_room.mark_room p.mail
+
+pub record HasRoomForChanges (p : Parts) (changes : Changes) : Type 0 where
+  pub tables : tables.HasRoomFor changes.tables p.tables
+  pub mail : mail_room.HasRoom p.mail (told_by changes.mail)
+
+-- what a store was made for stays
+pub record IsSameStore (old new : Parts) : Type 0 where
+  pub machine : new.machine ≡ old.machine
+  pub me : new.me ≡ old.me

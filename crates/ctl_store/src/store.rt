@@ -1,0 +1,117 @@
+ghost use Rattle.std.specs.Prelude.{◌≡◌, IfOk, OnOk, is_some};
+ghost use Rattle.ctl_face.specs.Between.{at_cycle, with_stop, with_wake_up};
+ghost use Rattle.ctl_face.specs.IsMachine.{IsMachine};
+ghost use Rattle.ctl_face.specs.Opening.{no_requests, opening_ctl};
+ghost use Rattle.ctl_store.specs.Kept.{ctl_of, machine_of, me_of, requests_of};
+ghost use Rattle.ctl_store.specs.Room.{HasRoomForMark, HasRoomForMessages, IsSameStore};
+
+use crate::parts::Parts;
+use ctl_face::MachineSetup;
+use ctl_mail::MailStore;
+use ctl_tables::Tables;
+use ruby_value::NoMemory;
+use sequencer::Sequencer;
+use std::alloc::Global;
+use std::marker::Model;
+
+/// The store of a controller: its tables and states, its mail and its sequencer's requests, as they are between scans. A contract
+/// sees its controller by `ctl_of`, what it was made for by `machine_of` and `me_of`, and beside them the room of its containers.
+#[derive(Drop)]
+pub struct Store {
+    pub(crate) parts: Parts,
+}
+
+impl Model for Store {
+    ghost use Rattle.std.specs.Coded.{codes};
+    ghost use Rattle.ctl_store.specs.contracts.parts.Parts as parts_type;
+    ghost use Rattle.ctl_store.specs.declared.parts.Parts.{Parts as PartsRecord};
+    ghost use Rattle.ctl_store.specs.Kept.{IsKept};
+
+    ghost Value = { PartsRecord };
+
+    ghost coded = { parts_type.the_row.coded };
+
+    ghost view = { λ s. s.parts };
+
+    ghost invariant = { λ s. IsKept s.parts };
+}
+
+// The sequencer of a machine, if it has one.
+fn sequencer_of(alloc: Global, machine: &MachineSetup) -> Option<Sequencer>
+    ensures requests { requests_of result ≡ no_requests machine.now.has_sequencer }
+    ensures there { is_some result ≡ machine.now.has_sequencer }
+{
+    if machine.has_sequencer {
+        Some(Sequencer::new(alloc))
+    } else {
+        None
+    }
+}
+
+impl Store {
+    /// The store of a controller of a machine, with this actor number, as a run begins.
+    pub fn of(alloc: Global, machine: MachineSetup, me: u32) -> Result<Store, NoMemory>
+        requires { IsMachine machine }
+        ensures machine { IfOk result (λ s. machine_of s ≡ machine) }
+        ensures me { IfOk result (λ s. me_of s ≡ me) }
+        ensures opening { IfOk result (λ s. ctl_of s ≡ opening_ctl machine) }
+    {
+        let sequencer = sequencer_of(alloc, &machine);
+        let mail = MailStore::new(alloc, machine.buffers.len())?;
+        let tables = Tables::new(alloc, &machine.tables, machine.default_state.unwrap_or(0))?;
+        Ok(Store {
+            parts: Parts {
+                machine,
+                me,
+                tables,
+                mail,
+                sequencer,
+                fired: 0,
+                stopped: false,
+            },
+        })
+    }
+
+    /// Makes room for so many messages that arrive, each with its mark, and for one mark beside them, or answers that there is no
+    /// memory for them. The controller stays as it is.
+    pub fn room(&mut self, messages: u32) -> Result<(), NoMemory>
+        ensures same { ctl_of self.new ≡ ctl_of self.old }
+        ensures store { IsSameStore self.old self.new }
+        ensures ok { OnOk result (HasRoomForMessages self.new messages) }
+    {
+        self.parts.mail.room(messages as usize)
+    }
+
+    /// Sets a mark: a cycle at which the controller must wake. It takes no memory.
+    pub fn mark(&mut self, cycle: u64)
+        requires { HasRoomForMark self.old }
+        ensures after { ctl_of self.new ≡ with_wake_up (ctl_of self.old) cycle }
+        ensures store { IsSameStore self.old self.new }
+    {
+        self.parts.mail.mark(cycle);
+    }
+
+    /// Keeps that the controller has stopped.
+    pub fn halt(&mut self)
+        ensures after { ctl_of self.new ≡ with_stop (ctl_of self.old) }
+        ensures store { IsSameStore self.old self.new }
+    {
+        self.parts.stopped = true;
+    }
+
+    /// Begins a cycle: the marks below it are dropped, and nothing is counted in it yet. It takes no memory.
+    pub fn begin(&mut self, now: u64)
+        ensures after { ctl_of self.new ≡ at_cycle (ctl_of self.old) now }
+        ensures store { IsSameStore self.old self.new }
+    {
+        self.parts.mail.begin(now);
+        self.parts.fired = 0;
+    }
+
+    /// How many transitions have fired in this cycle.
+    pub fn fired(&self) -> u64
+        ensures { result ≡ (ctl_of self.now).fired }
+    {
+        self.parts.fired
+    }
+}
