@@ -41,6 +41,13 @@ impl MailChanges {
         self.cycle
     }
 
+    /// Whether the scan called `again`.
+    pub fn stalled(&self) -> bool
+        ensures { result ≡ (told_by self.now).acts.again }
+    {
+        self.again
+    }
+
     // No changes yet, of a scan in this cycle.
     fn new(alloc: Global, cycle: u64) -> MailChanges
         ensures { told_by result ≡ record { cycle = cycle; log = []; acts = no_acts } }

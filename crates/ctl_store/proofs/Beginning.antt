@@ -20,6 +20,7 @@ use Rattle.ctl_tables.specs.Stored as tables
 use Rattle.sequencer.specs.Callbacks.{FitCallbacks, after_callbacks}
 use Rattle.sequencer.specs.Requests as own
 use Rattle.ctl_store.specs.declared.parts.Parts.{Parts}
+use Rattle.ctl_store.proofs.Joined.{four}
 use Rattle.ctl_store.specs.Changed.{FitCalls, after_calls}
 use Rattle.ctl_store.specs.Kept.{IsKept, ctl_of, face_requests, own_requests}
 use Rattle.ctl_store.specs.Scanned.{IsScan, Scanned, local_of, scanned}
@@ -31,10 +32,6 @@ no_calls calls (Some r) same = ap (λ (s : own.Requests). Some (face_requests s)
 fit_none : (calls : List Answer) (o : Option Requests) → calls ≡ [] → ((r : own.Requests) → FitCallbacks calls r) → FitCalls calls o
 fit_none calls None none fit = none
 fit_none calls (Some r) none fit = fit (own_requests r)
-
-four : {A B C D E : Type 0} (f : A → B → C → D → E) {a a' : A} {b b' : B} {c c' : C} {d d' : D} → a ≡ a' → b ≡ b' → c ≡ c' → d ≡ d' → f a b c d ≡ f a' b' c' d'
-four f {a = a} {a' = a'} {b = b} {b' = b'} {c = c} {c' = c'} {d = d} {d' = d'} ea eb ec ed =
-    ap (λ x. f x b c d) ea ∙ ap (λ x. f a' x c d) eb ∙ ap (λ x. f a' b' x d) ec ∙ ap (λ x. f a' b' c' x) ed
 
 none_made : (now : ℕ) (m : Mail) → mail.after_acts now m [] ≡ m
 unfolding mail.after_acts

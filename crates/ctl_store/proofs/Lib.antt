@@ -1,5 +1,6 @@
 pub mod Beginning
 pub mod CallSteps
+pub mod Joined
 pub mod MailSteps
 pub mod Stays
 pub mod TableSteps

@@ -1,6 +1,6 @@
 -- The controller that a store keeps, by the parts that keep it: tables and states, mail, and the requests of a sequencer where
 -- there is one. Beside it a store has what it was made for, and room in its containers, which is no part of a controller.
-use Rattle.std.specs.Prelude.{◌≡◌, ℕ, Option, length, is_some, unwrap_or}
+use Rattle.std.specs.Prelude.{◌≡◌, ℕ, Option, length, unwrap_or}
 use Rattle.std.specs.Option.{option_map}
 use Rattle.ruby_value.specs.declared.setup.MachineSetup.{MachineSetup}
 use Rattle.ruby_value.specs.Roomy.{Roomy}
@@ -44,4 +44,3 @@ pub record IsKept (p : Parts) : Type 0 where
   pub default : default_of p.tables ≡ unwrap_or p.machine.default_state 0
   pub mail : IsMail p.mail
   pub buffers : buffer_count p.mail ≡ length p.machine.buffers
-  pub sequencer : is_some p.sequencer ≡ p.machine.has_sequencer

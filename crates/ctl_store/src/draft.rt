@@ -1,11 +1,12 @@
-ghost use Rattle.std.specs.Prelude.{◌≡◌, ◌≤◌};
-ghost use Rattle.ctl_face.specs.Fits.{Fits, IsLawful, last_cycle};
-ghost use Rattle.ctl_face.specs.RoutesFit.{HasRoutes};
-ghost use Rattle.ctl_face.specs.ScanView.{scan_view};
-ghost use Rattle.ctl_store.specs.Kept.{IsKept, ctl_of};
+ghost use Rattle.ctl_face.specs.Fits.{IsLawful};
 ghost use Rattle.ctl_store.specs.Scanned.{local_of};
 
+use crate::outcome::Outcome;
 use crate::scan::Scan;
+use crate::store::Store;
+use ctl_face::Routes;
+use run_journal::FireNote;
+use std::alloc::Global;
 
 /// A draft of one scan of the controller that a store keeps: it reads through to the store, and keeps beside it what the scan
 /// changes. A draft that is dropped has changed nothing; one that is sealed gives what it has changed, to be applied to the store.
@@ -13,4 +14,42 @@ use crate::scan::Scan;
 pub struct Draft<'a> {
     pub(crate) scan: Scan<'a>,
     ghost lawful: { ∥ IsLawful (local_of scan) ∥₁ },
+}
+
+impl<'a> Draft<'a> {
+    ghost use Rattle.std.specs.Prelude.{◌≡◌, ◌≤◌};
+    ghost use Rattle.ctl_face.specs.Fits.{Fits, last_cycle};
+    ghost use Rattle.ctl_face.specs.RoutesFit.{HasRoutes};
+    ghost use Rattle.ctl_face.specs.ScanView.{scan_view};
+    ghost use Rattle.ctl_store.specs.Drafted.{view_of};
+    ghost use Rattle.ctl_store.specs.Kept.{ctl_of, machine_of, me_of};
+    ghost use Rattle.ctl_store.specs.Sealed.{IsOutcomeOf};
+
+    /// A draft of a scan of the store's controller in a cycle, which has changed nothing yet: the controller fits its machine in
+    /// this cycle, and the routes are ones that it may go by. It takes no memory.
+    pub fn on(alloc: Global, store: &'a Store, routes: &'a Routes, seed: u64, now: u64) -> Draft<'a>
+        requires routes { HasRoutes (machine_of store.now) (me_of store.now) routes.now }
+        requires cycle { now ≤ last_cycle }
+        requires fits { Fits (machine_of store.now) (me_of store.now) (ctl_of store.now) now }
+        ensures { view_of result ≡ scan_view (machine_of store.now)
+            (record { me = me_of store.now; seed = seed; routes = routes.now }) now (ctl_of store.now) }
+    {
+        let scan = Scan::begin(alloc, &store.parts, routes, seed, now);
+        scan.law();
+        Draft { scan }
+    }
+
+    /// Whether the scan was to wait: it called `again`.
+    pub fn stalled(&self) -> bool
+        ensures { result ≡ (view_of self.now).acts.again }
+    {
+        self.scan.stalled()
+    }
+
+    /// Ends the draft of a scan that fired a transition, and gives what it has changed. It takes no memory.
+    pub fn seal(self, note: FireNote) -> Outcome
+        ensures { IsOutcomeOf (view_of self.entry) note result }
+    {
+        self.scan.seal(note)
+    }
 }

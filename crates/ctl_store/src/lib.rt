@@ -5,6 +5,8 @@
 mod changes;
 mod draft;
 mod draft_local;
+mod lending;
+mod outcome;
 mod parts;
 mod scan;
 mod scan_calls;
@@ -13,3 +15,6 @@ mod scan_tables;
 mod store;
 mod stubs;
 
+pub use draft::Draft;
+pub use outcome::Outcome;
+pub use store::Store;

@@ -4,12 +4,14 @@ ghost use Rattle.ctl_face.specs.RoutesFit.{HasRoutes};
 ghost use Rattle.ctl_face.specs.ScanView.{scan_view};
 ghost use Rattle.ctl_store.specs.Kept.{IsKept, ctl_of};
 ghost use Rattle.ctl_store.specs.Scanned.{local_of};
+ghost use Rattle.ctl_store.specs.Sealed.{IsOutcomeOf};
 
 use crate::changes::Changes;
+use crate::outcome::Outcome;
 use crate::parts::Parts;
 use ctl_face::Routes;
 use ctl_mail::MailChanges;
-use ctl_tables::TableChanges;
+use run_journal::FireNote;
 use sequencer::Callbacks;
 use std::alloc::Global;
 use std::marker::Model;
@@ -86,5 +88,20 @@ impl<'a> Scan<'a> {
         ensures { result ≡ (local_of self.now).actor.me }
     {
         self.parts.me
+    }
+
+    pub(crate) fn stalled(&self) -> bool
+        ensures { result ≡ (local_of self.now).acts.again }
+    {
+        self.changes.mail.stalled()
+    }
+
+    pub(crate) fn seal(self, note: FireNote) -> Outcome
+        ensures { IsOutcomeOf (local_of self.entry) note result }
+    {
+        Outcome {
+            changes: self.changes,
+            note,
+        }
     }
 }

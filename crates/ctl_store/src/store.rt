@@ -1,4 +1,4 @@
-ghost use Rattle.std.specs.Prelude.{◌≡◌, IfOk, OnOk, is_some};
+ghost use Rattle.std.specs.Prelude.{◌≡◌, IfOk, OnOk};
 ghost use Rattle.ctl_face.specs.Between.{at_cycle, with_stop, with_wake_up};
 ghost use Rattle.ctl_face.specs.IsMachine.{IsMachine};
 ghost use Rattle.ctl_face.specs.Opening.{no_requests, opening_ctl};
@@ -38,8 +38,7 @@ impl Model for Store {
 
 // The sequencer of a machine, if it has one.
 fn sequencer_of(alloc: Global, machine: &MachineSetup) -> Option<Sequencer>
-    ensures requests { requests_of result ≡ no_requests machine.now.has_sequencer }
-    ensures there { is_some result ≡ machine.now.has_sequencer }
+    ensures { requests_of result ≡ no_requests machine.now.has_sequencer }
 {
     if machine.has_sequencer {
         Some(Sequencer::new(alloc))
