@@ -4,7 +4,7 @@ ghost use Rattle.ctl_store.specs.Scanned.{local_of};
 use crate::outcome::Outcome;
 use crate::scan::Scan;
 use crate::store::Store;
-use ctl_face::Routes;
+use ctl_face::{MachineSetup, Routes};
 use run_journal::FireNote;
 use std::alloc::Global;
 
@@ -39,6 +39,20 @@ impl<'a> Draft<'a> {
         Draft { scan }
     }
 
+    /// What the machine is to the draft's controller.
+    pub fn machine(&self) -> &MachineSetup
+        ensures { result.now ≡ (view_of self.now).machine }
+    {
+        self.scan.machine()
+    }
+
+    /// What holds of each draft. It does nothing.
+    pub fn law(&self)
+        ensures { IsLawful (view_of self.now) }
+    {
+        self.scan.law();
+    }
+
     /// Whether the scan was to wait: it called `again`.
     pub fn stalled(&self) -> bool
         ensures { result ≡ (view_of self.now).acts.again }
@@ -48,8 +62,10 @@ impl<'a> Draft<'a> {
 
     /// Ends the draft of a scan that fired a transition, and gives what it has changed. It takes no memory.
     pub fn seal(self, note: FireNote) -> Outcome
-        ensures { IsOutcomeOf (view_of self.entry) note result }
+        ensures outcome { IsOutcomeOf (view_of self.entry) note result }
+        ensures lawful { IsLawful (view_of self.entry) }
     {
+        self.scan.law();
         self.scan.seal(note)
     }
 }

@@ -2,6 +2,7 @@
 //! changes, and is dropped or sealed. What is sealed can be applied to the store.
 #![tactic(auto)]
 
+mod applying;
 mod changes;
 mod draft;
 mod draft_local;

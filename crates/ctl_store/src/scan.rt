@@ -9,7 +9,7 @@ ghost use Rattle.ctl_store.specs.Sealed.{IsOutcomeOf};
 use crate::changes::Changes;
 use crate::outcome::Outcome;
 use crate::parts::Parts;
-use ctl_face::Routes;
+use ctl_face::{MachineSetup, Routes};
 use ctl_mail::MailChanges;
 use run_journal::FireNote;
 use sequencer::Callbacks;
@@ -103,5 +103,11 @@ impl<'a> Scan<'a> {
             changes: self.changes,
             note,
         }
+    }
+
+    pub(crate) fn machine(&self) -> &MachineSetup
+        ensures { result.now ≡ (local_of self.now).machine }
+    {
+        &self.parts.machine
     }
 }

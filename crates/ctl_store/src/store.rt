@@ -1,12 +1,13 @@
-ghost use Rattle.std.specs.Prelude.{◌≡◌, IfOk, OnOk};
-ghost use Rattle.ctl_face.specs.Between.{at_cycle, with_stop, with_wake_up};
+ghost use Rattle.std.specs.Prelude.{◌≡◌, ◌<◌, ◌+◌, ℕ, IfOk, OnOk, length};
+ghost use Rattle.ctl_face.specs.Between.{at_cycle, with_arrival, with_stop, with_wake_up};
 ghost use Rattle.ctl_face.specs.IsMachine.{IsMachine};
 ghost use Rattle.ctl_face.specs.Opening.{no_requests, opening_ctl};
+ghost use Rattle.ctl_mail.specs.MailOf.{IsNewIn};
 ghost use Rattle.ctl_store.specs.Kept.{ctl_of, machine_of, me_of, requests_of};
 ghost use Rattle.ctl_store.specs.Room.{HasRoomForMark, HasRoomForMessages, IsSameStore};
 
 use crate::parts::Parts;
-use ctl_face::MachineSetup;
+use ctl_face::{MachineSetup, Message};
 use ctl_mail::MailStore;
 use ctl_tables::Tables;
 use ruby_value::NoMemory;
@@ -112,5 +113,33 @@ impl Store {
         ensures { result ≡ (ctl_of self.now).fired }
     {
         self.parts.fired
+    }
+
+    /// Takes a message in, with a mark for its arrival: another actor's, whose number isn't in the inbox, for one of the
+    /// machine's buffers. It takes no memory.
+    pub fn arrive(&mut self, m: Message)
+        requires new { IsNewIn (ctl_of self.old).mail m.number }
+        requires buffer { m.buffer < length (machine_of self.old).buffers }
+        requires room { HasRoomForMessages self.old 1 }
+        ensures after { ctl_of self.new ≡ with_arrival (ctl_of self.old) m }
+        ensures store { IsSameStore self.old self.new }
+        ensures room { (more : ℕ) → HasRoomForMessages self.old (more + 1) → HasRoomForMessages self.new more }
+    {
+        self.parts.mail.arrive(m);
+    }
+
+    /// What the machine is to the store's controller.
+    pub fn machine(&self) -> &MachineSetup
+        ensures machine { result.now ≡ machine_of self.now }
+        ensures lawful { IsMachine (machine_of self.now) }
+    {
+        &self.parts.machine
+    }
+
+    /// The controller's actor number.
+    pub fn me(&self) -> u32
+        ensures { result ≡ me_of self.now }
+    {
+        self.parts.me
     }
 }
