@@ -1,4 +1,5 @@
 pub mod Backwards
+pub mod Counting
 pub mod Doing
 pub mod Effects
 pub mod Finding

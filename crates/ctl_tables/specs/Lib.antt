@@ -3,6 +3,7 @@ pub mod Change
 pub mod Container
 pub mod Frames
 pub mod Logged
+pub mod Places
 pub mod Stored
 pub mod TableActs
 pub mod Told

@@ -7,6 +7,7 @@ mod change;
 mod held;
 mod lines;
 mod newest;
+mod places;
 mod reads;
 mod states;
 mod stored;

@@ -13,7 +13,7 @@ use ruby_value::Fault;
 
 impl Tables {
     // Whether lines can be taken out of the table.
-    fn loses_lines(&self, table: u16) -> bool
+    pub(crate) fn loses_lines(&self, table: u16) -> bool
         ensures kind { result ≡ loses_lines (frame_at (tables_of self.now) table) }
         ensures law { IfSome (slice_get (tables_of self.now) table) IsTable }
     {
@@ -24,7 +24,7 @@ impl Tables {
     }
 
     // Whether the table keeps an order of use.
-    fn keeps_order(&self, table: u16) -> bool
+    pub(crate) fn keeps_order(&self, table: u16) -> bool
         ensures kind { result ≡ keeps_order (frame_at (tables_of self.now) table) }
         ensures law { IfSome (slice_get (tables_of self.now) table) IsTable }
     {
