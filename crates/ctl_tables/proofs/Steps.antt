@@ -131,3 +131,7 @@ module _ (n : ℕ) where
   unfolding after_changes Replays
   frames_after [] ts replays law = refl
   frames_after (c ∷ older) ts replays law = frame_step c (after_changes older ts) replays.0 n (law_after older ts replays.1 law) ∙ frames_after older ts replays.1 law
+
+  -- what was asked of the table before the log
+  pub kind_now : (log : List TableChange) (ts : List Table) → Replays log ts → IfSome (slice_get ts n) IsTable → (kind : Option Frame → Bool) (is : Bool) → is ≡ kind (frame_at ts n) → kind (frame_at (after_changes log ts) n) ≡ is
+  kind_now log ts replays law kind is told = ap kind (frames_after log ts replays law) ∙ sym told

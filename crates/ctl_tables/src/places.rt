@@ -4,7 +4,7 @@ ghost use Rattle.ctl_tables.specs.Container.{table_of};
 ghost use Rattle.ctl_tables.specs.Frames.{frame_of};
 ghost use Rattle.ctl_tables.specs.Places.{lines_after, lines_changed, lines_beside, lines_with, places_of, room_in, share_places};
 ghost use Rattle.ctl_tables.specs.Stored.{tables_now, AreOf};
-ghost use Rattle.ctl_tables.specs.TableActs.{free_from};
+ghost use Rattle.ctl_tables.specs.TableActs.{avail_from, free_from};
 
 use crate::change::{Edit, TableChange, TableChanges};
 use crate::held::Tables;
@@ -114,5 +114,18 @@ impl Tables {
         } else {
             self.room(changes, table, 0)
         }
+    }
+    /// Whether the line is in the cache or its set has a free way, and true for each table that is no cache. It takes no memory.
+    pub fn avail(&self, changes: &TableChanges, table: u16, line: u64) -> bool
+        requires { AreOf changes.now self.now }
+        ensures { result ≡ avail_from (tables_now self.now changes.now) table line }
+    {
+        if !self.keeps_order(table) {
+            return true;
+        }
+        if self.has_line(changes, table, line) {
+            return true;
+        }
+        self.room(changes, table, line) > 0
     }
 }
