@@ -1,5 +1,5 @@
 -- How many lines share places with a line, after a change and after the changes of a log.
-use Rattle.std.proofs.Common.{◌≡◌, ◌≢◌, ◌<◌, ℕ, ◌+◌, ◌-◌, ◌%◌, get_or, reverse, take, Bool, true, false, cond, not, ◌&&◌, eqb, List, [], ◌∷◌, ◌++◌, length, set, Option, None, Some, is_some, IfSome, Result, Ok, Err, slice_get, refl, sym, ap, ◌∙◌, inl, inr, arith, length-append}
+use Rattle.std.proofs.Common.{◌≡◌, ◌<◌, ℕ, ◌+◌, ◌-◌, ◌%◌, get_or, reverse, take, true, false, cond, not, eqb, List, [], ◌∷◌, ◌++◌, length, set, Option, None, Some, is_some, IfSome, slice_get, refl, sym, ap, ◌∙◌, inl, inr, arith, length-append}
 use mathlib.Core.Bool.{true≢false}
 use Rattle.std.proofs.lemmas.Bool.{cases_eq, eq-eqb, ne_eqb}
 use Rattle.std.proofs.lemmas.Map.{length-set_value}

@@ -6,6 +6,7 @@ pub mod Effects
 pub mod Finding
 pub mod Losing
 pub mod Readings
+pub mod Recent
 pub mod Replaying
 pub mod Sets
 pub mod StatesSet

@@ -4,6 +4,7 @@ pub mod Container
 pub mod Frames
 pub mod Logged
 pub mod Places
+pub mod Recency
 pub mod Stored
 pub mod TableActs
 pub mod Told

@@ -9,6 +9,7 @@ mod lines;
 mod newest;
 mod places;
 mod reads;
+mod recency;
 mod states;
 mod stored;
 mod tables;

@@ -1,9 +1,7 @@
-use Rattle.std.proofs.Common.{◌≡◌, ◌∙◌, true, false, ap, is_some, sym}
-use Rattle.std.proofs.lemmas.Bool.{not-false}
+use Rattle.std.proofs.Common.{◌∙◌, ap, sym}
 use Rattle.std.specs.Bool.{nat_lt}
-use Rattle.ctl_tables.specs.Frames.{frame_at, keeps_order}
+use Rattle.ctl_tables.specs.Frames.{keeps_order}
 use Rattle.ctl_tables.specs.Stored.{log_of, tables_now, tables_of}
-use Rattle.ctl_tables.specs.TableActs.{fields_at}
 use Rattle.ctl_tables.proofs.Adding.{avail_left, avail_other, avail_there}
 use Rattle.ctl_tables.proofs.Steps.{kind_now}
 use Rattle.ctl_tables.proofs.held.Tables.avail.Goals as goal
