@@ -115,6 +115,7 @@ impl Tables {
             self.room(changes, table, 0)
         }
     }
+
     /// Whether the line is in the cache or its set has a free way, and true for each table that is no cache. It takes no memory.
     pub fn avail(&self, changes: &TableChanges, table: u16, line: u64) -> bool
         requires { AreOf changes.now self.now }
