@@ -1,5 +1,5 @@
 // The least recently used line of a set of a cache, through the changes of a scan.
-ghost use Rattle.std.specs.Prelude.{◌≡◌, ◌&&◌, false, Some, IfNone, IfSome, reverse, slice_get};
+ghost use Rattle.std.specs.Prelude.{◌≡◌, ◌&&◌, false, Some, IfErr, IfNone, IfSome, reverse, slice_get};
 ghost use Rattle.std.specs.List.{find, list_any};
 ghost use Rattle.ruby_value.specs.SetOf.{set_of};
 ghost use Rattle.ctl_face.specs.Avail.{least_used_in};
@@ -148,7 +148,8 @@ impl Tables {
     /// takes no memory.
     pub fn probe(&self, changes: &TableChanges, table: u16, line: u64) -> Result<u64, Trouble>
         requires { AreOf changes.now self.now }
-        ensures { Reads (probe_from (tables_now self.now changes.now) table line) result }
+        ensures answer { Reads (probe_from (tables_now self.now changes.now) table line) result }
+        ensures fault { IfErr result (λ trouble. trouble ≡ Trouble.Fault Fault.Probe) }
     {
         if self.avail(changes, table, line) {
             return Err(Trouble::Fault(Fault::Probe));
