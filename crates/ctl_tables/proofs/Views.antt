@@ -93,8 +93,10 @@ module _ (v : LocalView) (ts : List Table) (states : map.FinMap nat_cmp ℕ) whe
     pub set_does : (r : Ref) (field : ℕ) (value : Value) (result : Result (Unit {0}) Trouble) → after ≡ states → DoesIn (set_in ts r field value) result ts new → Does (set_field (with_held v ts states) r field value) result (with_held v ts states) (with_held v new after)
     set_does r field value result same does = does_with tt r.table (λ t. table_with_field t r.line field value (fields_in t r.line)) result same does (unit_is result)
 
-    pub allocate_does : (table line : ℕ) (result : Result Ref Trouble) → after ≡ states → DoesIn (allocate_in ts table line (initial_fields v.machine table)) result ts new → IfOk result (λ r. r ≡ reference_to table line) → DoesWith (allocate (with_held v ts states) table line) (reference_to table line) result (with_held v ts states) (with_held v new after)
-    allocate_does table line result same does is = does_with (reference_to table line) table (with_line (initial_fields v.machine table) line) result same does is
+    pub allocate_does : (table line : ℕ) (fields : List Value) (result : Result Ref Trouble) → fields ≡ initial_fields v.machine table → after ≡ states → DoesIn (allocate_in ts table line fields) result ts new → IfOk result (λ r. r ≡ reference_to table line) → DoesWith (allocate (with_held v ts states) table line) (reference_to table line) result (with_held v ts states) (with_held v new after)
+    allocate_does table line fields result first same does is =
+        let P : List Value → Type 0 = λ fs. DoesIn (allocate_in ts table line fs) result ts new in
+        does_with (reference_to table line) table (with_line (initial_fields v.machine table) line) result same (subst P first does) is
 
     pub deallocate_does : (table line : ℕ) (result : Result (Unit {0}) Trouble) → after ≡ states → DoesIn (deallocate_in ts table line) result ts new → Does (deallocate (with_held v ts states) table line) result (with_held v ts states) (with_held v new after)
     deallocate_does table line result same does = does_with tt table (without_line_in line) result same does (unit_is result)

@@ -35,7 +35,7 @@ impl Tables {
         }
     }
 
-    // Puts a line with its fields into a table for which lines can be allocated.
+    // What `allocate` does, without its answer.
     fn add(
         &self,
         changes: &mut TableChanges,
