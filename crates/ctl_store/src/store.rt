@@ -58,7 +58,7 @@ impl Store {
     {
         let sequencer = sequencer_of(alloc, &machine);
         let mail = MailStore::new(alloc, machine.buffers.len())?;
-        let tables = Tables::new(alloc, &machine.tables, machine.default_state.unwrap_or(0))?;
+        let tables = Tables::new(alloc, &machine)?;
         Ok(Store {
             parts: Parts {
                 machine,

@@ -19,32 +19,6 @@ use ctl_face::Trouble;
 use ruby_value::{Fields, Message, Ref};
 
 impl<'a> Scan<'a> {
-    pub(crate) fn avail(&self, table: u16, line: u64) -> bool
-        ensures { result ≡ avail (local_of self.now) table line }
-    {
-        true
-    }
-
-    pub(crate) fn probe(&self, table: u16, line: u64) -> Result<u64, Trouble>
-        ensures { Reads (probe (local_of self.now) table line) result }
-    {
-        Err(Trouble::NoMemory)
-    }
-
-    pub(crate) fn allocate(&mut self, table: u16, line: u64) -> Result<Ref, Trouble>
-        requires line { IsLine line }
-        ensures does { DoesWith (allocate (local_of self.old) table line) (reference_to table line) result (local_of self.old) (local_of self.new) }
-        ensures lawful { IsLawful (local_of self.new) }
-    {
-        Err(Trouble::NoMemory)
-    }
-
-    pub(crate) fn free(&self, table: u16) -> u64
-        ensures { result ≡ free (local_of self.now) table }
-    {
-        0
-    }
-
     pub(crate) fn ready(&self, buffer: u16) -> bool
         ensures { result ≡ ready (local_of self.now) buffer }
     {
@@ -87,12 +61,4 @@ impl<'a> Scan<'a> {
         Err(Trouble::NoMemory)
     }
 
-    pub(crate) fn set_state(&mut self, line: u64, state: u16) -> Result<(), Trouble>
-        requires served { HasStates (local_of self.old) }
-        requires line { IsLine line }
-        ensures does { Does (Ok (set_state (local_of self.old) line state)) result (local_of self.old) (local_of self.new) }
-        ensures lawful { IsLawful (local_of self.new) }
-    {
-        Err(Trouble::NoMemory)
-    }
 }
