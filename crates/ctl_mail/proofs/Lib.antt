@@ -14,6 +14,7 @@ mod Leasts
 pub mod Locals
 mod Makes
 mod AfterMoves
+mod NextMarks
 mod Pops
 mod Puts
 mod Rises

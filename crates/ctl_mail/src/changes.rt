@@ -54,6 +54,13 @@ impl MailChanges {
         }
     }
 
+    /// Whether the scan was told to wake the controller again.
+    pub fn stalled(&self) -> bool
+        ensures { result ≡ (told_by self.now).acts.again }
+    {
+        self.again
+    }
+
     // Whether the message of this number is consumed, or arrives again in a later cycle, since the scan began.
     pub(crate) fn is_gone(&self, number: MsgNo) -> bool
         ensures { IsTrue result ↔ IsGone (told_by self.now).acts number }
