@@ -86,3 +86,10 @@ all-no-lasts (n ∷ ns) all =
     let first : n.kept ≡ empty = All-head (λ (r : Roomy Lasts). r.kept ≡ empty) n ns all in
     let rest : map (λ (r : Roomy Lasts). r.kept) ns ≡ replicate (length ns) empty = all-no-lasts ns (All-tail (λ (r : Roomy Lasts). r.kept ≡ empty) n ns all) in
     ap (λ (x : Lasts). x ∷ map (λ (r : Roomy Lasts). r.kept) ns) first ∙ ap (λ (xs : List Lasts). empty ∷ xs) rest
+
+-- where there is room there is a buffer
+pub within-room : (queues : Queues) (buffer : ℕ) → 0 < room_of queues buffer → buffer < length queues
+unfolding room_of
+within-room [] buffer room = absurd (omega arith)
+within-room (q ∷ qs) zero room = omega arith
+within-room (q ∷ qs) (suc buffer) room = let so : buffer < length qs = within-room qs buffer room in omega arith

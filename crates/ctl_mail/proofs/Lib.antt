@@ -1,13 +1,25 @@
 mod Acts
 mod Ascending
+mod Backs
 mod Begun
 mod Changed
 mod Edits
+mod Firsts
+mod Founds
 mod Fronts
 mod Inboxes
+mod Inserts
 mod Latencies
 mod Leasts
 pub mod Locals
 mod Makes
+mod AfterMoves
+mod NextMarks
 mod Pops
 mod Puts
+mod Rises
+mod Rooms
+mod Shifts
+mod StallActs
+mod WakeActs
+mod WakeMakes

@@ -8,7 +8,9 @@ use Rattle.ctl_face.specs.AtFront.{AtFront, after_front}
 use Rattle.ctl_face.specs.LocalView.{LocalView}
 use Rattle.ctl_face.specs.Pop.{pop, popped_mail}
 use Rattle.ctl_face.specs.Recycle.{recycle, recycled_mail}
-use Rattle.ctl_mail.specs.MailView.{MailView, mail_view, view_after_front, view_again, view_popped, view_recycled, with_mail_view}
+use Rattle.ctl_face.specs.Stall.{stall, stalled_mail}
+use Rattle.ctl_face.specs.Wake.{wake, wake_all}
+use Rattle.ctl_mail.specs.MailView.{MailView, mail_view, view_after_front, view_again, view_popped, view_recycled, view_stalled, view_wake, view_wake_all, with_mail_view}
 
 -- the local after it, or the fault
 abbrev pub in_local : LocalView → Result MailView Fault → Result LocalView Fault
@@ -28,3 +30,13 @@ again-is v = refl
 pub recycle-is : (v : LocalView) (buffer : ℕ) (latency : ℤ) → recycle v buffer latency ≡ in_local v (view_recycled (mail_view v) buffer latency v.now)
 recycle-is v buffer latency =
     front-is v (λ (number : MsgNo). record v.acts { recycled = v.acts.recycled ++ number ∷ [] }) (recycled_mail v.ctl.mail buffer latency v.now)
+
+pub stall-is : (v : LocalView) (buffer line : ℕ) → stall v buffer line ≡ in_local v (view_stalled (mail_view v) buffer line v.now)
+stall-is v buffer line =
+    front-is v (λ (number : MsgNo). record v.acts { stalled = v.acts.stalled ++ number ∷ [] }) (stalled_mail v.ctl.mail buffer line v.now)
+
+pub wake-is : (v : LocalView) (line : ℕ) → wake v line ≡ with_mail_view v (view_wake (mail_view v) line)
+wake-is v line = refl
+
+pub wake_all-is : (v : LocalView) → wake_all v ≡ with_mail_view v (view_wake_all (mail_view v))
+wake_all-is v = refl

@@ -3,6 +3,8 @@ pub mod Least
 pub mod MailOf
 pub mod MailView
 pub mod Marks
+pub mod Moves
+pub mod Numbers
 pub mod Queues
 pub mod Room
 pub mod Told

@@ -7,4 +7,10 @@ pub enum MailAct {
     Recycle(u16, u64),
     /// The controller must wake in a cycle.
     Mark(u64),
+    /// The front of a buffer waits under a line.
+    Stall(u16, u64),
+    /// The messages that wait under a line wait no longer.
+    Wake(u64),
+    /// No message waits any longer.
+    WakeAll,
 }

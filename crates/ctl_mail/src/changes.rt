@@ -1,4 +1,4 @@
-ghost use Rattle.std.specs.Prelude.{◌≡◌, ◌++◌, [], ◌∷◌, ◌⊎◌, ◌↔◌, true, OnOk, OnErr, Contains, IsTrue};
+ghost use Rattle.std.specs.Prelude.{◌≡◌, ◌++◌, [], ◌∷◌, ◌↔◌, true, OnOk, OnErr, Contains, IsTrue};
 ghost use Rattle.ruby_value.specs.declared.message.MsgNo.{MsgNo as MsgNoRecord};
 ghost use Rattle.ctl_face.specs.ScanView.{no_acts};
 ghost use Rattle.ctl_mail.specs.declared.act.MailAct.TheVariants as act;
@@ -7,6 +7,7 @@ ghost use Rattle.ctl_mail.specs.Told.{AreOf, IsGone, told_by};
 
 use crate::MailStore;
 use crate::act::MailAct;
+use crate::moves::Move;
 use ruby_value::{MsgNo, NoMemory};
 use std::alloc::Global;
 use std::collections::VecDeque;
@@ -21,13 +22,15 @@ pub struct MailChanges {
     pub(crate) woken: Vec<MsgNo>,
     pub(crate) recycled: Vec<MsgNo>,
     pub(crate) again: bool,
+    pub(crate) moves: Vec<Move>,
+    pub(crate) alloc: Global,
 }
 
 impl MailChanges {
     /// No changes yet of this mail, of a scan in this cycle. It takes no memory.
     pub fn begin(alloc: Global, store: &MailStore, cycle: u64) -> MailChanges
         requires { IsMail store.now }
-        ensures none { told_by result ≡ record { cycle = cycle; log = []; acts = no_acts } }
+        ensures none { told_by result ≡ record { cycle = cycle; log = []; acts = no_acts; moves = [] } }
         ensures changes { AreOf store.now (told_by result) }
     {
         let _store = store;
@@ -50,7 +53,7 @@ impl MailChanges {
 
     // No changes yet, of a scan in this cycle.
     fn new(alloc: Global, cycle: u64) -> MailChanges
-        ensures { told_by result ≡ record { cycle = cycle; log = []; acts = no_acts } }
+        ensures { told_by result ≡ record { cycle = cycle; log = []; acts = no_acts; moves = [] } }
     {
         MailChanges {
             cycle,
@@ -60,16 +63,23 @@ impl MailChanges {
             woken: Vec::new(alloc),
             recycled: Vec::new(alloc),
             again: false,
+            moves: Vec::new(alloc),
+            alloc,
         }
     }
 
-    // Whether the message of this number is no longer ready since the scan began.
+    /// Whether the scan was told to wake the controller again.
+    pub fn stalled(&self) -> bool
+        ensures { result ≡ (told_by self.now).acts.again }
+    {
+        self.again
+    }
+
+    // Whether the message of this number is consumed, or arrives again in a later cycle, since the scan began.
     pub(crate) fn is_gone(&self, number: MsgNo) -> bool
         ensures { IsTrue result ↔ IsGone (told_by self.now).acts number }
     {
-        contains(&self.consumed, number)
-            || contains(&self.stalled, number)
-            || contains(&self.recycled, number)
+        contains(&self.consumed, number) || contains(&self.recycled, number)
     }
 
     // Keeps that the front of a buffer, of this number, is consumed.

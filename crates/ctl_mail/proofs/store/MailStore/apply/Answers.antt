@@ -5,7 +5,16 @@ use Rattle.ctl_mail.specs.MailOf.{mail_of}
 use Rattle.ctl_mail.specs.Told.{after_acts}
 use Rattle.ctl_mail.proofs.Acts.{after-first, after-none, none-there}
 use Rattle.ctl_mail.proofs.Edits.{past-end}
+use Rattle.ctl_mail.proofs.Rooms.{room-after, room-places, room-waits}
 use Rattle.ctl_mail.proofs.store.MailStore.apply.Goals as goal
+
+pub make-requires-clause-waits : goal.make-requires-clause-waits
+make-requires-clause-waits c =
+    room-waits c.loop-act.self c.in-Some.act c.pop_front.new.self.items c.loop-act.changes.log.items c.in-Some.ensures.items c.loop-act.invariant.room
+
+pub make-requires-clause-places : goal.make-requires-clause-places
+make-requires-clause-places c =
+    room-places c.loop-act.self c.in-Some.act c.pop_front.new.self.items c.loop-act.changes.log.items c.in-Some.ensures.items c.loop-act.invariant.room
 
 pub loop-act-preserved : goal.loop-act-preserved
 loop-act-preserved c =
@@ -19,7 +28,7 @@ loop-act-preserved c =
       leads =
           ap (λ (m : Mail). after_acts cycle m rest) c.make.ensures.after
           ∙ (sym (after-first cycle mail c.in-Some.act rest) ∙ (ap (λ (log : List MailAct). after_acts cycle mail log) (sym items) ∙ c.loop-act.invariant.leads));
-      room = omega (arith, c.make.ensures.room, c.loop-act.invariant.room, ap length items);
+      room = room-after c.loop-act.self c.in-Some.act rest c.loop-act.changes.log.items items c.loop-act.invariant.room c.make.new.store c.make.ensures.room c.make.ensures.waits c.make.ensures.places c.make.ensures.buffers;
       cycle = c.loop-act.invariant.cycle;
       acts = c.loop-act.invariant.acts;
     }
