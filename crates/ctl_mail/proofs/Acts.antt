@@ -18,6 +18,7 @@ use Rattle.ctl_face.specs.Recycle.{mail_with_recycled, message_arriving_again}
 use Rattle.ctl_face.proofs.Inboxes.{ascend-without}
 use Rattle.ctl_face.proofs.OneKey.{changed_message-contains, without_message-contains}
 use Rattle.ctl_mail.proofs.Changed.{ascend-changed}
+use Rattle.ctl_mail.proofs.SentActs.{fits-act}
 use Rattle.ctl_mail.specs.declared.act.MailAct.{MailAct}
 use Rattle.ctl_mail.specs.declared.act.MailAct.TheVariants.{Mark, Pop, Recycle}
 use Rattle.ctl_mail.specs.MailView.{view_after_front, view_again, view_popped, view_recycled}
@@ -211,27 +212,34 @@ module _ (mail : Mail) (old : Told) where
 
 pub are-of-recycle : (store : MailStore) (old : Told) (buffer arrival : ℕ) (m : Message) → old.cycle < arrival → face.front (changed_mail (mail_of store) old) buffer old.cycle ≡ Some m
     → AreOf store old → AreOf store (told_recycled old buffer arrival m.number)
-are-of-recycle store old buffer arrival m later is reflects =
+are-of-recycle store old buffer arrival m later is are =
+    let reflects = are.0 in
     let inbox = (changed_mail (mail_of store) old).inbox in
     let new = told_recycled old buffer arrival m.number in
-    let change : InboxMessage → InboxMessage = message_arriving_again arrival in
-    subst (λ (mail : Mail). Reflects store.buffers.items old.cycle new.acts mail.inbox) (sym (recycled-mail (mail_of store) old buffer arrival m is))
-    (reflects-gone store.buffers.items old.cycle old.acts new.acts m.number
-    (λ n gone. ⊎_elim (λ consumed. inl (inl consumed)) (λ other. ⊎_elim (λ stalled. inl (inr (inl stalled))) (λ recycled. ⊎_elim (λ has. inl (inr (inr has))) (λ same. inr same) (Contains-push_cases old.acts.recycled m.number n recycled)) other) gone)
-    (λ n gone. ⊎_elim (λ consumed. inl consumed) (λ other. ⊎_elim (λ stalled. inr (inl stalled)) (λ recycled. inr (inr (Contains-append_left old.acts.recycled (m.number ∷ []) n recycled))) other) gone)
-    (inr (inr (Contains-push old.acts.recycled m.number)))
-    inbox (changed_message inbox m.number change) (ascend-changed inbox m change (λ o. refl) reflects.ascends)
-    (λ x arrived. changed-loses inbox m.number change x (λ o same. let so : arrival ≡ x.arrival = ap (λ (z : InboxMessage). z.message.arrival) same in absurd (omega arith)))
-    reflects)
+    let change : InboxMessage → InboxMessage = message_arriving_again arrival in (
+      subst (λ (mail : Mail). Reflects store.buffers.items old.cycle new.acts mail.inbox) (sym (recycled-mail (mail_of store) old buffer arrival m is))
+          (reflects-gone store.buffers.items old.cycle old.acts new.acts m.number
+          (λ n gone. ⊎_elim (λ consumed. inl (inl consumed)) (λ other. ⊎_elim (λ stalled. inl (inr (inl stalled))) (λ recycled. ⊎_elim (λ has. inl (inr (inr has))) (λ same. inr same) (Contains-push_cases old.acts.recycled m.number n recycled)) other) gone)
+          (λ n gone. ⊎_elim (λ consumed. inl consumed) (λ other. ⊎_elim (λ stalled. inr (inl stalled)) (λ recycled. inr (inr (Contains-append_left old.acts.recycled (m.number ∷ []) n recycled))) other) gone)
+          (inr (inr (Contains-push old.acts.recycled m.number)))
+          inbox (changed_message inbox m.number change) (ascend-changed inbox m change (λ o. refl) reflects.ascends)
+          (λ x arrived. changed-loses inbox m.number change x (λ o same. let so : arrival ≡ x.arrival = ap (λ (z : InboxMessage). z.message.arrival) same in absurd (omega arith)))
+          reflects),
+      fits-act (mail_of store) old (Recycle buffer arrival) new.acts tt are.1,
+    )
 
 -- changes of a scan of this mail still are that after an act
 pub are-of-pop : (store : MailStore) (old : Told) (buffer : ℕ) (m : Message) → face.front (changed_mail (mail_of store) old) buffer old.cycle ≡ Some m
     → AreOf store old → AreOf store (told_popped old buffer m.number)
-are-of-pop store old buffer m is reflects =
-    subst (λ (mail : Mail). Reflects store.buffers.items old.cycle (told_popped old buffer m.number).acts mail.inbox) (sym (popped-mail (mail_of store) old buffer m is))
-    (reflects-pop store.buffers.items old.cycle old.acts m.number (changed_mail (mail_of store) old).inbox reflects)
+are-of-pop store old buffer m is are = (
+  subst (λ (mail : Mail). Reflects store.buffers.items old.cycle (told_popped old buffer m.number).acts mail.inbox) (sym (popped-mail (mail_of store) old buffer m is))
+      (reflects-pop store.buffers.items old.cycle old.acts m.number (changed_mail (mail_of store) old).inbox are.0),
+  fits-act (mail_of store) old (Pop buffer) (told_popped old buffer m.number).acts tt are.1,
+)
 
 pub are-of-again : (store : MailStore) (old : Told) (cycle : ℕ) → AreOf store old → AreOf store (told_again old cycle)
-are-of-again store old cycle reflects =
-    subst (λ (mail : Mail). Reflects store.buffers.items old.cycle (told_again old cycle).acts mail.inbox) (sym (after-more old.cycle (mail_of store) old.log (Mark cycle)))
-    (reflects-as store.buffers.items old.cycle old.acts (told_again old cycle).acts (changed_mail (mail_of store) old).inbox (λ n gone. gone) (λ n gone. gone) reflects)
+are-of-again store old cycle are = (
+  subst (λ (mail : Mail). Reflects store.buffers.items old.cycle (told_again old cycle).acts mail.inbox) (sym (after-more old.cycle (mail_of store) old.log (Mark cycle)))
+      (reflects-as store.buffers.items old.cycle old.acts (told_again old cycle).acts (changed_mail (mail_of store) old).inbox (λ n gone. gone) (λ n gone. gone) are.0),
+  fits-act (mail_of store) old (Mark cycle) (told_again old cycle).acts tt are.1,
+)

@@ -9,5 +9,9 @@ mod Latencies
 mod Leasts
 pub mod Locals
 mod Makes
+mod Members
+mod Places
 mod Pops
 mod Puts
+mod Sending
+mod SentActs

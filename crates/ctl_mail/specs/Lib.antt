@@ -1,8 +1,11 @@
 pub mod Inbox
+pub mod Lasts
 pub mod Least
 pub mod MailOf
 pub mod MailView
 pub mod Marks
 pub mod Queues
 pub mod Room
+pub mod Sends
+pub mod Sent
 pub mod Told

@@ -11,10 +11,14 @@ mod marks;
 mod queues;
 mod reads;
 mod scan;
+mod sends;
+mod sent;
 mod store;
 
 pub use act::MailAct;
 pub use changes::MailChanges;
 pub use reads::peek;
 pub use scan::{again, pop, recycle};
+pub use sends::send;
+pub use sent::{SendCounts, SentNote};
 pub use store::MailStore;

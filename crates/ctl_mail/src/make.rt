@@ -1,15 +1,17 @@
 // The acts on mail, made in a controller's mail as it is kept. They take no memory.
-ghost use Rattle.std.specs.Prelude.{◌≡◌, ◌<◌, ◌≤◌, ◌+◌, IfNone, IfSome, OnOk};
+ghost use Rattle.std.specs.Prelude.{◌≡◌, ◌<◌, ◌≤◌, ◌+◌, ℕ, IfNone, IfSome, OnOk, All, length};
+ghost use Rattle.std.specs.FinMap as finite;
 ghost use Rattle.ctl_face.specs.Front.{front};
+ghost use Rattle.ctl_face.specs.Lasts.{with_last};
 ghost use Rattle.ctl_face.specs.Mailing.{mail_with_mark, mail_with_message};
 ghost use Rattle.ctl_face.specs.Pop.{mail_without};
 ghost use Rattle.ctl_mail.specs.declared.act.MailAct.TheVariants as act;
 ghost use Rattle.ctl_mail.specs.MailOf.{IsMail, IsNewIn, buffer_count, mail_of};
 ghost use Rattle.ctl_mail.specs.Queues.{room_of};
-ghost use Rattle.ctl_mail.specs.Room.{HasRoom, mark_room};
-ghost use Rattle.ctl_mail.specs.Told.{after_act, changed_mail, told_by};
+ghost use Rattle.ctl_mail.specs.Room.{HasLastRoom, HasPlaces, HasRoom, LosesPlaces, mark_room};
+ghost use Rattle.ctl_mail.specs.Told.{CopiesFit, CountsFit, IsMakeable, after_act, changed_mail, counted_mail, told_by};
 
-use crate::{MailAct, MailChanges, MailStore, marks, queues};
+use crate::{MailAct, MailChanges, MailStore, lasts, marks, queues};
 use ruby_value::{Message, NoMemory};
 
 /// The mail with a mark.
@@ -20,6 +22,7 @@ pub(crate) fn mark(store: &mut MailStore, cycle: u64)
     ensures mail { IsMail store.new }
     ensures buffers { buffer_count store.new ≡ buffer_count store.old }
     ensures room { mark_room store.old ≤ mark_room store.new + 1 }
+    ensures places { LosesPlaces store.old store.new 0 }
 {
     marks::put(&mut store.marks, cycle);
 }
@@ -35,6 +38,7 @@ fn take(store: &mut MailStore, now: u64, buffer: u16) -> Option<Message>
     ensures new { IfSome result (λ m. IsNewIn (mail_of store.new) m.number) }
     ensures place { IfSome result (λ m. 0 < room_of store.new.buffers.items m.buffer) }
     ensures marks { store.new.marks ≡ store.old.marks }
+    ensures places { LosesPlaces store.old store.new 0 }
 {
     queues::pop(&mut store.buffers, buffer, now)
 }
@@ -49,6 +53,7 @@ fn put(store: &mut MailStore, m: Message)
     ensures mail { IsMail store.new }
     ensures buffers { buffer_count store.new ≡ buffer_count store.old }
     ensures room { mark_room store.old ≤ mark_room store.new + 1 }
+    ensures places { LosesPlaces store.old store.new 1 }
 {
     let arrival = m.arrival;
     queues::put(&mut store.buffers, m);
@@ -62,6 +67,7 @@ pub(crate) fn pop(store: &mut MailStore, now: u64, buffer: u16)
     ensures mail { IsMail store.new }
     ensures buffers { buffer_count store.new ≡ buffer_count store.old }
     ensures marks { store.new.marks ≡ store.old.marks }
+    ensures places { LosesPlaces store.old store.new 0 }
 {
     let _taken = take(store, now, buffer);
 }
@@ -74,6 +80,7 @@ pub(crate) fn recycle(store: &mut MailStore, now: u64, buffer: u16, arrival: u64
     ensures mail { IsMail store.new }
     ensures buffers { buffer_count store.new ≡ buffer_count store.old }
     ensures room { mark_room store.old ≤ mark_room store.new + 1 }
+    ensures places { LosesPlaces store.old store.new 1 }
 {
     let Some(mut m) = take(store, now, buffer) else {
         return;
@@ -83,20 +90,109 @@ pub(crate) fn recycle(store: &mut MailStore, now: u64, buffer: u16, arrival: u64
     put(store, m);
 }
 
+// The mail with one copy more counted.
+fn count(store: &mut MailStore, drawn: bool)
+    requires mail { IsMail store.old }
+    requires fit { CountsFit (mail_of store.old) }
+    ensures after { mail_of store.new ≡ counted_mail (mail_of store.old) drawn }
+    ensures mail { IsMail store.new }
+    ensures buffers { buffer_count store.new ≡ buffer_count store.old }
+    ensures marks { store.new.marks ≡ store.old.marks }
+    ensures places { LosesPlaces store.old store.new 0 }
+{
+    store.sent += 1;
+    store.copies += 1;
+    if drawn {
+        store.drawn += 1;
+    }
+}
+
+// The mail with another last arrival at a receiver on a network, if there is this network.
+fn network_last(store: &mut MailStore, network: u16, receiver: u32, arrival: u64)
+    requires mail { IsMail store.old }
+    requires place { HasLastRoom store.old.network_last.items network 1 }
+    ensures after { mail_of store.new ≡ after_act 0 (mail_of store.old) (act.NetworkLast network receiver arrival) }
+    ensures mail { IsMail store.new }
+    ensures buffers { buffer_count store.new ≡ buffer_count store.old }
+    ensures marks { store.new.marks ≡ store.old.marks }
+    ensures places { LosesPlaces store.old store.new 1 }
+{
+    lasts::put(&mut store.network_last, network, receiver, arrival);
+}
+
+// The mail with another last arrival in a buffer of the controller's own.
+fn local_last(store: &mut MailStore, buffer: u16, arrival: u64)
+    requires mail { IsMail store.old }
+    requires place { 0 < store.old.local_last.room }
+    ensures after { mail_of store.new ≡ after_act 0 (mail_of store.old) (act.LocalLast buffer arrival) }
+    ensures mail { IsMail store.new }
+    ensures buffers { buffer_count store.new ≡ buffer_count store.old }
+    ensures marks { store.new.marks ≡ store.old.marks }
+    ensures places { LosesPlaces store.old store.new 1 }
+{
+    let _before = store.local_last.put(u64::from(buffer), arrival);
+}
+
 /// The mail after an act.
 pub(crate) fn make(store: &mut MailStore, cycle: u64, act: MailAct)
     requires mail { IsMail store.old }
+    requires makeable { IsMakeable (mail_of store.old) act }
     requires room { 0 < mark_room store.old }
+    requires places { HasPlaces store.old 1 act }
     ensures after { mail_of store.new ≡ after_act cycle (mail_of store.old) act }
     ensures mail { IsMail store.new }
     ensures buffers { buffer_count store.new ≡ buffer_count store.old }
     ensures room { mark_room store.old ≤ mark_room store.new + 1 }
+    ensures places { LosesPlaces store.old store.new 1 }
 {
     match act {
         MailAct::Pop(buffer) => pop(store, cycle, buffer),
         MailAct::Recycle(buffer, arrival) => recycle(store, cycle, buffer, arrival),
         MailAct::Mark(mark_cycle) => mark(store, mark_cycle),
+        MailAct::Arrive(m) => put(store, m),
+        MailAct::Count(drawn) => count(store, drawn),
+        MailAct::NetworkLast(network, receiver, arrival) => {
+            network_last(store, network, receiver, arrival)
+        }
+        MailAct::LocalLast(buffer, arrival) => local_last(store, buffer, arrival),
     }
+}
+
+// Makes room for so many more acts like this one, or answers that there is no memory for them. No send makes a copy for a buffer
+// that isn't there.
+fn reserve_place(store: &mut MailStore, act: &MailAct, more: usize) -> Result<(), NoMemory>
+    requires mail { IsMail store.old }
+    ensures same { mail_of store.new ≡ mail_of store.old }
+    ensures mail { IsMail store.new }
+    ensures buffers { buffer_count store.new ≡ buffer_count store.old }
+    ensures marks { store.new.marks ≡ store.old.marks }
+    ensures places { LosesPlaces store.old store.new 0 }
+    ensures ok { OnOk result (HasPlaces store.new more act.now) }
+{
+    match act {
+        MailAct::Arrive(m) => queues::reserve_at(&mut store.buffers, m.buffer, more),
+        MailAct::NetworkLast(network, _, _) => {
+            lasts::reserve(&mut store.network_last, *network, more)
+        }
+        MailAct::LocalLast(_, _) => store.local_last.reserve(more),
+        _ => Ok(()),
+    }
+}
+
+// Makes room for what the acts write beside marks, or answers that there is no memory for it.
+fn reserve_places(store: &mut MailStore, changes: &MailChanges) -> Result<(), NoMemory>
+    requires mail { IsMail store.old }
+    ensures same { mail_of store.new ≡ mail_of store.old }
+    ensures mail { IsMail store.new }
+    ensures buffers { buffer_count store.new ≡ buffer_count store.old }
+    ensures marks { store.new.marks ≡ store.old.marks }
+    ensures ok { OnOk result (All (HasPlaces store.new (length (told_by changes.now).log)) (told_by changes.now).log) }
+{
+    let more = changes.log.len();
+    for i in 0..changes.log.len() {
+        reserve_place(store, &changes.log[i], more)?;
+    }
+    Ok(())
 }
 
 impl MailStore {
@@ -113,13 +209,15 @@ impl MailStore {
             return Err(NoMemory);
         };
         self.marks.reserve(more)?;
-        Ok(())
+        reserve_places(self, changes)
     }
 
     /// Makes the changes of a scan of this mail, where there is room for them, and leaves room for one mark. It takes no memory.
-    /// The lists of what the scan did to messages stay in the changes.
+    /// The lists of what the scan did to messages stay in the changes,
+    /// the copies for other controllers among them.
     pub fn apply(&mut self, changes: &mut MailChanges)
         requires mail { IsMail self.old }
+        requires changes { CopiesFit (mail_of self.old) (told_by changes.old) }
         requires room { HasRoom self.old (told_by changes.old) }
         ensures after { mail_of self.new ≡ changed_mail (mail_of self.old) (told_by changes.old) }
         ensures mail { IsMail self.new }

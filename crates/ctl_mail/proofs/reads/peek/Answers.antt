@@ -11,5 +11,5 @@ pub returns : goal.returns
 returns c =
     let store = c.args.store.now in
     let told = told_by c.args.changes.now in
-    sym (front-left store.buffers.items told.cycle told.acts (changed_mail (mail_of store) told) c.requires.mail.holds.own_buffer c.requires.changes c.args.buffer (option_copied c.first_of.result)
+    sym (front-left store.buffers.items told.cycle told.acts (changed_mail (mail_of store) told) c.requires.mail.holds.own_buffer c.requires.changes.0 c.args.buffer (option_copied c.first_of.result)
     (subst (λ (xs : Queues). IsLeast (IsLeft (queue_of xs c.args.buffer) told.cycle told.acts) (option_copied c.first_of.result)) c.deref.ensures.value c.first_of.ensures))
