@@ -4,13 +4,15 @@ use Rattle.ruby_value.specs.declared.message.MsgNo.{MsgNo}
 use Rattle.ctl_face.specs.Ctl.{Mail}
 use Rattle.ctl_face.specs.ScanView.{no_acts}
 use Rattle.ctl_face.proofs.Held.{nothing-there}
+use Rattle.ctl_mail.specs.declared.sent.SendCounts.{SendCounts}
 use Rattle.ctl_mail.specs.declared.store.MailStore.{MailStore}
 use Rattle.ctl_mail.specs.Inbox.{IsAt}
 use Rattle.ctl_mail.specs.MailOf.{IsMail, mail_of}
-use Rattle.ctl_mail.specs.Told.{AreOf, IsGone, Reflects, Told}
+use Rattle.ctl_mail.specs.Told.{AreOf, IsGone, Reflects, Told, counts_in}
 use Rattle.ctl_mail.proofs.Acts.{after-none}
 use Rattle.ctl_mail.proofs.Inboxes.{inbox-ascends, inbox-has}
 use Rattle.ctl_mail.proofs.AfterMoves.{after-nothing}
+use Rattle.ctl_mail.proofs.SentActs.{fits-none}
 
 none-gone : (number : MsgNo) → IsGone no_acts number → ⊥
 none-gone number gone = ⊎_elim (nothing-there number) (nothing-there number) gone
@@ -18,10 +20,10 @@ none-gone number gone = ⊎_elim (nothing-there number) (nothing-there number) g
 some-line : (line : ℕ) (w : Option ℕ) → w ≡ Some line → w ≢ None
 some-line line w is none = absurd (cc (is, none))
 
-abbrev told_begun : ℕ → Told
-told_begun cycle = record { cycle = cycle; log = []; acts = no_acts; moves = [] }
+abbrev told_begun : SendCounts → ℕ → Told
+told_begun counts cycle = record { cycle = cycle; counts = counts; log = []; acts = no_acts; moves = [] }
 
-begun : (store : MailStore) (cycle : ℕ) → IsMail store → Reflects store.buffers.items store.stalls.kept (told_begun cycle) (mail_of store).inbox
+begun : (store : MailStore) (cycle : ℕ) → IsMail store → Reflects store.buffers.items store.stalls.kept (told_begun (counts_in (mail_of store)) cycle) (mail_of store).inbox
 begun store cycle is = record {
   ascends = inbox-ascends store.buffers.items store.stalls.kept;
   left = λ o seen. (
@@ -40,6 +42,8 @@ begun store cycle is = record {
   moved = λ move has. absurd (nothing-there move has);
 }
 
-pub are-of-none : (store : MailStore) (cycle : ℕ) → IsMail store → AreOf store (told_begun cycle)
-are-of-none store cycle is =
-    subst (λ (mail : Mail). Reflects store.buffers.items store.stalls.kept (told_begun cycle) mail.inbox) (sym (after-none cycle (mail_of store))) (begun store cycle is)
+pub are-of-none : (store : MailStore) (cycle : ℕ) → IsMail store → AreOf store (told_begun (counts_in (mail_of store)) cycle)
+are-of-none store cycle is = (
+  subst (λ (mail : Mail). Reflects store.buffers.items store.stalls.kept (told_begun (counts_in (mail_of store)) cycle) mail.inbox) (sym (after-none cycle (mail_of store))) (begun store cycle is),
+  fits-none (mail_of store) cycle no_acts,
+)

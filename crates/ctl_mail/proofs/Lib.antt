@@ -23,3 +23,9 @@ mod Shifts
 mod StallActs
 mod WakeActs
 mod WakeMakes
+mod Members
+mod Places
+mod Pops
+mod Puts
+mod Sending
+mod SentActs

@@ -5,7 +5,8 @@ use Rattle.ctl_mail.specs.declared.act.MailAct.{MailAct}
 use Rattle.ctl_mail.specs.declared.store.MailStore.{MailStore}
 use Rattle.ctl_mail.specs.MailOf.{buffer_count}
 use Rattle.ctl_mail.specs.Queues.{room_of}
-use Rattle.ctl_mail.specs.Room.{HasPlaces, HasRoomToMake, LosesOnePlace, is_stall, is_wake, mark_room}
+use Rattle.ctl_mail.specs.Room.{HasPlaces, HasPlacesToWake, HasRoomToMake, LosesPlaces, is_stall, is_wake, mark_room}
+use Rattle.ctl_mail.proofs.Places.{places-first, places-rest}
 
 count-cons : {X : Type 0} (p : X → Bool) (x : X) (xs : List X) → count_by p (x ∷ xs) ≡ count_by p (x ∷ []) + count_by p xs
 count-cons p x xs =
@@ -39,12 +40,15 @@ module _ (old : MailStore) (act : MailAct) (rest log : List MailAct) (is : log �
       let enough : count_by is_stall (act ∷ rest) ≤ old.stalls.room = here.waits in
       omega arith
 
-  pub room-places : is_wake act ≡ true → HasPlaces old 0
-  room-places wakes buffer within =
-      let places : length old.stalls.kept + length (act ∷ rest) ≤ room_of old.buffers.items buffer = here.places (count-first is_wake act rest wakes) buffer within in
+  pub room-places : HasPlaces old 1 act
+  room-places = places-first old act rest here.places
+
+  pub room-to-wake : is_wake act ≡ true → HasPlacesToWake old 0
+  room-to-wake wakes buffer within =
+      let places : length old.stalls.kept + length (act ∷ rest) ≤ room_of old.buffers.items buffer = here.to_wake (count-first is_wake act rest wakes) buffer within in
       omega arith
 
-  pub room-after : (new : MailStore) → mark_room old ≤ mark_room new + 1 → old.stalls.room ≤ new.stalls.room + count_by is_stall (act ∷ []) → LosesOnePlace old new
+  pub room-after : (new : MailStore) → mark_room old ≤ mark_room new + 1 → old.stalls.room ≤ new.stalls.room + count_by is_stall (act ∷ []) → LosesPlaces old new 1
       → buffer_count new ≡ buffer_count old → HasRoomToMake new rest
   room-after new marks waits places buffers =
       let all : count_by is_stall (act ∷ rest) ≡ count_by is_stall (act ∷ []) + count_by is_stall rest = count-cons is_stall act rest in
@@ -54,9 +58,10 @@ module _ (old : MailStore) (act : MailAct) (rest log : List MailAct) (is : log �
       record {
         marks = omega arith;
         waits = omega arith;
-        places = λ some buffer within.
+        places = places-rest old new act rest places here.places;
+        to_wake = λ some buffer within.
             let there : buffer < length old.buffers.items = subst (λ (n : ℕ). buffer < n) buffers within in
-            let before : length old.stalls.kept + length (act ∷ rest) ≤ room_of old.buffers.items buffer = here.places (omega arith) buffer there in
-            let one : length new.stalls.kept + room_of old.buffers.items buffer ≤ length old.stalls.kept + room_of new.buffers.items buffer + 1 = places buffer in
+            let before : length old.stalls.kept + length (act ∷ rest) ≤ room_of old.buffers.items buffer = here.to_wake (omega arith) buffer there in
+            let one : length new.stalls.kept + room_of old.buffers.items buffer ≤ length old.stalls.kept + room_of new.buffers.items buffer + 1 = places.buffers buffer in
             omega arith;
       }

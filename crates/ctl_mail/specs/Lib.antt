@@ -1,4 +1,5 @@
 pub mod Inbox
+pub mod Lasts
 pub mod Least
 pub mod MailOf
 pub mod MailView
@@ -7,4 +8,6 @@ pub mod Moves
 pub mod Numbers
 pub mod Queues
 pub mod Room
+pub mod Sends
+pub mod Sent
 pub mod Told

@@ -2,13 +2,14 @@ ghost use Rattle.std.specs.Prelude.{◌≡◌, ◌++◌, [], ◌∷◌, ◌↔�
 ghost use Rattle.ruby_value.specs.declared.message.MsgNo.{MsgNo as MsgNoRecord};
 ghost use Rattle.ctl_face.specs.ScanView.{no_acts};
 ghost use Rattle.ctl_mail.specs.declared.act.MailAct.TheVariants as act;
-ghost use Rattle.ctl_mail.specs.MailOf.{IsMail};
-ghost use Rattle.ctl_mail.specs.Told.{AreOf, IsGone, told_by};
+ghost use Rattle.ctl_mail.specs.MailOf.{IsMail, mail_of};
+ghost use Rattle.ctl_mail.specs.Told.{AreOf, IsGone, counts_in, told_by};
 
 use crate::MailStore;
 use crate::act::MailAct;
 use crate::moves::Move;
-use ruby_value::{MsgNo, NoMemory};
+use crate::sent::{SendCounts, SentNote};
+use ruby_value::{Message, MsgNo, NoMemory};
 use std::alloc::Global;
 use std::collections::VecDeque;
 
@@ -16,11 +17,14 @@ use std::collections::VecDeque;
 #[derive(Drop)]
 pub struct MailChanges {
     pub(crate) cycle: u64,
+    pub(crate) counts: SendCounts,
     pub(crate) log: VecDeque<MailAct>,
     pub(crate) consumed: Vec<MsgNo>,
     pub(crate) stalled: Vec<MsgNo>,
     pub(crate) woken: Vec<MsgNo>,
     pub(crate) recycled: Vec<MsgNo>,
+    pub(crate) sent: Vec<SentNote>,
+    pub(crate) posted: Vec<(u32, Message)>,
     pub(crate) again: bool,
     pub(crate) moves: Vec<Move>,
     pub(crate) alloc: Global,
@@ -30,11 +34,15 @@ impl MailChanges {
     /// No changes yet of this mail, of a scan in this cycle. It takes no memory.
     pub fn begin(alloc: Global, store: &MailStore, cycle: u64) -> MailChanges
         requires { IsMail store.now }
-        ensures none { told_by result ≡ record { cycle = cycle; log = []; acts = no_acts; moves = [] } }
+        ensures none { told_by result ≡ record { cycle = cycle; counts = counts_in (mail_of store.now); log = []; acts = no_acts; moves = [] } }
         ensures changes { AreOf store.now (told_by result) }
     {
-        let _store = store;
-        MailChanges::new(alloc, cycle)
+        let counts = SendCounts {
+            sent: store.sent,
+            drawn: store.drawn,
+            copies: store.copies,
+        };
+        MailChanges::new(alloc, cycle, counts)
     }
 
     /// The cycle of the scan.
@@ -44,24 +52,20 @@ impl MailChanges {
         self.cycle
     }
 
-    /// Whether the scan called `again`.
-    pub fn stalled(&self) -> bool
-        ensures { result ≡ (told_by self.now).acts.again }
-    {
-        self.again
-    }
-
     // No changes yet, of a scan in this cycle.
-    fn new(alloc: Global, cycle: u64) -> MailChanges
-        ensures { told_by result ≡ record { cycle = cycle; log = []; acts = no_acts; moves = [] } }
+    fn new(alloc: Global, cycle: u64, counts: SendCounts) -> MailChanges
+        ensures { told_by result ≡ record { cycle = cycle; counts = counts; log = []; acts = no_acts; moves = [] } }
     {
         MailChanges {
             cycle,
+            counts,
             log: VecDeque::new(alloc),
             consumed: Vec::new(alloc),
             stalled: Vec::new(alloc),
             woken: Vec::new(alloc),
             recycled: Vec::new(alloc),
+            sent: Vec::new(alloc),
+            posted: Vec::new(alloc),
             again: false,
             moves: Vec::new(alloc),
             alloc,

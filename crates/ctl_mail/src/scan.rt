@@ -26,7 +26,7 @@ pub fn pop(store: &MailStore, changes: &mut MailChanges, buffer: u16) -> Result<
 }
 
 // The latency as a number of cycles, if it is one that a message may be given.
-fn latency_of(latency: i64) -> Option<u64>
+pub(crate) fn latency_of(latency: i64) -> Option<u64>
     ensures value { result ≡ (if is_latency latency then Some (nat_abs latency) else None) }
     ensures bound { IfSome result (λ n. (1 ≤ n) × n ≤ 1000000) }
 {

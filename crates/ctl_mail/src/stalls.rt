@@ -4,7 +4,7 @@ ghost use Rattle.ctl_mail.specs.declared.act.MailAct.TheVariants as act;
 ghost use Rattle.ctl_mail.specs.MailOf.{IsMail, buffer_count, mail_of};
 ghost use Rattle.ctl_mail.specs.MailView.{MailDoes, view_stalled};
 ghost use Rattle.ctl_mail.specs.Queues.{room_of};
-ghost use Rattle.ctl_mail.specs.Room.{LosesOnePlace, mark_room};
+ghost use Rattle.ctl_mail.specs.Room.{LosesPlaces, mark_room};
 ghost use Rattle.ctl_mail.specs.Told.{AreOf, after_act, changed_view, told_by};
 
 use crate::moves::Move;
@@ -65,7 +65,7 @@ pub(crate) fn make_stall(store: &mut MailStore, now: u64, buffer: u16, line: u64
     ensures buffers { buffer_count store.new ≡ buffer_count store.old }
     ensures room { mark_room store.old ≤ mark_room store.new }
     ensures waits { store.old.stalls.room ≤ store.new.stalls.room + 1 }
-    ensures places { LosesOnePlace store.old store.new }
+    ensures places { LosesPlaces store.old store.new 1 }
 {
     let Some(m) = make::take(store, now, buffer) else {
         return;

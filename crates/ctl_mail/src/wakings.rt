@@ -8,7 +8,7 @@ ghost use Rattle.ctl_face.specs.Ctl.{InboxMessage};
 ghost use Rattle.ctl_face.specs.Wake.{is_under, woken_mail};
 ghost use Rattle.ctl_mail.specs.MailOf.{IsMail, buffer_count, mail_of};
 ghost use Rattle.ctl_mail.specs.Queues.{queue_of, room_of};
-ghost use Rattle.ctl_mail.specs.Room.{HasPlaces, LosesNoPlace, mark_room};
+ghost use Rattle.ctl_mail.specs.Room.{HasPlacesToWake, LosesPlaces, mark_room};
 
 use crate::{MailStore, queues};
 use msg_buffer::{Buffer, Message};
@@ -34,14 +34,14 @@ fn put_back(buffers: &mut Vec<Buffer>, mut woken: Vec<Message>)
 /// The mail in which the messages under a line wait no longer.
 pub(crate) fn make_wake(store: &mut MailStore, line: u64)
     requires mail { IsMail store.old }
-    requires places { HasPlaces store.old 0 }
+    requires places { HasPlacesToWake store.old 0 }
     ensures after { mail_of store.new ≡ woken_mail (mail_of store.old) (λ (o : InboxMessage). is_under line o.waiting) }
     ensures mail { IsMail store.new }
     ensures buffers { buffer_count store.new ≡ buffer_count store.old }
     ensures stalled { store.new.stalls.kept ≡ without_line store.old.stalls.kept line }
     ensures room { mark_room store.old ≤ mark_room store.new }
     ensures waits { store.old.stalls.room ≤ store.new.stalls.room }
-    ensures places { LosesNoPlace store.old store.new }
+    ensures places { LosesPlaces store.old store.new 0 }
 {
     // Their numbers ascend, so that each comes back once.
     let _waiting = store.stalls.len();
@@ -63,13 +63,13 @@ fn first_line(stalls: &StallMap) -> Option<u64>
 /// The mail in which no message waits any longer.
 pub(crate) fn make_wake_all(store: &mut MailStore)
     requires mail { IsMail store.old }
-    requires places { HasPlaces store.old 0 }
+    requires places { HasPlacesToWake store.old 0 }
     ensures after { mail_of store.new ≡ woken_mail (mail_of store.old) (λ (o : InboxMessage). is_some o.waiting) }
     ensures mail { IsMail store.new }
     ensures buffers { buffer_count store.new ≡ buffer_count store.old }
     ensures room { mark_room store.old ≤ mark_room store.new }
     ensures waits { store.old.stalls.room ≤ store.new.stalls.room }
-    ensures places { LosesNoPlace store.old store.new }
+    ensures places { LosesPlaces store.old store.new 0 }
 {
     while let Some(line) = first_line(&store.stalls) {
         make_wake(store, line);

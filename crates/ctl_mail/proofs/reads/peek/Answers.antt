@@ -9,5 +9,5 @@ pub returns : goal.returns
 returns c =
     let store = c.args.store.now in
     let told = told_by c.args.changes.now in
-    sym (front-either store.buffers.items store.stalls.kept told (changed_mail (mail_of store) told) c.requires.mail.holds.own_buffer c.requires.changes c.args.buffer
+    sym (front-either store.buffers.items store.stalls.kept told (changed_mail (mail_of store) told) c.requires.mail.holds.own_buffer c.requires.changes.0 c.args.buffer
     (option_copied c.first_ready.result) c.first_ready.ensures)
