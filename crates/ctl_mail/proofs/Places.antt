@@ -1,5 +1,5 @@
 -- The room of a mail after an act, and the last arrivals of a network among the others.
-use Rattle.std.proofs.Common.{◌≡◌, ◌≢◌, ◌⊎◌, ◌≤◌, ◌<◌, ◌+◌, ℕ, zero, suc, Option, None, Some, List, [], ◌∷◌, Result, Ok, Err, IfSome, OnOk, refl, sym, subst, ap, ◌∙◌, ⊎_elim, length, map, get_or, slice_get, slice_set, arith}
+use Rattle.std.proofs.Common.{◌≡◌, ◌⊎◌, ◌≤◌, ◌<◌, ◌+◌, ℕ, zero, suc, Option, None, Some, List, [], ◌∷◌, Result, Ok, Err, IfSome, OnOk, refl, sym, subst, ap, ◌∙◌, ⊎_elim, length, get_or, slice_get, slice_set, arith}
 use Rattle.std.specs.FinMap as finite
 use Rattle.std.specs.List.{All}
 use Rattle.std.proofs.lemmas.List.{get_or_default}

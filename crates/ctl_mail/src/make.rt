@@ -111,7 +111,8 @@ fn count(store: &mut MailStore, drawn: bool)
 fn network_last(store: &mut MailStore, network: u16, receiver: u32, arrival: u64)
     requires mail { IsMail store.old }
     requires place { HasLastRoom store.old.network_last.items network 1 }
-    ensures after { mail_of store.new ≡ after_act 0 (mail_of store.old) (act.NetworkLast network receiver arrival) }
+    ensures after { let written = act.NetworkLast network receiver arrival in
+        mail_of store.new ≡ after_act 0 (mail_of store.old) written }
     ensures mail { IsMail store.new }
     ensures buffers { buffer_count store.new ≡ buffer_count store.old }
     ensures marks { store.new.marks ≡ store.old.marks }
@@ -124,7 +125,8 @@ fn network_last(store: &mut MailStore, network: u16, receiver: u32, arrival: u64
 fn local_last(store: &mut MailStore, buffer: u16, arrival: u64)
     requires mail { IsMail store.old }
     requires place { 0 < store.old.local_last.room }
-    ensures after { mail_of store.new ≡ after_act 0 (mail_of store.old) (act.LocalLast buffer arrival) }
+    ensures after { let written = act.LocalLast buffer arrival in
+        mail_of store.new ≡ after_act 0 (mail_of store.old) written }
     ensures mail { IsMail store.new }
     ensures buffers { buffer_count store.new ≡ buffer_count store.old }
     ensures marks { store.new.marks ≡ store.old.marks }
@@ -186,7 +188,8 @@ fn reserve_places(store: &mut MailStore, changes: &MailChanges) -> Result<(), No
     ensures mail { IsMail store.new }
     ensures buffers { buffer_count store.new ≡ buffer_count store.old }
     ensures marks { store.new.marks ≡ store.old.marks }
-    ensures ok { OnOk result (All (HasPlaces store.new (length (told_by changes.now).log)) (told_by changes.now).log) }
+    ensures ok { OnOk result (let log = (told_by changes.now).log in
+        All (HasPlaces store.new (length log)) log) }
 {
     let more = changes.log.len();
     for i in 0..changes.log.len() {
