@@ -89,13 +89,9 @@ counts-kept now mail (Arrive m) is = absurd is
 counts-kept now mail (Count drawn) is = absurd is
 
 makeable-uncounted : (mail : Mail) (act : MailAct) → IsUncounted act → IsMakeable mail act
-makeable-uncounted mail (Pop buffer) is = tt
-makeable-uncounted mail (Recycle buffer arrival) is = tt
-makeable-uncounted mail (Mark cycle) is = tt
-makeable-uncounted mail (NetworkLast network receiver arrival) is = tt
-makeable-uncounted mail (LocalLast buffer arrival) is = tt
 makeable-uncounted mail (Arrive m) is = absurd is
 makeable-uncounted mail (Count drawn) is = absurd is
+makeable-uncounted mail _ is = tt
 
 pub fits-act : (mail : Mail) (old : Told) (act : MailAct) (acts : Acts) → IsUncounted act → CopiesFit mail old → CopiesFit mail (record old { log = old.log ++ act ∷ []; acts = acts })
 fits-act mail old act acts is fits =

@@ -1,5 +1,5 @@
--- The changes that a scan makes to mail, as plain data: the cycle, the acts on mail in their order, and what they did to
--- messages. The changed mail is the mail after these acts, one after another.
+-- The changes that a scan makes to mail, as plain data: the cycle, the counts that its next send goes on from, the acts on mail
+-- in their order, and what they did to messages. The changed mail is the mail after these acts, one after another.
 use Rattle.std.specs.Prelude.{◌≡◌, ◌+◌, ◌^◌, ◌<◌, ◌≤◌, ◌⊎◌, ◌↔◌, ℕ, Bool, List, [], ◌∷◌, Result, Ok, Err, Contains, map, if◌then◌else◌}
 use Rattle.std.specs.List.{fold}
 use Rattle.std.specs.FinMap as finite

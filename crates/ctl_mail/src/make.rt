@@ -160,8 +160,8 @@ pub(crate) fn make(store: &mut MailStore, cycle: u64, act: MailAct)
     }
 }
 
-// Makes room for so many more acts like this one, or answers that there is no memory for them. No send makes a copy for a buffer
-// that isn't there.
+// Makes room for so many more acts like this one, or answers that there is no memory for them, as of a buffer that isn't there:
+// routes that fit name no such buffer.
 fn reserve_place(store: &mut MailStore, act: &MailAct, more: usize) -> Result<(), NoMemory>
     requires mail { IsMail store.old }
     ensures same { mail_of store.new ≡ mail_of store.old }
