@@ -1,5 +1,5 @@
 -- Going over an ascending list of numbers, from each to the next one.
-use Rattle.std.proofs.Common.{◌≡◌, ℕ, zero, suc, ◌+◌, ◌<◌, ◌≤◌, ◌&&◌, ◌++◌, Bool, true, false, cond, not, nat_lt, Option, None, Some, List, [], ◌∷◌, refl, sym, subst, ap, ◌∙◌, slice_get, length, All, filter, is_some, get_or, unwrap_or, arith}
+use Rattle.std.proofs.Common.{◌≡◌, ℕ, ◌+◌, ◌<◌, ◌≤◌, ◌&&◌, ◌++◌, Bool, true, false, cond, not, nat_lt, Option, None, Some, List, [], ◌∷◌, refl, sym, subst, ap, slice_get, length, All, is_some, get_or, unwrap_or, arith}
 use Rattle.std.specs.Option.{option_and_then, option_flatten}
 use Rattle.std.proofs.lemmas.Option.{slice_get_past}
 use Rattle.std.specs.List.{AllPairs, list_all}

@@ -1,5 +1,5 @@
 -- The room of a mail after an act, and the last arrivals of a network among the others.
-use Rattle.std.proofs.Common.{◌≡◌, ◌≢◌, ◌⊎◌, ◌≤◌, ◌<◌, ◌+◌, ℕ, zero, suc, Option, None, Some, List, [], ◌∷◌, Result, Ok, Err, IfSome, OnOk, refl, sym, subst, ap, ◌∙◌, ⊎_elim, length, map, get_or, slice_get, slice_set, arith}
+use Rattle.std.proofs.Common.{◌≡◌, ◌⊎◌, ◌≤◌, ◌<◌, ◌+◌, ℕ, zero, suc, Option, None, Some, List, [], ◌∷◌, Result, Ok, Err, IfSome, OnOk, refl, sym, subst, ap, ◌∙◌, ⊎_elim, length, get_or, slice_get, slice_set, arith}
 use Rattle.std.specs.FinMap as finite
 use Rattle.std.specs.List.{All}
 use Rattle.std.proofs.lemmas.List.{get_or_default}
@@ -7,7 +7,7 @@ use Rattle.std.proofs.lemmas.List.Elements.{All-head, All-tail}
 use Rattle.ruby_value.specs.Roomy.{Roomy}
 use Rattle.ctl_face.specs.Lasts.{Lasts, lasts_on, with_last}
 use Rattle.ctl_mail.specs.declared.act.MailAct.{MailAct}
-use Rattle.ctl_mail.specs.declared.act.MailAct.TheVariants.{Arrive, Count, LocalLast, Mark, NetworkLast, Pop, Recycle, Stall, Wake, WakeAll}
+use Rattle.ctl_mail.specs.declared.act.MailAct.TheVariants.{Arrive, LocalLast, NetworkLast}
 use Rattle.ctl_mail.specs.declared.store.MailStore.{MailStore}
 use Rattle.ctl_mail.specs.Lasts.{lasts_in}
 use Rattle.ctl_mail.specs.Queues.{room_of}
@@ -64,13 +64,7 @@ place-left old new n is (Arrive m) has =
     omega arith
 place-left old new n is (NetworkLast network receiver arrival) has = is.networks network n has
 place-left old new n is (LocalLast buffer arrival) has = omega (arith, is.locals)
-place-left old new n is (Pop buffer) has = tt
-place-left old new n is (Recycle buffer arrival) has = tt
-place-left old new n is (Mark cycle) has = tt
-place-left old new n is (Stall buffer line) has = tt
-place-left old new n is (Wake line) has = tt
-place-left old new n is WakeAll has = tt
-place-left old new n is (Count drawn) has = tt
+place-left old new n is _ has = tt
 
 pub place-kept : (old new : MailStore) (n : ℕ) → LosesPlaces old new 0 → (act : MailAct) → HasPlaces old n act → HasPlaces new n act
 place-kept old new n is (Arrive m) has =
@@ -79,13 +73,7 @@ place-kept old new n is (Arrive m) has =
 place-kept old new n is (NetworkLast network receiver arrival) has =
     is.networks network n (no-more old.network_last.items network (n + 0) n (omega arith) has)
 place-kept old new n is (LocalLast buffer arrival) has = omega (arith, is.locals)
-place-kept old new n is (Pop buffer) has = tt
-place-kept old new n is (Recycle buffer arrival) has = tt
-place-kept old new n is (Mark cycle) has = tt
-place-kept old new n is (Stall buffer line) has = tt
-place-kept old new n is (Wake line) has = tt
-place-kept old new n is WakeAll has = tt
-place-kept old new n is (Count drawn) has = tt
+place-kept old new n is _ has = tt
 
 -- the last arrivals of one network
 pub room-there : (networks : List (Roomy Lasts)) (at network n : ℕ) (lasts : Roomy Lasts) → at ≡ network → slice_get networks at ≡ Some lasts → HasLastRoom networks network n → n ≤ lasts.room
@@ -166,13 +154,7 @@ pub place-fewer : (store : MailStore) (n m : ℕ) → n ≤ m → (act : MailAct
 place-fewer store n m le (Arrive x) has = omega arith
 place-fewer store n m le (NetworkLast network receiver arrival) has = no-more store.network_last.items network n m le has
 place-fewer store n m le (LocalLast buffer arrival) has = omega arith
-place-fewer store n m le (Pop buffer) has = tt
-place-fewer store n m le (Recycle buffer arrival) has = tt
-place-fewer store n m le (Mark cycle) has = tt
-place-fewer store n m le (Stall buffer line) has = tt
-place-fewer store n m le (Wake line) has = tt
-place-fewer store n m le WakeAll has = tt
-place-fewer store n m le (Count drawn) has = tt
+place-fewer store n m le _ has = tt
 
 -- after the first act there is room for the others
 pub places-first : (store : MailStore) (act : MailAct) (rest : List MailAct) → All (HasPlaces store (length (act ∷ rest))) (act ∷ rest) → HasPlaces store 1 act

@@ -1,5 +1,5 @@
 -- The copies that a scan keeps are those of the definition, one after another.
-use Rattle.std.proofs.Common.{◌≡◌, ◌≢◌, ◌<◌, ◌≤◌, ◌+◌, ◌*◌, ◌^◌, ◌++◌, ℕ, ℤ, nat_abs, Err, slice_get, Bool, true, false, cond, max, eqb, Option, None, Some, List, [], ◌∷◌, refl, sym, subst, ap, ◌∙◌, ⊎_elim, Contains, get_or, map, filter, append_assoc, is_some, length, arith}
+use Rattle.std.proofs.Common.{◌≡◌, ◌<◌, ◌≤◌, ◌+◌, ◌*◌, ◌^◌, ◌++◌, ℕ, ℤ, nat_abs, Err, slice_get, Bool, true, false, cond, max, eqb, Option, None, Some, List, [], ◌∷◌, refl, sym, subst, ap, ◌∙◌, ⊎_elim, Contains, get_or, map, append_assoc, is_some, arith}
 use Rattle.std.specs.FinMap as finite
 use Rattle.std.specs.List.{All, fold}
 use Rattle.std.proofs.lemmas.List.Elements.{All-contains, Contains-get_or, filter-append}

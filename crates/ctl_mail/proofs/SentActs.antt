@@ -1,14 +1,13 @@
 -- Acts that are kept after others: they can be made, the counts are those of the changed mail, and the last arrivals are the newest
 -- that were written. A copy that is kept leaves what is ready as it was.
-use Rattle.std.proofs.Common.{◌≡◌, ◌≢◌, ◌<◌, ◌≤◌, ◌+◌, ◌++◌, ◌==◌, ◌&&◌, ◌⊎◌, ℕ, zero, suc, Bool, true, false, cond, Option, None, Some, List, [], ◌∷◌, refl, sym, subst, ap, ◌∙◌, inl, inr, ⊎_elim, eqb, length, Contains, get_or, unwrap_or, slice_set, arith}
+use Rattle.std.proofs.Common.{◌≡◌, ◌≢◌, ◌<◌, ◌≤◌, ◌+◌, ◌++◌, ◌&&◌, ℕ, zero, suc, Bool, true, false, cond, Option, None, Some, List, [], ◌∷◌, refl, sym, subst, ap, ◌∙◌, inr, ⊎_elim, eqb, length, Contains, unwrap_or, slice_set, arith}
 use Rattle.std.specs.List.{All, fold}
 use Rattle.std.specs.FinMap as finite
-use Rattle.std.proofs.lemmas.Bool.{and_parts, cases_eq, eq-eqb, eqb-true, ne_eqb}
+use Rattle.std.proofs.lemmas.Bool.{eq-eqb, eqb-true}
 use Rattle.std.proofs.lemmas.List.{length-set}
-use Rattle.std.proofs.lemmas.List.Elements.{All-contains, Contains-get_or}
+use Rattle.std.proofs.lemmas.List.Elements.{All-contains}
 use Rattle.std.proofs.lemmas.List.Sums.{fold-append}
 use Rattle.ruby_value.specs.declared.message.Message.{Message}
-use Rattle.ruby_value.specs.declared.message.MsgNo.{MsgNo}
 use Rattle.ctl_face.specs.Acts.{Acts, Copy}
 use Rattle.ctl_face.specs.AtFront.{at_front}
 use Rattle.ctl_face.specs.Ctl.{InboxMessage, Mail}
@@ -19,19 +18,16 @@ use Rattle.ctl_face.specs.Mailing.{incoming_message, mail_with_delivery}
 use Rattle.ctl_face.specs.Pop.{mail_without}
 use Rattle.ctl_face.specs.Recycle.{mail_with_recycled}
 use Rattle.ctl_face.specs.Stall.{mail_with_waiting}
-use Rattle.ctl_face.proofs.Inboxes.{ascend-with}
 use Rattle.ctl_face.proofs.LastArrivals.{inserted_elsewhere, inserted_here, not_moved}
 use Rattle.ctl_face.proofs.OneKey.{with_message-contains}
 use Rattle.ctl_mail.specs.declared.act.MailAct.{MailAct}
 use Rattle.ctl_mail.specs.declared.act.MailAct.TheVariants.{Arrive, Count, LocalLast, Mark, NetworkLast, Pop, Recycle, Stall, Wake, WakeAll}
 use Rattle.ctl_mail.specs.declared.moves.Move.{Move}
 use Rattle.ctl_mail.specs.declared.sent.SendCounts.{SendCounts}
-use Rattle.ctl_mail.specs.declared.store.MailStore.{MailStore}
-use Rattle.ctl_mail.specs.MailOf.{IsNewIn, mail_of}
+use Rattle.ctl_mail.specs.MailOf.{IsNewIn}
 use Rattle.ctl_mail.specs.Queues.{Queues}
-use Rattle.ctl_mail.specs.Sends.{OwnAreBelow}
-use Rattle.ctl_mail.specs.Sent.{copy_acts, counts_after, newer_local, newer_network, told_with_act, told_with_copy}
-use Rattle.ctl_mail.specs.Told.{AreMakeable, AreOf, CopiesFit, CountsFit, IsMakeable, Reflects, Told, after_act, after_acts, changed_mail, counts_in, mail_at_front}
+use Rattle.ctl_mail.specs.Sent.{copy_acts, counts_after, newer_local, newer_network, told_with_copy}
+use Rattle.ctl_mail.specs.Told.{AreMakeable, CopiesFit, CountsFit, IsMakeable, Told, after_act, after_acts, changed_mail, counts_in, mail_at_front}
 
 pub after-both : (now : ℕ) (mail : Mail) (xs ys : List MailAct) → after_acts now mail (xs ++ ys) ≡ after_acts now (after_acts now mail xs) ys
 unfolding after_acts
@@ -98,16 +94,9 @@ counts-kept now mail (Arrive m) is = absurd is
 counts-kept now mail (Count drawn) is = absurd is
 
 makeable-uncounted : (mail : Mail) (act : MailAct) → IsUncounted act → IsMakeable mail act
-makeable-uncounted mail (Pop buffer) is = tt
-makeable-uncounted mail (Recycle buffer arrival) is = tt
-makeable-uncounted mail (Mark cycle) is = tt
-makeable-uncounted mail (Stall buffer line) is = tt
-makeable-uncounted mail (Wake line) is = tt
-makeable-uncounted mail WakeAll is = tt
-makeable-uncounted mail (NetworkLast network receiver arrival) is = tt
-makeable-uncounted mail (LocalLast buffer arrival) is = tt
 makeable-uncounted mail (Arrive m) is = absurd is
 makeable-uncounted mail (Count drawn) is = absurd is
+makeable-uncounted mail _ is = tt
 
 pub fits-act : (mail : Mail) (old : Told) (act : MailAct) (acts : Acts) (moves : List Move) → IsUncounted act → CopiesFit mail old → CopiesFit mail (record old { log = old.log ++ act ∷ []; acts = acts; moves = moves })
 fits-act mail old act acts moves is fits =

@@ -10,11 +10,22 @@ use Rattle.ctl_face.specs.Ctl.{InboxMessage, Mail}
 use Rattle.ctl_face.specs.Enqueue.{for_others}
 use Rattle.ctl_face.specs.LocalView.{Actor}
 use Rattle.ctl_face.specs.Send.{Sending, copy_limit, has_jitter, no_copies, send, with_network_copy}
+use Rattle.ctl_mail.specs.declared.changes.MailChanges.{MailChanges}
+use Rattle.ctl_mail.specs.declared.store.MailStore.{MailStore}
+use Rattle.ctl_mail.specs.MailOf.{mail_of}
 use Rattle.ctl_mail.specs.MailView.{MailView}
+use Rattle.ctl_mail.specs.Told.{changed_mail, changed_view, told_by}
 use Rattle.ctl_face.specs.declared.routes.Routes.{Routes}
 use Rattle.ctl_face.specs.Routing.{receiving_buffer}
 use Rattle.pcg_words.specs.Below.{below}
 use Rattle.pcg_words.specs.Position.{Position}
+
+-- the mail, and what was done in it, as the changes of a scan leave it
+abbrev pub mail_after : MailStore → MailChanges → Mail
+mail_after store changes = changed_mail (mail_of store) (told_by changes)
+
+abbrev pub view_after : MailStore → MailChanges → MailView
+view_after store changes = changed_view (mail_of store) (told_by changes)
 
 abbrev pub view_with_copies : ℕ → MailView → Sending → MailView
 view_with_copies me v s = record {

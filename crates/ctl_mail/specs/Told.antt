@@ -1,5 +1,6 @@
--- The changes that a scan makes to mail, as plain data: the cycle, the acts on mail in their order, what they did to messages,
--- and where those wait that they have stalled or woken. The changed mail is the mail after these acts, one after another.
+-- The changes that a scan makes to mail, as plain data: the cycle, the counts that its next send goes on from, the acts on mail in
+-- their order, what they did to messages, and where those wait that they have stalled or woken. The changed mail is the mail after
+-- these acts, one after another.
 use Rattle.std.specs.Prelude.{◌≡◌, ◌≢◌, ◌+◌, ◌^◌, ◌<◌, ◌≤◌, ◌⊎◌, ◌↔◌, ℕ, Bool, true, List, [], ◌∷◌, Option, None, Some, Result, Ok, Err, Contains, is_some, map, if◌then◌else◌}
 use Rattle.std.specs.List.{fold}
 use Rattle.std.specs.FinMap as finite

@@ -34,7 +34,9 @@ impl MailChanges {
     /// No changes yet of this mail, of a scan in this cycle. It takes no memory.
     pub fn begin(alloc: Global, store: &MailStore, cycle: u64) -> MailChanges
         requires { IsMail store.now }
-        ensures none { told_by result ≡ record { cycle = cycle; counts = counts_in (mail_of store.now); log = []; acts = no_acts; moves = [] } }
+        ensures none { let counts = counts_in (mail_of store.now) in
+            told_by result
+            ≡ record { cycle = cycle; counts = counts; log = []; acts = no_acts; moves = [] } }
         ensures changes { AreOf store.now (told_by result) }
     {
         let counts = SendCounts {
@@ -54,7 +56,8 @@ impl MailChanges {
 
     // No changes yet, of a scan in this cycle.
     fn new(alloc: Global, cycle: u64, counts: SendCounts) -> MailChanges
-        ensures { told_by result ≡ record { cycle = cycle; counts = counts; log = []; acts = no_acts; moves = [] } }
+        ensures { told_by result
+            ≡ record { cycle = cycle; counts = counts; log = []; acts = no_acts; moves = [] } }
     {
         MailChanges {
             cycle,

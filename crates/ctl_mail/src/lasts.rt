@@ -24,8 +24,11 @@ pub(crate) fn empty_lasts(alloc: Global) -> Result<Vec<LineMap<u64>>, NoMemory>
 /// Writes a last arrival at a receiver on a network, where there is room and there is this network. It takes no memory.
 pub(crate) fn put(networks: &mut Vec<LineMap<u64>>, network: u16, receiver: u32, arrival: u64)
     requires { HasLastRoom networks.old.items network 1 }
-    ensures after { lasts_in networks.new.items ≡ with_last (lasts_in networks.old.items) network receiver arrival }
-    ensures room { (other n : ℕ) → HasLastRoom networks.old.items other (n + 1) → HasLastRoom networks.new.items other n }
+    ensures after { let lasts = lasts_in networks.old.items in
+        lasts_in networks.new.items ≡ with_last lasts network receiver arrival }
+    ensures room { (other n : ℕ)
+        → HasLastRoom networks.old.items other (n + 1)
+        → HasLastRoom networks.new.items other n }
 {
     match networks.get_mut(usize::from(network)) {
         Some(lasts) => {
@@ -43,7 +46,9 @@ pub(crate) fn reserve(
 ) -> Result<(), NoMemory>
     ensures same { lasts_in networks.new.items ≡ lasts_in networks.old.items }
     ensures ok { OnOk result (HasLastRoom networks.new.items network more) }
-    ensures room { (other n : ℕ) → HasLastRoom networks.old.items other n → HasLastRoom networks.new.items other n }
+    ensures room { (other n : ℕ)
+        → HasLastRoom networks.old.items other n
+        → HasLastRoom networks.new.items other n }
 {
     match networks.get_mut(usize::from(network)) {
         Some(lasts) => lasts.reserve(more),

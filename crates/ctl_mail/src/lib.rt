@@ -4,7 +4,9 @@
 #![tactic(auto)]
 
 mod act;
+mod arrivals;
 mod changes;
+mod copies;
 mod lasts;
 mod make;
 mod marks;

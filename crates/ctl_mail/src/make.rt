@@ -122,7 +122,8 @@ fn count(store: &mut MailStore, drawn: bool)
 fn network_last(store: &mut MailStore, network: u16, receiver: u32, arrival: u64)
     requires mail { IsMail store.old }
     requires place { HasLastRoom store.old.network_last.items network 1 }
-    ensures after { mail_of store.new ≡ after_act 0 (mail_of store.old) (act.NetworkLast network receiver arrival) }
+    ensures after { let written = act.NetworkLast network receiver arrival in
+        mail_of store.new ≡ after_act 0 (mail_of store.old) written }
     ensures mail { IsMail store.new }
     ensures buffers { buffer_count store.new ≡ buffer_count store.old }
     ensures marks { store.new.marks ≡ store.old.marks }
@@ -135,7 +136,8 @@ fn network_last(store: &mut MailStore, network: u16, receiver: u32, arrival: u64
 fn local_last(store: &mut MailStore, buffer: u16, arrival: u64)
     requires mail { IsMail store.old }
     requires place { 0 < store.old.local_last.room }
-    ensures after { mail_of store.new ≡ after_act 0 (mail_of store.old) (act.LocalLast buffer arrival) }
+    ensures after { let written = act.LocalLast buffer arrival in
+        mail_of store.new ≡ after_act 0 (mail_of store.old) written }
     ensures mail { IsMail store.new }
     ensures buffers { buffer_count store.new ≡ buffer_count store.old }
     ensures marks { store.new.marks ≡ store.old.marks }
@@ -205,8 +207,8 @@ impl MailChanges {
     }
 }
 
-// Makes room for so many more acts like this one, or answers that there is no memory for them. No send makes a copy for a buffer
-// that isn't there.
+// Makes room for so many more acts like this one, or answers that there is no memory for them, as of a buffer that isn't there:
+// routes that fit name no such buffer.
 fn reserve_place(store: &mut MailStore, act: &MailAct, more: usize) -> Result<(), NoMemory>
     requires mail { IsMail store.old }
     ensures same { mail_of store.new ≡ mail_of store.old }
@@ -241,7 +243,8 @@ fn reserve_places(store: &mut MailStore, changes: &MailChanges) -> Result<(), No
     ensures marks { store.new.marks ≡ store.old.marks }
     ensures stalls { store.new.stalls ≡ store.old.stalls }
     ensures places { LosesPlaces store.old store.new 0 }
-    ensures ok { OnOk result (All (HasPlaces store.new (length (told_by changes.now).log)) (told_by changes.now).log) }
+    ensures ok { OnOk result (let log = (told_by changes.now).log in
+        All (HasPlaces store.new (length log)) log) }
 {
     let more = changes.log.len();
     for i in 0..changes.log.len() {

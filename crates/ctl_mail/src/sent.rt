@@ -116,8 +116,11 @@ impl MailChanges {
         requires drawn { (told_by self.old).counts.drawn + 1 < 2 ^ 64 }
         requires copies { (told_by self.old).counts.copies + 1 < 2 ^ 64 }
         ensures after { let old = told_by self.old in
-            told_by self.new ≡ told_with_copy me drawn (copy_at me old.counts.sent receiver buffer arrival fields) old }
-        ensures room { (acts copies : ℕ) → HasSpace self.old (acts + 2) (copies + 1) → HasSpace self.new acts copies }
+            let copy = copy_at me old.counts.sent receiver buffer arrival fields in
+            told_by self.new ≡ told_with_copy me drawn copy old }
+        ensures room { (acts copies : ℕ)
+            → HasSpace self.old (acts + 2) (copies + 1)
+            → HasSpace self.new acts copies }
         ensures cycle { self.new.cycle ≡ self.old.cycle }
     {
         let number = MsgNo {
@@ -150,7 +153,9 @@ impl MailChanges {
     pub(crate) fn keep_act(&mut self, act: MailAct)
         requires { HasSpace self.old 1 0 }
         ensures after { told_by self.new ≡ told_with_act act (told_by self.old) }
-        ensures room { (acts copies : ℕ) → HasSpace self.old (acts + 1) copies → HasSpace self.new acts copies }
+        ensures room { (acts copies : ℕ)
+            → HasSpace self.old (acts + 1) copies
+            → HasSpace self.new acts copies }
         ensures cycle { self.new.cycle ≡ self.old.cycle }
     {
         self.log.push_back_reserved(act);

@@ -1,4 +1,4 @@
-use Rattle.std.proofs.Common.{◌≡◌, ◌≤◌, ◌<◌, None, Some, slice_get, refl, ap, ◌∙◌, arith}
+use Rattle.std.proofs.Common.{◌≡◌, None, Some, slice_get, refl, ap, ◌∙◌, arith}
 use Rattle.std.specs.FinMap as finite
 use Rattle.ctl_mail.proofs.Edits.{past-end, read-at, read-past}
 use Rattle.ctl_mail.proofs.Places.{no-more, not-written, room-after, room-there, written}

@@ -1,4 +1,4 @@
-use Rattle.std.proofs.Common.{◌≡◌, ◌≤◌, ◌<◌, ◌+◌, None, Some, slice_get, slice_set, refl, arith}
+use Rattle.std.proofs.Common.{◌≡◌, ◌+◌, None, Some, slice_get, slice_set, refl, arith}
 use Rattle.ctl_mail.proofs.Edits.{past-end, read-at, read-past, set-here}
 use Rattle.ctl_mail.proofs.Places.{has-room-nowhere, has-room-there, no-more, ok-then, room-after, same-lasts}
 use Rattle.ctl_mail.proofs.lasts.reserve.Goals as goal

@@ -1,4 +1,4 @@
-use Rattle.std.proofs.Common.{◌≤◌, ◌+◌, arith}
+use Rattle.std.proofs.Common.{◌+◌, arith}
 use Rattle.ctl_mail.proofs.Places.{no-more}
 use Rattle.ctl_mail.proofs.make.local_last.Goals as goal
 

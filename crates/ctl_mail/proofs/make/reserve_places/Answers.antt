@@ -1,4 +1,4 @@
-use Rattle.std.proofs.Common.{◌≡◌, ◌<◌, length, subst, ◌∙◌, refl, arith}
+use Rattle.std.proofs.Common.{◌≡◌, ◌<◌, length, subst, ◌∙◌, arith}
 use Rattle.std.specs.List.{All}
 use Rattle.ctl_mail.specs.Room.{HasPlaces}
 use Rattle.ctl_mail.proofs.Places.{places-more}

@@ -1,4 +1,4 @@
-use Rattle.std.proofs.Common.{◌≡◌, ◌≤◌, ◌<◌, ◌+◌, None, Some, slice_get, slice_set, refl, sym, ◌∙◌, arith}
+use Rattle.std.proofs.Common.{◌≡◌, ◌≤◌, ◌+◌, Some, slice_get, slice_set, refl, sym, ◌∙◌, arith}
 use Rattle.ctl_mail.proofs.Edits.{queue-at, read-at, replaces, room-at, rooms, set-here}
 use Rattle.ctl_mail.specs.Queues.{queue_of, room_of}
 use Rattle.ctl_mail.proofs.Places.{ok-then}

@@ -1,4 +1,4 @@
-use Rattle.std.proofs.Common.{◌≡◌, Option, Result, Some, slice_get, sym, subst, ap, ◌∙◌}
+use Rattle.std.proofs.Common.{◌≡◌, Result, Some, slice_get, sym, subst, ap, ◌∙◌}
 use Rattle.ruby_value.specs.declared.fault.Fault.{Fault}
 use Rattle.ctl_face.specs.LocalView.{Actor}
 use Rattle.ctl_face.specs.Send.{Sending}

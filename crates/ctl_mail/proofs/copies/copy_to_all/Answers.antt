@@ -1,4 +1,4 @@
-use Rattle.std.proofs.Common.{◌≡◌, ◌≤◌, ◌<◌, ◌+◌, ◌*◌, ◌^◌, ◌++◌, ℕ, None, Some, List, [], ◌∷◌, All, length, length-append, slice_get, refl, sym, subst, ap, ◌∙◌, arith}
+use Rattle.std.proofs.Common.{◌≡◌, ◌≤◌, ◌<◌, ◌+◌, ◌*◌, ◌^◌, ◌++◌, ℕ, Some, List, [], ◌∷◌, All, length, length-append, slice_get, refl, sym, subst, ap, ◌∙◌, arith}
 use Rattle.ruby_value.specs.declared.value.Value.{Value}
 use Rattle.ctl_face.specs.LocalView.{Actor}
 use Rattle.ctl_mail.specs.MailOf.{mail_of}
@@ -8,7 +8,7 @@ use Rattle.ctl_mail.specs.Told.{changed_mail, changed_view, told_by}
 use Rattle.ctl_mail.proofs.Edits.{past-end}
 use Rattle.ctl_mail.proofs.Members.{from-zero, member-holds, next-member, no-longer, no-next, push-parts, rise-from}
 use Rattle.ctl_mail.proofs.Sending.{Progress, all-done, may-fewer, more-progress, no-progress, space-fewer}
-use Rattle.ctl_mail.proofs.sends.copy_to_all.Goals as goal
+use Rattle.ctl_mail.proofs.copies.copy_to_all.Goals as goal
 
 pub loop-clone-init : goal.loop-clone-init
 loop-clone-init c =

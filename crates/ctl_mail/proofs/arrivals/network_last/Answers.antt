@@ -1,4 +1,4 @@
-use Rattle.std.proofs.Common.{◌≡◌, ◌≤◌, ◌<◌, ℕ, None, Some, Option, List, unwrap_or, slice_get, length, nat_cmp, refl, sym, subst, ap, ◌∙◌, arith}
+use Rattle.std.proofs.Common.{◌≡◌, ◌≤◌, ℕ, None, Some, Option, List, unwrap_or, slice_get, length, nat_cmp, refl, sym, ap, ◌∙◌, arith}
 use Rattle.std.specs.List.{fold}
 use Rattle.std.specs.Option.{option_copied}
 use Rattle.std.specs.FinMap as finite
@@ -10,7 +10,7 @@ use Rattle.ctl_mail.specs.Sent.{newer_network}
 use Rattle.ctl_mail.specs.Told.{changed_mail, told_by}
 use Rattle.ctl_mail.proofs.Places.{lasts-at, past-lasts, within-lasts}
 use Rattle.ctl_mail.proofs.SentActs.{last-after, length-after, no-lasts-past}
-use Rattle.ctl_mail.proofs.sends.network_last.Goals as goal
+use Rattle.ctl_mail.proofs.arrivals.network_last.Goals as goal
 
 pub returns-in_default : goal.returns-in_default
 returns-in_default c =

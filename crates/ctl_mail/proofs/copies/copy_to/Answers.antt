@@ -1,17 +1,17 @@
-use Rattle.std.proofs.Common.{◌≡◌, ◌≤◌, ◌<◌, ◌+◌, ◌*◌, ℕ, Bool, true, false, Option, None, Some, unwrap_or, is_some, refl, sym, subst, ap, ◌∙◌, arith}
+use Rattle.std.proofs.Common.{◌≡◌, ◌<◌, ◌+◌, ◌*◌, ℕ, true, false, Option, unwrap_or, sym, subst, ap, ◌∙◌, arith}
 use Rattle.ctl_face.specs.Acts.{Copy}
 use Rattle.ctl_face.specs.LocalView.{Actor}
 use Rattle.ctl_face.specs.Lasts.{last_at, lasts_on}
 use Rattle.ctl_face.specs.Routing.{is_ordered, path_to, receiving_buffer}
-use Rattle.ctl_face.specs.Send.{has_jitter, network_arrival, next_copy}
+use Rattle.ctl_face.specs.Send.{has_jitter, network_arrival}
 use Rattle.ctl_mail.specs.declared.act.MailAct.TheVariants.{NetworkLast}
 use Rattle.ctl_mail.specs.declared.sent.SendCounts.{SendCounts}
 use Rattle.ctl_mail.specs.MailOf.{mail_of}
 use Rattle.ctl_mail.specs.Sends.{MaySend, actor_of, jitter_at}
-use Rattle.ctl_mail.specs.Sent.{HasSpace, copy_at, told_with_act, told_with_copy}
-use Rattle.ctl_mail.specs.Told.{AreOf, Told, changed_mail, changed_view, told_by}
+use Rattle.ctl_mail.specs.Sent.{copy_at, told_with_act, told_with_copy}
+use Rattle.ctl_mail.specs.Told.{AreOf, changed_mail, changed_view, told_by}
 use Rattle.ctl_mail.proofs.Sending.{are-copied, are-last, are-words, arrival-as, copy-as, later-than, may-copied, may-last, one-as, space-as, view-ordered, view-unordered}
-use Rattle.ctl_mail.proofs.sends.copy_to.Goals as goal
+use Rattle.ctl_mail.proofs.copies.copy_to.Goals as goal
 
 pub returns-then-ordered-clause-after : goal.returns-then-ordered-clause-after
 returns-then-ordered-clause-after c =

@@ -1,4 +1,4 @@
-use Rattle.std.proofs.Common.{◌≡◌, ◌≤◌, ◌<◌, ◌+◌, ℕ, true, false, refl, sym, subst, ap, ◌∙◌, arith}
+use Rattle.std.proofs.Common.{◌≡◌, ◌<◌, ◌+◌, true, false, refl, sym, subst, ap, ◌∙◌, arith}
 use Rattle.ctl_face.specs.Acts.{Copy}
 use Rattle.ctl_face.specs.Lasts.{last_at}
 use Rattle.ctl_face.specs.Send.{local_arrival}
@@ -8,7 +8,7 @@ use Rattle.ctl_mail.specs.MailOf.{mail_of}
 use Rattle.ctl_mail.specs.Sent.{copy_at, told_with_act, told_with_copy}
 use Rattle.ctl_mail.specs.Told.{AreOf, changed_mail, changed_view, told_by}
 use Rattle.ctl_mail.proofs.Sending.{are-copied, are-local-last, copy-as, later-than, local-as, view-local-ordered, view-local-unordered}
-use Rattle.ctl_mail.proofs.sends.copy_to_itself.Goals as goal
+use Rattle.ctl_mail.proofs.copies.copy_to_itself.Goals as goal
 
 pub returns-then-ordered-clause-after : goal.returns-then-ordered-clause-after
 returns-then-ordered-clause-after c =

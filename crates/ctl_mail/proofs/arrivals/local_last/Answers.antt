@@ -4,9 +4,9 @@ use Rattle.std.specs.FinMap as finite
 use Rattle.ctl_face.specs.Lasts.{last_at}
 use Rattle.ctl_mail.specs.MailOf.{mail_of}
 use Rattle.ctl_mail.specs.Sent.{newer_local}
-use Rattle.ctl_mail.specs.Told.{changed_mail, told_by}
+use Rattle.ctl_mail.specs.Told.{told_by}
 use Rattle.ctl_mail.proofs.SentActs.{local-after}
-use Rattle.ctl_mail.proofs.sends.local_last.Goals as goal
+use Rattle.ctl_mail.proofs.arrivals.local_last.Goals as goal
 
 pub returns-in-Some : goal.returns-in-Some
 returns-in-Some c =

@@ -5,7 +5,7 @@ use Rattle.ctl_mail.specs.Sends.{AreNext, MaySend, actor_of, members_from}
 use Rattle.ctl_mail.specs.Sent.{HasSpace}
 use Rattle.ctl_mail.specs.Told.{AreOf, changed_mail, told_by}
 use Rattle.ctl_mail.proofs.Sending.{Progress}
-use Rattle.ctl_mail.proofs.sends.copy_to_all.Given as goal
+use Rattle.ctl_mail.proofs.copies.copy_to_all.Given as goal
 
 -- the copies to those before this number are made
 abbrev pub invariant-loop-clone : goal.invariant-loop-clone
