@@ -44,8 +44,8 @@ impl Tables {
         initial: &Fields,
     ) -> Result<(), Trouble>
         requires { AreOf changes.old self.now }
-        ensures does { DoesIn (allocate_in (tables_now self.now changes.old) table line initial.now) result
-            (tables_now self.now changes.old) (tables_now self.now changes.new) }
+        ensures does { DoesIn (allocate_in (tables_now self.now changes.old) table line initial.now)
+            result (tables_now self.now changes.old) (tables_now self.now changes.new) }
         ensures states { states_now self.now changes.new ≡ states_now self.now changes.old }
         ensures replays { AreOf changes.new self.now }
     {
@@ -75,8 +75,8 @@ impl Tables {
         initial: &Fields,
     ) -> Result<Ref, Trouble>
         requires { AreOf changes.old self.now }
-        ensures does { DoesIn (allocate_in (tables_now self.now changes.old) table line initial.now) result
-            (tables_now self.now changes.old) (tables_now self.now changes.new) }
+        ensures does { DoesIn (allocate_in (tables_now self.now changes.old) table line initial.now)
+            result (tables_now self.now changes.old) (tables_now self.now changes.new) }
         ensures reference { IfOk result (λ r. r ≡ reference_to table line) }
         ensures states { states_now self.now changes.new ≡ states_now self.now changes.old }
         ensures replays { AreOf changes.new self.now }

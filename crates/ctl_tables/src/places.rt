@@ -65,7 +65,8 @@ impl StoredTable {
     // How many there are after a change of the tables, in which this one has that number, where there were so many.
     fn lines_with(&self, change: &TableChange, table: u16, line: u64, lines: u64) -> u64
         requires { lines < 2 ^ 63 }
-        ensures lines { result ≡ lines_changed (Some (frame_of (table_of self.now))) table line change.now lines }
+        ensures lines { result
+            ≡ lines_changed (Some (frame_of (table_of self.now))) table line change.now lines }
         ensures small { result ≤ lines + 1 }
     {
         if table == change.table && self.share_places(change.line, line) {

@@ -44,7 +44,8 @@ impl Tables {
         state: u16,
     ) -> Result<(), Trouble>
         requires { AreOf changes.old self.now }
-        ensures ok { OnOk result (states_now self.now changes.new ≡ map.insert (states_now self.now changes.old) line state) }
+        ensures ok { OnOk result (states_now self.now changes.new
+            ≡ map.insert (states_now self.now changes.old) line state) }
         ensures err { OnErr result (states_now self.now changes.new ≡ states_now self.now changes.old) }
         ensures memory { IfErr result (λ t. t ≡ Trouble.NoMemory) }
         ensures tables { tables_now self.now changes.new ≡ tables_now self.now changes.old }
