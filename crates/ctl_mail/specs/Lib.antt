@@ -1,3 +1,4 @@
+pub mod Census
 pub mod Inbox
 pub mod Least
 pub mod MailOf

@@ -4,6 +4,7 @@
 #![tactic(auto)]
 
 mod act;
+mod census;
 mod changes;
 mod lasts;
 mod make;
