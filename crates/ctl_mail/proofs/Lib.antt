@@ -3,6 +3,7 @@ mod Ascending
 mod Backs
 mod Begun
 mod Changed
+mod Counts
 mod Edits
 mod Firsts
 mod Founds

@@ -27,7 +27,7 @@ use Rattle.ctl_mail.proofs.Inboxes.{becomes, inbox-ascends, inbox-has}
 use Rattle.ctl_mail.proofs.Rises.{filters-apart}
 use Rattle.ctl_mail.proofs.WakeActs.{pairs-map}
 
-before-apart : (a b : MsgNo) → IsBefore a b → a ≢ b
+pub before-apart : (a b : MsgNo) → IsBefore a b → a ≢ b
 before-apart a b before same = itself b (subst (λ (n : MsgNo). IsBefore n b) same before)
   where
     itself : (n : MsgNo) → IsBefore n n → ⊥

@@ -1,3 +1,4 @@
+pub mod Census
 pub mod Inbox
 pub mod Lasts
 pub mod Least

@@ -5,6 +5,7 @@
 
 mod act;
 mod arrivals;
+mod census;
 mod changes;
 mod copies;
 mod lasts;
