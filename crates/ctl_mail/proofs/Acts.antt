@@ -25,6 +25,7 @@ use Rattle.ctl_mail.proofs.Leasts.{front-least}
 use Rattle.ctl_mail.proofs.SentActs.{fits-act}
 use Rattle.ctl_mail.specs.declared.act.MailAct.{MailAct}
 use Rattle.ctl_mail.specs.declared.act.MailAct.TheVariants.{Mark, Pop, Recycle}
+use Rattle.ctl_mail.specs.declared.sent.SendCounts.{SendCounts}
 use Rattle.ctl_mail.specs.MailView.{view_after_front, view_again, view_popped, view_recycled}
 use Rattle.ctl_mail.specs.Least.{IsFree, IsLeast}
 use Rattle.ctl_mail.specs.Queues.{Queues}
@@ -90,9 +91,9 @@ module _ (mail : Mail) (old : Told) where
       ap (λ (after : Mail). record { mail = after; acts = record old.acts { again = true } }) (sym (after-more old.cycle mail old.log (Mark (old.cycle + 1))))
 
 -- other acts of the same scan, by which the same messages are gone
-module _ (queues : Queues) (stalled : List Stalled) (old : Told) (log : List MailAct) (acts : Acts) (woken : acts.woken ≡ old.acts.woken) where
+module _ (queues : Queues) (stalled : List Stalled) (old : Told) (counts : SendCounts) (log : List MailAct) (acts : Acts) (woken : acts.woken ≡ old.acts.woken) where
   abbrev told_as : Told
-  told_as = record old { log = log; acts = acts }
+  told_as = record old { counts = counts; log = log; acts = acts }
 
   pub reflects-as : (inbox : List InboxMessage) → ((n : MsgNo) → IsGone old.acts n → IsGone acts n) → ((n : MsgNo) → IsGone acts n → IsGone old.acts n)
       → Reflects queues stalled old inbox → Reflects queues stalled told_as inbox
@@ -212,7 +213,7 @@ are-of-recycle store old buffer arrival m later is are =
     let at : arrival ≡ o.message.arrival = ap (λ (z : InboxMessage). z.message.arrival) same in
     absurd (omega arith) in
     (subst (λ (after : Mail). Reflects store.buffers.items store.stalls.kept new after.inbox) (sym (recycled-mail (mail_of store) old buffer arrival m is))
-    (reflects-gone store.buffers.items store.stalls.kept old new.log new.acts refl m.number
+    (reflects-gone store.buffers.items store.stalls.kept old old.counts new.log new.acts refl m.number
     (λ n gone. ⊎_elim (λ consumed. inl (inl consumed)) (λ recycled. ⊎_elim (λ has. inl (inr has)) (λ same. inr same) (Contains-push_cases old.acts.recycled m.number n recycled)) gone)
     (λ n gone. ⊎_elim (λ consumed. inl consumed) (λ recycled. inr (Contains-append_left old.acts.recycled (m.number ∷ []) n recycled)) gone)
     (inr (Contains-push old.acts.recycled m.number))
@@ -229,7 +230,7 @@ are-of-pop store old buffer m is are =
     let inbox = (changed_mail (mail_of store) old).inbox in
     let new = told_popped old buffer m.number in
     (subst (λ (after : Mail). Reflects store.buffers.items store.stalls.kept new after.inbox) (sym (popped-mail (mail_of store) old buffer m is))
-    (reflects-gone store.buffers.items store.stalls.kept old new.log new.acts refl m.number
+    (reflects-gone store.buffers.items store.stalls.kept old old.counts new.log new.acts refl m.number
     (λ n gone. ⊎_elim (λ consumed. ⊎_elim (λ has. inl (inl has)) (λ same. inr same) (Contains-push_cases old.acts.consumed m.number n consumed)) (λ recycled. inl (inr recycled)) gone)
     (λ n gone. ⊎_elim (λ consumed. inl (Contains-append_left old.acts.consumed (m.number ∷ []) n consumed)) (λ recycled. inr recycled) gone)
     (inl (Contains-push old.acts.consumed m.number))
@@ -242,5 +243,5 @@ pub are-of-again : (store : MailStore) (old : Told) (cycle : ℕ) → AreOf stor
 are-of-again store old cycle are =
     let new = told_again old cycle in
     (subst (λ (mail : Mail). Reflects store.buffers.items store.stalls.kept new mail.inbox) (sym (after-more old.cycle (mail_of store) old.log (Mark cycle)))
-    (reflects-as store.buffers.items store.stalls.kept old new.log new.acts refl (changed_mail (mail_of store) old).inbox (λ n gone. gone) (λ n gone. gone) are.0),
+    (reflects-as store.buffers.items store.stalls.kept old old.counts new.log new.acts refl (changed_mail (mail_of store) old).inbox (λ n gone. gone) (λ n gone. gone) are.0),
     fits-act (mail_of store) old (Mark cycle) new.acts old.moves tt are.1)

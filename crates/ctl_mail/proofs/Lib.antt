@@ -26,7 +26,5 @@ mod WakeActs
 mod WakeMakes
 mod Members
 mod Places
-mod Pops
-mod Puts
 mod Sending
 mod SentActs

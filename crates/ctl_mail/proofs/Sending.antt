@@ -25,6 +25,7 @@ use Rattle.ctl_face.proofs.Inboxes.{ascend-with}
 use Rattle.ctl_face.proofs.OneKey.{with_message-contains}
 use Rattle.ctl_mail.specs.declared.act.MailAct.{MailAct}
 use Rattle.ctl_mail.specs.declared.act.MailAct.TheVariants.{LocalLast, NetworkLast}
+use Rattle.stall_map.specs.declared.stalled.Stalled.{Stalled}
 use Rattle.ctl_mail.specs.declared.changes.MailChanges.{MailChanges}
 use Rattle.ctl_mail.specs.declared.store.MailStore.{MailStore}
 use Rattle.ctl_mail.specs.MailOf.{IsNewIn, mail_of}
@@ -156,16 +157,18 @@ counts-fit me now mail le may =
     let d = may.drawn in
     record { sent = omega arith; drawn = omega arith; copies = omega arith }
 
--- what is ready stays
-reflects-copied : (queues : Queues) (cycle : ℕ) (acts : Acts) (mail : Mail) (mine : Bool) (m : Message) → cycle < m.arrival → IsNewIn mail m.number
-    → Reflects queues cycle acts mail.inbox → Reflects queues cycle acts (mail_with_delivery mine mail m).inbox
-reflects-copied queues cycle acts mail false m later fresh reflects = reflects
-reflects-copied queues cycle acts mail true m later fresh reflects = record {
+-- what is seen stays
+reflects-copied : (queues : Queues) (stalled : List Stalled) (told : Told) (mail : Mail) (mine : Bool) (m : Message) → told.cycle < m.arrival → IsNewIn mail m.number
+    → Reflects queues stalled told mail.inbox → Reflects queues stalled told (mail_with_delivery mine mail m).inbox
+reflects-copied queues stalled told mail false m later fresh reflects = reflects
+reflects-copied queues stalled told mail true m later fresh reflects = record {
   ascends = ascend-with mail.inbox (incoming_message m) reflects.ascends;
-  free = λ x arrived. (
-    λ has. (reflects.free x arrived).0 (late-contains queues cycle acts acts mail.inbox m later fresh x arrived has),
-    λ left. still-contains queues cycle acts acts mail.inbox m later fresh x ((reflects.free x arrived).1 left),
+  left = λ o seen. (
+    λ has. (reflects.left o seen).0 (late-contains told.cycle mail.inbox m later fresh o seen has),
+    λ left. still-contains told.cycle mail.inbox m later fresh o ((reflects.left o seen).1 left),
   );
+  none_back = reflects.none_back;
+  moved = reflects.moved;
 }
 
 pub are-copied : (store : MailStore) (me : ℕ) (drawn : Bool) (c : Copy) (old : Told) → old.cycle ≤ 10 ^ 12 → MaySend me old.cycle 1 (changed_mail (mail_of store) old)
@@ -175,22 +178,30 @@ are-copied store me drawn c old le may later number are =
     let mail = changed_mail (mail_of store) old in
     let fresh : IsNewIn mail c.message.number = subst (IsNewIn mail) (sym number) (new-number me old.cycle 1 mail may) in
     let new = told_with_copy me drawn c old in (
-      subst (λ (m : Mail). Reflects store.buffers.items old.cycle new.acts m.inbox) (sym (after-copy (mail_of store) me drawn c old))
-          (reflects-copied store.buffers.items old.cycle new.acts mail (eqb c.receiver me) c.message later fresh
-          (reflects-as store.buffers.items old.cycle old.acts new.acts mail.inbox (λ n gone. gone) (λ n gone. gone) are.0)),
+      subst (λ (m : Mail). Reflects store.buffers.items store.stalls.kept new m.inbox) (sym (after-copy (mail_of store) me drawn c old))
+          (reflects-copied store.buffers.items store.stalls.kept new mail (eqb c.receiver me) c.message later fresh
+          (reflects-as store.buffers.items store.stalls.kept old new.counts new.log new.acts refl mail.inbox (λ n gone. gone) (λ n gone. gone) are.0)),
       fits-copy (mail_of store) me drawn c old (counts-fit me old.cycle mail le may) (λ _. fresh) are.1,
     )
 
+-- an act that changes no message
+written-reflects : (store : MailStore) (old : Told) (act : MailAct) → (after_act old.cycle (changed_mail (mail_of store) old) act).inbox ≡ (changed_mail (mail_of store) old).inbox
+    → AreOf store old → Reflects store.buffers.items store.stalls.kept (told_with_act act old) (changed_mail (mail_of store) (told_with_act act old)).inbox
+written-reflects store old act same are =
+    let new = told_with_act act old in
+    subst (Reflects store.buffers.items store.stalls.kept new) (sym (ap (λ (m : Mail). m.inbox) (after-act (mail_of store) act old) ∙ same))
+    (reflects-as store.buffers.items store.stalls.kept old new.counts new.log new.acts refl (changed_mail (mail_of store) old).inbox (λ n gone. gone) (λ n gone. gone) are.0)
+
 pub are-last : (store : MailStore) (network receiver arrival : ℕ) (old : Told) → AreOf store old → AreOf store (told_with_act (NetworkLast network receiver arrival) old)
 are-last store network receiver arrival old are = (
-  subst (λ (m : Mail). Reflects store.buffers.items old.cycle old.acts m.inbox) (sym (after-act (mail_of store) (NetworkLast network receiver arrival) old)) are.0,
-  fits-act (mail_of store) old (NetworkLast network receiver arrival) old.acts tt are.1,
+  written-reflects store old (NetworkLast network receiver arrival) refl are,
+  fits-act (mail_of store) old (NetworkLast network receiver arrival) old.acts old.moves tt are.1,
 )
 
 pub are-local-last : (store : MailStore) (buffer arrival : ℕ) (old : Told) → AreOf store old → AreOf store (told_with_act (LocalLast buffer arrival) old)
 are-local-last store buffer arrival old are = (
-  subst (λ (m : Mail). Reflects store.buffers.items old.cycle old.acts m.inbox) (sym (after-act (mail_of store) (LocalLast buffer arrival) old)) are.0,
-  fits-act (mail_of store) old (LocalLast buffer arrival) old.acts tt are.1,
+  written-reflects store old (LocalLast buffer arrival) refl are,
+  fits-act (mail_of store) old (LocalLast buffer arrival) old.acts old.moves tt are.1,
 )
 
 -- more copies may be sent after one

@@ -27,7 +27,7 @@ use Rattle.ctl_mail.specs.declared.sent.SendCounts.{SendCounts}
 use Rattle.ctl_mail.specs.MailOf.{IsNewIn}
 use Rattle.ctl_mail.specs.Queues.{Queues}
 use Rattle.ctl_mail.specs.Sent.{copy_acts, counts_after, newer_local, newer_network, told_with_copy}
-use Rattle.ctl_mail.specs.Told.{AreMakeable, CopiesFit, CountsFit, IsMakeable, Told, after_act, after_acts, changed_mail, counts_in, mail_at_front}
+use Rattle.ctl_mail.specs.Told.{AreMakeable, CopiesFit, CountsFit, IsMakeable, IsSeen, Told, after_act, after_acts, changed_mail, counts_in, mail_at_front}
 
 pub after-both : (now : ℕ) (mail : Mail) (xs ys : List MailAct) → after_acts now mail (xs ++ ys) ≡ after_acts now (after_acts now mail xs) ys
 unfolding after_acts
@@ -137,19 +137,23 @@ fits-copy mail me drawn c old counts new fits =
     (makeable-copy-by old.cycle before (eqb c.receiver me) drawn c.message counts new)
     (ap (counts_after drawn) fits.counts ∙ (counts-copied before (eqb c.receiver me) drawn c.message ∙ ap counts_in (sym (after-copy-by old.cycle before (eqb c.receiver me) drawn c.message))))
 
--- a message that arrives later isn't ready
-module _ (queues : Queues) (cycle : ℕ) (old new : Acts) (inbox : List InboxMessage) (m : Message) (later : cycle < m.arrival) (fresh : All (λ (o : InboxMessage). o.message.number ≢ m.number) inbox) where
-  not-it : (x : Message) → x.arrival ≤ cycle → incoming_message m ≡ incoming_message x → ⊥
-  not-it x arrived same = let so : m.arrival ≡ x.arrival = ap (λ (z : InboxMessage). z.message.arrival) same in absurd (omega arith)
+-- a message that arrives later isn't seen
+module _ (cycle : ℕ) (inbox : List InboxMessage) (m : Message) (later : cycle < m.arrival) (fresh : All (λ (o : InboxMessage). o.message.number ≢ m.number) inbox) where
+  not-it : (o : InboxMessage) → IsSeen cycle o → incoming_message m ≡ o → ⊥
+  not-it o seen same =
+      let waits : o.waiting ≡ None = sym (ap (λ (z : InboxMessage). z.waiting) same) in
+      let arrived : o.message.arrival ≤ cycle = seen waits in
+      let so : m.arrival ≡ o.message.arrival = ap (λ (z : InboxMessage). z.message.arrival) same in
+      absurd (omega arith)
 
-  pub late-contains : (x : Message) → x.arrival ≤ cycle → Contains (with_message inbox (incoming_message m)) (incoming_message x) → Contains inbox (incoming_message x)
-  late-contains x arrived has =
-      ⊎_elim (λ same. absurd (not-it x arrived same)) (λ so. so.0) ((with_message-contains inbox (incoming_message m) (incoming_message x)).0 has)
+  pub late-contains : (o : InboxMessage) → IsSeen cycle o → Contains (with_message inbox (incoming_message m)) o → Contains inbox o
+  late-contains o seen has =
+      ⊎_elim (λ same. absurd (not-it o seen same)) (λ so. so.0) ((with_message-contains inbox (incoming_message m) o).0 has)
 
-  pub still-contains : (x : Message) → Contains inbox (incoming_message x) → Contains (with_message inbox (incoming_message m)) (incoming_message x)
-  still-contains x has =
-      (with_message-contains inbox (incoming_message m) (incoming_message x)).1
-      (inr (has, All-contains (λ (o : InboxMessage). o.message.number ≢ m.number) inbox (incoming_message x) fresh has))
+  pub still-contains : (o : InboxMessage) → Contains inbox o → Contains (with_message inbox (incoming_message m)) o
+  still-contains o has =
+      (with_message-contains inbox (incoming_message m) o).1
+      (inr (has, All-contains (λ (o : InboxMessage). o.message.number ≢ m.number) inbox o fresh has))
 
 -- the last arrivals after acts
 lasts-at-front : (mail : Mail) (change : Message → Mail) → ((m : Message) → (change m).network_last ≡ mail.network_last) → (o : Option Message) → (mail_at_front mail (at_front change o)).network_last ≡ mail.network_last

@@ -27,6 +27,7 @@ use Rattle.ctl_mail.specs.MailOf.{IsMail, IsNewIn, buffer_count, mail_of}
 use Rattle.ctl_mail.specs.MailView.{view_after_front, view_stalled}
 use Rattle.ctl_mail.specs.Queues.{Queues}
 use Rattle.ctl_mail.specs.Told.{AreOf, Reflects, Told, after_act, changed_mail, changed_view, mail_at_front}
+use Rattle.ctl_mail.proofs.SentActs.{fits-act}
 use Rattle.ctl_mail.proofs.Acts.{after-more, front-free}
 use Rattle.ctl_mail.proofs.Changed.{ascend-changed, readded}
 use Rattle.ctl_mail.proofs.Inboxes.{becomes, inbox-ascends, inbox-has}
@@ -92,14 +93,16 @@ some-is line same = cc same
 
 pub are-of-stall : (store : MailStore) (old : Told) (buffer line : ℕ) (m : Message) → Holds store.buffers.items store.stalls.kept
     → face.front (changed_mail (mail_of store) old) buffer old.cycle ≡ Some m → AreOf store old → AreOf store (told_stalled old buffer line m.number)
-are-of-stall store old buffer line m holds is reflects =
+are-of-stall store old buffer line m holds is are =
+    let reflects = are.0 in
     let mail = changed_mail (mail_of store) old in
     let new = told_stalled old buffer line m.number in
     let free : IsFree mail.inbox buffer old.cycle m = front-free mail buffer old.cycle m is in
-    subst (λ (after : Mail). Reflects store.buffers.items store.stalls.kept new after.inbox) (sym (stalled-mail (mail_of store) old buffer line m is))
+    (subst (λ (after : Mail). Reflects store.buffers.items store.stalls.kept new after.inbox) (sym (stalled-mail (mail_of store) old buffer line m is))
     (shifted store.buffers.items store.stalls.kept old new (m.number ∷ []) (Some line) mail.inbox (changed_message mail.inbox m.number (message_waiting_under line))
     holds reflects (one-shifted mail.inbox old.cycle line m reflects.ascends free.held free.arrived) refl refl (λ n gone. gone) (λ n gone. gone)
-    (λ none. (none, λ n has. some-is line)))
+    (λ none. (none, λ n has. some-is line))),
+    fits-act (mail_of store) old (Stall buffer line) new.acts new.moves tt are.1)
 
 -- a message waits in the mail as it is kept
 module _ (queues : Queues) (stalled new : List Stalled) (line : ℕ) (m : Message) (holds : Holds queues stalled)

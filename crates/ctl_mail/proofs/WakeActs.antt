@@ -24,6 +24,7 @@ use Rattle.ctl_mail.specs.Moves.{act_of, is_woken, moves_back, waiting_after}
 use Rattle.ctl_mail.specs.Numbers.{Adds, NumbersRise}
 use Rattle.ctl_mail.specs.Queues.{Queues}
 use Rattle.ctl_mail.specs.Told.{AreOf, IsGone, IsSeen, IsWokenIn, IsWokenMoved, IsWokenStalled, Reflects, Told, after_act, changed_mail, changed_view}
+use Rattle.ctl_mail.proofs.SentActs.{IsUncounted, fits-act}
 use Rattle.ctl_mail.proofs.Acts.{after-more}
 use Rattle.ctl_mail.proofs.AfterMoves.{has-entry, with-entry}
 use Rattle.ctl_mail.proofs.Inboxes.{one-of-ascending}
@@ -232,6 +233,10 @@ told_woken old waking numbers = record old {
   moves = old.moves ++ moves_back numbers;
 }
 
+uncounted : (waking : Waking) → IsUncounted (act_of waking)
+uncounted (Line line) = tt
+uncounted All = tt
+
 pub act-wakes : (now : ℕ) (mail : Mail) (waking : Waking) → after_act now mail (act_of waking) ≡ woken_mail mail (λ (o : InboxMessage). is_woken waking o.waiting)
 act-wakes now mail (Line line) = refl
 act-wakes now mail All = refl
@@ -240,8 +245,11 @@ both-none : {X : Type 0} (xs ys : List X) → xs ++ ys ≡ [] → (xs ≡ []) ×
 both-none [] ys is = (refl, is)
 both-none (x ∷ xs) ys is = absurd (cc is)
 
-module _ (store : MailStore) (old : Told) (waking : Waking) (numbers : List MsgNo) (holds : Holds store.buffers.items store.stalls.kept) (reflects : AreOf store old)
+module _ (store : MailStore) (old : Told) (waking : Waking) (numbers : List MsgNo) (holds : Holds store.buffers.items store.stalls.kept) (are : AreOf store old)
     (adds : Adds [] (IsWokenIn store.stalls.kept old waking) numbers) where
+  reflects : Reflects store.buffers.items store.stalls.kept old (changed_mail (mail_of store) old).inbox
+  reflects = are.0
+
   abbrev mail : Mail
   mail = changed_mail (mail_of store) old
 
@@ -262,7 +270,8 @@ module _ (store : MailStore) (old : Told) (waking : Waking) (numbers : List MsgN
   pub are-of-wake : AreOf store (told_woken old waking numbers)
   are-of-wake =
       let new = told_woken old waking numbers in
-      subst (λ (after : Mail). Reflects store.buffers.items store.stalls.kept new after.inbox) (sym woken-is)
+      (subst (λ (after : Mail). Reflects store.buffers.items store.stalls.kept new after.inbox) (sym woken-is)
       (shifted store.buffers.items store.stalls.kept old new numbers None mail.inbox (woken_mail mail tested).inbox holds reflects
       (woken-shifted mail.inbox tested numbers old.cycle reflects.ascends hits (λ o is. woken-waits waking o.waiting is)) refl refl (λ n gone. gone) (λ n gone. gone)
-      (λ none. let so = both-none old.acts.woken numbers none in (so.0, λ n has. absurd (nothing-there n (subst (λ ns. Contains ns n) so.1 has)))))
+      (λ none. let so = both-none old.acts.woken numbers none in (so.0, λ n has. absurd (nothing-there n (subst (λ ns. Contains ns n) so.1 has))))),
+      fits-act (mail_of store) old (act_of waking) new.acts new.moves (uncounted waking) are.1)

@@ -109,6 +109,7 @@ fn count(store: &mut MailStore, drawn: bool)
     ensures mail { IsMail store.new }
     ensures buffers { buffer_count store.new ≡ buffer_count store.old }
     ensures marks { store.new.marks ≡ store.old.marks }
+    ensures stalls { store.new.stalls ≡ store.old.stalls }
     ensures places { LosesPlaces store.old store.new 0 }
 {
     store.sent += 1;
@@ -127,6 +128,7 @@ fn network_last(store: &mut MailStore, network: u16, receiver: u32, arrival: u64
     ensures mail { IsMail store.new }
     ensures buffers { buffer_count store.new ≡ buffer_count store.old }
     ensures marks { store.new.marks ≡ store.old.marks }
+    ensures stalls { store.new.stalls ≡ store.old.stalls }
     ensures places { LosesPlaces store.old store.new 1 }
 {
     lasts::put(&mut store.network_last, network, receiver, arrival);
@@ -141,6 +143,7 @@ fn local_last(store: &mut MailStore, buffer: u16, arrival: u64)
     ensures mail { IsMail store.new }
     ensures buffers { buffer_count store.new ≡ buffer_count store.old }
     ensures marks { store.new.marks ≡ store.old.marks }
+    ensures stalls { store.new.stalls ≡ store.old.stalls }
     ensures places { LosesPlaces store.old store.new 1 }
 {
     let _before = store.local_last.put(u64::from(buffer), arrival);

@@ -9,3 +9,9 @@ returns-in-Mark-clause-places c = loses-more c.args.store.now c.mark.new.store c
 
 pub returns-in-Count-clause-places : goal.returns-in-Count-clause-places
 returns-in-Count-clause-places c = loses-more c.args.store.now c.count.new.store c.count.ensures.places
+
+pub returns-in-Wake-clause-places : goal.returns-in-Wake-clause-places
+returns-in-Wake-clause-places c = loses-more c.args.store.now c.make_wake.new.store c.make_wake.ensures.places
+
+pub returns-in-WakeAll-clause-places : goal.returns-in-WakeAll-clause-places
+returns-in-WakeAll-clause-places c = loses-more c.args.store.now c.make_wake_all.new.store c.make_wake_all.ensures.places

@@ -1,7 +1,8 @@
-use Rattle.std.proofs.Common.{refl, List, ℕ, ◌+◌, sym, subst, ap, ◌∙◌, arith}
+use Rattle.std.proofs.Common.{refl, List, ℕ, ◌≤◌, ◌+◌, sym, subst, ap, ◌∙◌, arith}
 use Rattle.std.specs.List.Sorted.{IsStrictlyIncreasing}
 use Rattle.ctl_face.proofs.Marks.{IsStrictlyIncreasing-with_mark}
 use Rattle.ctl_mail.specs.MailOf.{mail_of}
+use Rattle.ctl_mail.specs.Queues.{room_of}
 use Rattle.ctl_mail.proofs.Makes.{made-put, new-in-queue}
 use Rattle.ctl_mail.proofs.Places.{no-more}
 use Rattle.ctl_mail.proofs.make.put.Goals as goal
@@ -22,7 +23,7 @@ returns-clause-mail c = record {
 
 pub returns-clause-places : goal.returns-clause-places
 returns-clause-places c = record {
-  buffers = c.put.ensures.room;
+  buffers = λ buffer. (let so : room_of c.args.store.now.buffers.items buffer ≤ room_of c.put.new.buffers.items buffer + 1 = c.put.ensures.room buffer in omega arith);
   networks = λ network n has. no-more c.args.store.now.network_last.items network n (n + 1) (omega arith) has;
   locals = omega arith;
 }

@@ -1,7 +1,7 @@
 use Rattle.std.proofs.Common.{◌≡◌, ◌<◌, length, subst, ◌∙◌, arith}
 use Rattle.std.specs.List.{All}
 use Rattle.ctl_mail.specs.Room.{HasPlaces}
-use Rattle.ctl_mail.proofs.Places.{places-more}
+use Rattle.ctl_mail.proofs.Places.{loses-none, places-more}
 use Rattle.ctl_mail.proofs.make.reserve_places.Goals as goal
 
 pub reserve_place-requires : goal.reserve_place-requires
@@ -15,6 +15,8 @@ loop-i-preserved c =
       mail = c.reserve_place.ensures.mail;
       buffers = c.reserve_place.ensures.buffers ∙ c.loop-i.invariant.buffers;
       marks = c.reserve_place.ensures.marks ∙ c.loop-i.invariant.marks;
+      stalls = c.reserve_place.ensures.stalls ∙ c.loop-i.invariant.stalls;
+      places = loses-none c.args.store.now c.loop-i.store c.reserve_place.new.store c.loop-i.invariant.places c.reserve_place.ensures.places;
       made = places-more c.loop-i.store c.reserve_place.new.store c.args.changes.now.log.items c.len-more.result c.loop-i.i c.index.result.now c.reserve_place.ensures.places c.in_ok-reserve_place.ensures.ok within c.index.ensures c.loop-i.invariant.made;
     }
 

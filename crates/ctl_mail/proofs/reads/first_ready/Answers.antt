@@ -19,7 +19,7 @@ returns-then-is_empty c =
     let few : length told.acts.woken ≤ 0 = omega arith in
     let none : told.acts.woken ≡ [] = none-there told.acts.woken few in
     least-first (IsLeftIn (queue_of store.buffers.items c.args.buffer) told.cycle (IsOut told)) (IsBack store.stalls.kept told c.args.buffer) (option_copied c.first_of-queued.result)
-    (λ m back. c.requires.none_back none (record { line = back.line; message = m }) back.held back.now.free.back)
+    (λ m back. c.requires.0.none_back none (record { line = back.line; message = m }) back.held back.now.free.back)
     (subst (λ (xs : Queues). IsLeast (IsLeftIn (queue_of xs c.args.buffer) told.cycle (IsOut told)) (option_copied c.first_of-queued.result)) c.deref.ensures.value c.first_of-queued.ensures)
 
 pub returns : goal.returns

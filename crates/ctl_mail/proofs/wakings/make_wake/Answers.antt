@@ -4,6 +4,7 @@ use Rattle.stall_map.specs.Stalls.{messages_under, without_line}
 use Rattle.msg_buffer.specs.Queue.{IsNew}
 use Rattle.ctl_mail.specs.Queues.{queue_of, room_of}
 use Rattle.ctl_mail.proofs.Backs.{Apart}
+use Rattle.ctl_mail.proofs.Places.{no-more}
 use Rattle.ctl_mail.proofs.WakeMakes.{made-wake, new-in-home, room-at-home, under-apart, under-count}
 use Rattle.ctl_mail.proofs.wakings.make_wake.Goals as goal
 
@@ -43,11 +44,15 @@ returns-clause-mail c =
     c.put_back.ensures.count c.wake-woken.ensures.others).1
 
 pub returns-clause-places : goal.returns-clause-places
-returns-clause-places c buffer =
-    let stalled = c.args.store.now.stalls.kept in
-    let is = c.into_vec.ensures ∙ c.wake-woken.ensures.woken in
-    let room : room_of c.args.store.now.buffers.items buffer ≤ room_of c.put_back.new.buffers.items buffer + length (messages_under stalled c.args.line) =
-    subst (λ (xs : List Message). room_of c.args.store.now.buffers.items buffer ≤ room_of c.put_back.new.buffers.items buffer + length xs) is (c.put_back.ensures.room buffer) in
-    let count : length (messages_under stalled c.args.line) + length (without_line stalled c.args.line) ≤ length stalled = under-count stalled c.args.line in
-    let left : length c.wake-woken.new.self.kept ≡ length (without_line stalled c.args.line) = ap length c.wake-woken.ensures.others in
-    omega arith
+returns-clause-places c = record {
+  buffers = λ buffer.
+      let stalled = c.args.store.now.stalls.kept in
+      let is = c.into_vec.ensures ∙ c.wake-woken.ensures.woken in
+      let room : room_of c.args.store.now.buffers.items buffer ≤ room_of c.put_back.new.buffers.items buffer + length (messages_under stalled c.args.line) =
+      subst (λ (xs : List Message). room_of c.args.store.now.buffers.items buffer ≤ room_of c.put_back.new.buffers.items buffer + length xs) is (c.put_back.ensures.room buffer) in
+      let count : length (messages_under stalled c.args.line) + length (without_line stalled c.args.line) ≤ length stalled = under-count stalled c.args.line in
+      let left : length c.wake-woken.new.self.kept ≡ length (without_line stalled c.args.line) = ap length c.wake-woken.ensures.others in
+      omega arith;
+  networks = λ network n has. no-more c.args.store.now.network_last.items network n (n + 0) (omega arith) has;
+  locals = omega arith;
+}

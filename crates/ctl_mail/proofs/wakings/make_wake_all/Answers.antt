@@ -3,6 +3,7 @@ use Rattle.ctl_face.specs.Ctl.{InboxMessage, Mail}
 use Rattle.ctl_face.specs.Wake.{woken_mail}
 use Rattle.stall_map.specs.Stalls.{without_line}
 use Rattle.ctl_mail.specs.MailOf.{mail_of}
+use Rattle.ctl_mail.proofs.Places.{loses-none}
 use Rattle.ctl_mail.proofs.WakeMakes.{all-after-line, fewer, none-waits}
 use Rattle.ctl_mail.proofs.wakings.make_wake_all.Goals as goal
 
@@ -25,10 +26,10 @@ loop-line-preserved c =
       buffers = c.make_wake.ensures.buffers ∙ c.loop-line.invariant.buffers;
       marks = omega (arith, c.make_wake.ensures.room, c.loop-line.invariant.marks);
       waits = omega (arith, c.make_wake.ensures.waits, c.loop-line.invariant.waits);
-      places = λ buffer. omega (arith, c.make_wake.ensures.places buffer, c.loop-line.invariant.places buffer);
+      places = loses-none c.args.store.now old new c.loop-line.invariant.places c.make_wake.ensures.places;
       room = λ buffer within.
           let there : buffer < length old.buffers.items = subst (λ (n : ℕ). buffer < n) c.make_wake.ensures.buffers within in
-          omega (arith, c.make_wake.ensures.places buffer, c.loop-line.invariant.room buffer there);
+          omega (arith, c.make_wake.ensures.places.buffers buffer, c.loop-line.invariant.room buffer there);
     }
 
 pub returns-clause-after : goal.returns-clause-after
