@@ -1,15 +1,15 @@
-ghost use Rattle.std.specs.Prelude.{◌≡◌, ◌++◌, [], ◌∷◌, ◌↔◌, true, OnOk, OnErr, Contains, IsTrue};
+ghost use Rattle.std.specs.Prelude.{◌≡◌, ◌++◌, [], ◌∷◌, ◌↔◌, true, OnOk, OnErr, Contains, IsTrue, map};
 ghost use Rattle.ruby_value.specs.declared.message.MsgNo.{MsgNo as MsgNoRecord};
 ghost use Rattle.ctl_face.specs.ScanView.{no_acts};
 ghost use Rattle.ctl_mail.specs.declared.act.MailAct.TheVariants as act;
 ghost use Rattle.ctl_mail.specs.MailOf.{IsMail, mail_of};
-ghost use Rattle.ctl_mail.specs.Told.{AreOf, IsGone, counts_in, told_by};
+ghost use Rattle.ctl_mail.specs.Told.{AreOf, IsGone, copy_in, counts_in, note_in, told_by};
 
 use crate::MailStore;
 use crate::act::MailAct;
 use crate::moves::Move;
 use crate::sent::{SendCounts, SentNote};
-use ruby_value::{Message, MsgNo, NoMemory};
+use ruby_value::{Message, MsgNo, NoMemory, Seq};
 use std::alloc::Global;
 use std::collections::VecDeque;
 
@@ -52,6 +52,48 @@ impl MailChanges {
         ensures { result ≡ (told_by self.now).cycle }
     {
         self.cycle
+    }
+
+    /// The messages that the scan consumed, in the order of its acts, as those of the next lists.
+    pub fn consumed(&self) -> &[MsgNo]
+        ensures { result.now ≡ (told_by self.now).acts.consumed }
+    {
+        &self.consumed
+    }
+
+    /// The messages that it stalled.
+    pub fn stalled_numbers(&self) -> &[MsgNo]
+        ensures { result.now ≡ (told_by self.now).acts.stalled }
+    {
+        &self.stalled
+    }
+
+    /// The messages that it woke.
+    pub fn woken(&self) -> &[MsgNo]
+        ensures { result.now ≡ (told_by self.now).acts.woken }
+    {
+        &self.woken
+    }
+
+    /// The messages that it recycled.
+    pub fn recycled(&self) -> &[MsgNo]
+        ensures { result.now ≡ (told_by self.now).acts.recycled }
+    {
+        &self.recycled
+    }
+
+    /// The copies that it sent.
+    pub fn sent(&self) -> &[SentNote]
+        ensures { map note_in result.now ≡ (told_by self.now).acts.sent }
+    {
+        &self.sent
+    }
+
+    /// The copies for other controllers, each with its receiver, in the order in which they were sent.
+    pub fn into_posted(self) -> Seq<(u32, Message)>
+        ensures { map copy_in result ≡ (told_by self).acts.posted }
+    {
+        Seq::of(self.posted)
     }
 
     // No changes yet, of a scan in this cycle.

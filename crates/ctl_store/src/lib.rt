@@ -14,7 +14,6 @@ mod scan_calls;
 mod scan_mail;
 mod scan_tables;
 mod store;
-mod stubs;
 
 pub use draft::Draft;
 pub use outcome::Outcome;
