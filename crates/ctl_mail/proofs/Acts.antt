@@ -211,16 +211,17 @@ are-of-recycle store old buffer arrival m later is are =
     let waits : o.waiting ≡ None = ap (λ (z : InboxMessage). z.waiting) (sym same) ∙ ap (λ (z : InboxMessage). z.waiting) it in
     let so : o.message.arrival ≤ old.cycle = seen waits in
     let at : arrival ≡ o.message.arrival = ap (λ (z : InboxMessage). z.message.arrival) same in
-    absurd (omega arith) in
-    (subst (λ (after : Mail). Reflects store.buffers.items store.stalls.kept new after.inbox) (sym (recycled-mail (mail_of store) old buffer arrival m is))
-    (reflects-gone store.buffers.items store.stalls.kept old old.counts new.log new.acts refl m.number
-    (λ n gone. ⊎_elim (λ consumed. inl (inl consumed)) (λ recycled. ⊎_elim (λ has. inl (inr has)) (λ same. inr same) (Contains-push_cases old.acts.recycled m.number n recycled)) gone)
-    (λ n gone. ⊎_elim (λ consumed. inl consumed) (λ recycled. inr (Contains-append_left old.acts.recycled (m.number ∷ []) n recycled)) gone)
-    (inr (Contains-push old.acts.recycled m.number))
-    inbox (changed_message inbox m.number change) (ascend-changed inbox m change (λ o. refl) reflects.ascends)
-    (λ o seen. changed-loses inbox m.number change o (never o seen))
-    reflects),
-    fits-act (mail_of store) old (Recycle buffer arrival) new.acts old.moves tt are.1)
+    absurd (omega arith) in (
+      subst (λ (after : Mail). Reflects store.buffers.items store.stalls.kept new after.inbox) (sym (recycled-mail (mail_of store) old buffer arrival m is))
+          (reflects-gone store.buffers.items store.stalls.kept old old.counts new.log new.acts refl m.number
+          (λ n gone. ⊎_elim (λ consumed. inl (inl consumed)) (λ recycled. ⊎_elim (λ has. inl (inr has)) (λ same. inr same) (Contains-push_cases old.acts.recycled m.number n recycled)) gone)
+          (λ n gone. ⊎_elim (λ consumed. inl consumed) (λ recycled. inr (Contains-append_left old.acts.recycled (m.number ∷ []) n recycled)) gone)
+          (inr (Contains-push old.acts.recycled m.number))
+          inbox (changed_message inbox m.number change) (ascend-changed inbox m change (λ o. refl) reflects.ascends)
+          (λ o seen. changed-loses inbox m.number change o (never o seen))
+          reflects),
+      fits-act (mail_of store) old (Recycle buffer arrival) new.acts old.moves tt are.1,
+    )
 
 -- changes of a scan of this mail still are that after an act
 pub are-of-pop : (store : MailStore) (old : Told) (buffer : ℕ) (m : Message) → face.front (changed_mail (mail_of store) old) buffer old.cycle ≡ Some m
@@ -228,20 +229,22 @@ pub are-of-pop : (store : MailStore) (old : Told) (buffer : ℕ) (m : Message) �
 are-of-pop store old buffer m is are =
     let reflects = are.0 in
     let inbox = (changed_mail (mail_of store) old).inbox in
-    let new = told_popped old buffer m.number in
-    (subst (λ (after : Mail). Reflects store.buffers.items store.stalls.kept new after.inbox) (sym (popped-mail (mail_of store) old buffer m is))
-    (reflects-gone store.buffers.items store.stalls.kept old old.counts new.log new.acts refl m.number
-    (λ n gone. ⊎_elim (λ consumed. ⊎_elim (λ has. inl (inl has)) (λ same. inr same) (Contains-push_cases old.acts.consumed m.number n consumed)) (λ recycled. inl (inr recycled)) gone)
-    (λ n gone. ⊎_elim (λ consumed. inl (Contains-append_left old.acts.consumed (m.number ∷ []) n consumed)) (λ recycled. inr recycled) gone)
-    (inl (Contains-push old.acts.consumed m.number))
-    inbox (without_message inbox m.number) (ascend-without inbox m.number reflects.ascends)
-    (λ o seen. without_message-contains inbox m.number o)
-    reflects),
-    fits-act (mail_of store) old (Pop buffer) new.acts old.moves tt are.1)
+    let new = told_popped old buffer m.number in (
+      subst (λ (after : Mail). Reflects store.buffers.items store.stalls.kept new after.inbox) (sym (popped-mail (mail_of store) old buffer m is))
+          (reflects-gone store.buffers.items store.stalls.kept old old.counts new.log new.acts refl m.number
+          (λ n gone. ⊎_elim (λ consumed. ⊎_elim (λ has. inl (inl has)) (λ same. inr same) (Contains-push_cases old.acts.consumed m.number n consumed)) (λ recycled. inl (inr recycled)) gone)
+          (λ n gone. ⊎_elim (λ consumed. inl (Contains-append_left old.acts.consumed (m.number ∷ []) n consumed)) (λ recycled. inr recycled) gone)
+          (inl (Contains-push old.acts.consumed m.number))
+          inbox (without_message inbox m.number) (ascend-without inbox m.number reflects.ascends)
+          (λ o seen. without_message-contains inbox m.number o)
+          reflects),
+      fits-act (mail_of store) old (Pop buffer) new.acts old.moves tt are.1,
+    )
 
 pub are-of-again : (store : MailStore) (old : Told) (cycle : ℕ) → AreOf store old → AreOf store (told_again old cycle)
 are-of-again store old cycle are =
-    let new = told_again old cycle in
-    (subst (λ (mail : Mail). Reflects store.buffers.items store.stalls.kept new mail.inbox) (sym (after-more old.cycle (mail_of store) old.log (Mark cycle)))
-    (reflects-as store.buffers.items store.stalls.kept old old.counts new.log new.acts refl (changed_mail (mail_of store) old).inbox (λ n gone. gone) (λ n gone. gone) are.0),
-    fits-act (mail_of store) old (Mark cycle) new.acts old.moves tt are.1)
+    let new = told_again old cycle in (
+      subst (λ (mail : Mail). Reflects store.buffers.items store.stalls.kept new mail.inbox) (sym (after-more old.cycle (mail_of store) old.log (Mark cycle)))
+          (reflects-as store.buffers.items store.stalls.kept old old.counts new.log new.acts refl (changed_mail (mail_of store) old).inbox (λ n gone. gone) (λ n gone. gone) are.0),
+      fits-act (mail_of store) old (Mark cycle) new.acts old.moves tt are.1,
+    )

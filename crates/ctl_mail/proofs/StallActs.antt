@@ -97,12 +97,13 @@ are-of-stall store old buffer line m holds is are =
     let reflects = are.0 in
     let mail = changed_mail (mail_of store) old in
     let new = told_stalled old buffer line m.number in
-    let free : IsFree mail.inbox buffer old.cycle m = front-free mail buffer old.cycle m is in
-    (subst (λ (after : Mail). Reflects store.buffers.items store.stalls.kept new after.inbox) (sym (stalled-mail (mail_of store) old buffer line m is))
-    (shifted store.buffers.items store.stalls.kept old new (m.number ∷ []) (Some line) mail.inbox (changed_message mail.inbox m.number (message_waiting_under line))
-    holds reflects (one-shifted mail.inbox old.cycle line m reflects.ascends free.held free.arrived) refl refl (λ n gone. gone) (λ n gone. gone)
-    (λ none. (none, λ n has. some-is line))),
-    fits-act (mail_of store) old (Stall buffer line) new.acts new.moves tt are.1)
+    let free : IsFree mail.inbox buffer old.cycle m = front-free mail buffer old.cycle m is in (
+      subst (λ (after : Mail). Reflects store.buffers.items store.stalls.kept new after.inbox) (sym (stalled-mail (mail_of store) old buffer line m is))
+          (shifted store.buffers.items store.stalls.kept old new (m.number ∷ []) (Some line) mail.inbox (changed_message mail.inbox m.number (message_waiting_under line))
+          holds reflects (one-shifted mail.inbox old.cycle line m reflects.ascends free.held free.arrived) refl refl (λ n gone. gone) (λ n gone. gone)
+          (λ none. (none, λ n has. some-is line))),
+      fits-act (mail_of store) old (Stall buffer line) new.acts new.moves tt are.1,
+    )
 
 -- a message waits in the mail as it is kept
 module _ (queues : Queues) (stalled new : List Stalled) (line : ℕ) (m : Message) (holds : Holds queues stalled)

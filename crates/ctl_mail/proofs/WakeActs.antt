@@ -269,9 +269,10 @@ module _ (store : MailStore) (old : Told) (waking : Waking) (numbers : List MsgN
 
   pub are-of-wake : AreOf store (told_woken old waking numbers)
   are-of-wake =
-      let new = told_woken old waking numbers in
-      (subst (λ (after : Mail). Reflects store.buffers.items store.stalls.kept new after.inbox) (sym woken-is)
-      (shifted store.buffers.items store.stalls.kept old new numbers None mail.inbox (woken_mail mail tested).inbox holds reflects
-      (woken-shifted mail.inbox tested numbers old.cycle reflects.ascends hits (λ o is. woken-waits waking o.waiting is)) refl refl (λ n gone. gone) (λ n gone. gone)
-      (λ none. let so = both-none old.acts.woken numbers none in (so.0, λ n has. absurd (nothing-there n (subst (λ ns. Contains ns n) so.1 has))))),
-      fits-act (mail_of store) old (act_of waking) new.acts new.moves (uncounted waking) are.1)
+      let new = told_woken old waking numbers in (
+        subst (λ (after : Mail). Reflects store.buffers.items store.stalls.kept new after.inbox) (sym woken-is)
+            (shifted store.buffers.items store.stalls.kept old new numbers None mail.inbox (woken_mail mail tested).inbox holds reflects
+            (woken-shifted mail.inbox tested numbers old.cycle reflects.ascends hits (λ o is. woken-waits waking o.waiting is)) refl refl (λ n gone. gone) (λ n gone. gone)
+            (λ none. let so = both-none old.acts.woken numbers none in (so.0, λ n has. absurd (nothing-there n (subst (λ ns. Contains ns n) so.1 has))))),
+        fits-act (mail_of store) old (act_of waking) new.acts new.moves (uncounted waking) are.1,
+      )

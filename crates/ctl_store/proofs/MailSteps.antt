@@ -61,8 +61,8 @@ module _ (s : Scanned) (m : MailChanges) where
       → Steps act (λ v. tt) result s (with_mail_changes s m)
   mail_step act want result acts is does same of_mail kept =
       let done =
-          subst (λ (w : Result LocalView Fault). Does w result (local_of s) (local_of (with_mail_changes s m))) (sym acts)
-          (subst (Does (in_local (local_of s) want) result (local_of s)) (sym (view_after same)) (does_by_mail (local_of s) want result after does)) in
+      subst (λ (w : Result LocalView Fault). Does w result (local_of s) (local_of (with_mail_changes s m))) (sym acts)
+      (subst (Does (in_local (local_of s) want) result (local_of s)) (sym (view_after same)) (does_by_mail (local_of s) want result after does)) in
       let lawful = stays_lawful (act (local_of s)) tt result (local_of s) (local_of (with_mail_changes s m)) kept is.lawful done in
       record {
         does = done;

@@ -68,6 +68,7 @@ field_within s v r field value same is takes =
         → IsSomeAnd (slice_get kinds field) (λ k. IsTrue (has_kind k value)) → IfSome o (λ fields. field < length fields)
     in_line kinds None fit takes = tt
     in_line kinds (Some fields) fit takes = few_fields kinds fields field value fit takes
+
     at : (o : Option TableSetup) (p : Option Table) → FitsTableAt o p
         → IsSomeAnd (slice_get (unwrap_or (option_map (λ (u : TableSetup). u.kinds) o) []) field) (λ k. IsTrue (has_kind k value))
         → IfSome (option_and_then (λ (u : Table). fields_in u r.line) p) (λ fields. field < length fields)

@@ -56,14 +56,18 @@ impl<'a> Scan<'a> {
         ensures does { Does (deallocate (local_of self.old) table line) result (local_of self.old) (local_of self.new) }
         ensures lawful { IsLawful (local_of self.new) }
     {
-        self.parts.tables.deallocate(&mut self.changes.tables, table, line)
+        self.parts
+            .tables
+            .deallocate(&mut self.changes.tables, table, line)
     }
 
     pub(crate) fn touch(&mut self, table: u16, line: u64) -> Result<(), Trouble>
         ensures does { Does (touch (local_of self.old) table line) result (local_of self.old) (local_of self.new) }
         ensures lawful { IsLawful (local_of self.new) }
     {
-        self.parts.tables.touch(&mut self.changes.tables, table, line)
+        self.parts
+            .tables
+            .touch(&mut self.changes.tables, table, line)
     }
 
     pub(crate) fn state(&self, line: u64) -> u16
@@ -100,7 +104,9 @@ impl<'a> Scan<'a> {
         let Some(fields) = initial_fields(&self.parts.machine, table) else {
             unreachable!()
         };
-        self.parts.tables.allocate(&mut self.changes.tables, table, line, fields)
+        self.parts
+            .tables
+            .allocate(&mut self.changes.tables, table, line, fields)
     }
 
     pub(crate) fn set_state(&mut self, line: u64, state: u16) -> Result<(), Trouble>
@@ -109,6 +115,8 @@ impl<'a> Scan<'a> {
         ensures does { Does (Ok (set_state (local_of self.old) line state)) result (local_of self.old) (local_of self.new) }
         ensures lawful { IsLawful (local_of self.new) }
     {
-        self.parts.tables.set_state(&mut self.changes.tables, line, state)
+        self.parts
+            .tables
+            .set_state(&mut self.changes.tables, line, state)
     }
 }

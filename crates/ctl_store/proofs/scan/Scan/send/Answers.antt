@@ -15,7 +15,7 @@ step : (c : goal.After-send)
 step c =
     send_step (scanned c.self.inside.parts.now c.self.inside.routes.now c.self.inside.seed c.self.inside.changes)
     c.args.self.now c.send.new.changes c.send.result c.self.view_is c.self.invariant c.send.ensures.cycle c.send.ensures.changes
-    c.args.buffer c.args.latency c.args.fields c.requires 
+    c.args.buffer c.args.latency c.args.fields c.requires
     (subst (λ (z : ℤ). MailDoes (view_sent (before (scanned c.self.inside.parts.now c.self.inside.routes.now c.self.inside.seed c.self.inside.changes) c.send.new.changes) c.self.inside.parts.now.machine (actor_of c.self.inside.parts.now.me c.self.inside.seed c.self.inside.routes.now) c.args.buffer z c.args.fields (told_by c.self.inside.changes.mail).cycle) c.send.result (before (scanned c.self.inside.parts.now c.self.inside.routes.now c.self.inside.seed c.self.inside.changes) c.send.new.changes) (after (scanned c.self.inside.parts.now c.self.inside.routes.now c.self.inside.seed c.self.inside.changes) c.send.new.changes))
     (to_z-of_z w64 c.args.latency c.ranges.latency) c.send.ensures.does)
 
