@@ -1,11 +1,11 @@
 -- A member is told by the word that names it as a default.
-use Rattle.std.proofs.Common.{◌≡◌, ◌++◌, ◌||◌, ℕ, Bool, true, false, List, [], ◌∷◌, refl, sym, ◌∙◌, ap, codes}
+use Rattle.std.proofs.Common.{◌≡◌, ◌++◌, ℕ, false, List, [], ◌∷◌, refl, sym, ◌∙◌, ap, codes}
 use Rattle.std.specs.List.{list_any}
 use Rattle.std.specs.Str.{bytes_eq}
 use Rattle.slicc_plan.specs.Declarations.{Scope, everywhere, within}
 use Rattle.slicc_plan.specs.Values.{default_name, default_names}
 use Rattle.declaration_rules.proofs.DefaultNames.{bytes_eq-swapped, parts_joined}
-use Rattle.declared_types.proofs.NameParts.{list_any_none, same_prefix}
+use Rattle.declared_types.proofs.NameParts.{same_prefix}
 
 pub not_named : (text own member : List ℕ) → ((rest : List ℕ) → bytes_eq (default_name own rest) text ≡ false) → false ≡ bytes_eq text (default_name own member)
 not_named text own member differs = sym (bytes_eq-swapped text (default_name own member) ∙ differs member)

@@ -1,16 +1,15 @@
 -- Lists of what is seen, and the parts of what a machine declares.
-use Rattle.std.proofs.Common.{◌≡◌, ◌++◌, ◌+◌, ◌<◌, ℕ, Bool, true, false, not, cond, Option, None, Some, List, [], ◌∷◌, filter, flat_map, length, map, refl, sym, ◌∙◌, ap}
+use Rattle.std.proofs.Common.{◌≡◌, ◌++◌, ◌+◌, Bool, not, cond, Option, List, [], ◌∷◌, filter, flat_map, map, refl, sym, ◌∙◌, ap}
 use Rattle.std.specs.Prelude.{find, position}
 use Rattle.std.specs.Option.{option_or}
 use Rattle.std.proofs.lemmas.List.Folds.{find-append}
 use Rattle.std.specs.List.{prefix_len}
 use Rattle.std.proofs.lemmas.List.Elements.{filter-append}
 use Rattle.std.proofs.lemmas.List.{length-map, map-append}
-use Rattle.slicc_ast.specs.declared.tree.machine.Decl.{Decl}
 use Rattle.slicc_ast.specs.declared.tree.machine.Machine.{Machine}
 use Rattle.slicc_ast.specs.declared.tree.machine.Parameter.{Parameter}
-use Rattle.slicc_plan.specs.Declarations.{Declaration, machine, named_declarations, parameter, within, everywhere}
-use Rattle.slicc_plan.specs.TypeNumbers.{ScopedDeclaration, made_in, made_with_its_own}
+use Rattle.slicc_plan.specs.Declarations.{machine, named_declarations, parameter, within}
+use Rattle.slicc_plan.specs.TypeNumbers.{made_in, made_with_its_own}
 use Rattle.type_numbers.specs.declared.numbering.TypeSort.{TypeSort}
 use Rattle.type_numbers.specs.declared.numbering.TypeSort.TheVariants.{Enumeration, Structure}
 use Rattle.type_numbers.specs.Numbered.{has_sort}

@@ -1,7 +1,6 @@
 -- Declarations of types, as the definitions of a protocol's meaning see them, and the lists by which types are numbered.
-use Rattle.std.specs.Prelude.{◌≡◌, ℕ, Bool, List, filter, map}
+use Rattle.std.specs.Prelude.{◌≡◌, Bool, List, map}
 use Rattle.slicc_ast.specs.declared.tree.item.Tree.{Tree}
-use Rattle.slicc_ast.specs.declared.tree.machine.Machine.{Machine}
 use Rattle.slicc_plan.specs.Declarations.{Declaration, machines_of}
 use Rattle.slicc_plan.specs.Limits.{is_counted_structure, is_enumeration}
 use Rattle.slicc_plan.specs.TypeNumbers.{ScopedDeclaration, declared_enumerations, declared_structures}

@@ -1,4 +1,4 @@
-use Rattle.std.proofs.Common.{None, Some, ap, find, flat_map, map, sym, ◌∙◌}
+use Rattle.std.proofs.Common.{None, Some, ap, find, flat_map, map, ◌∙◌}
 use Rattle.slicc_plan.specs.Declarations.{is_named, named_declarations, parameter}
 use Rattle.type_numbers.proofs.Lists.{found_first}
 use Rattle.type_numbers.proofs.declarations.first_named.Goals as goal
