@@ -7,6 +7,7 @@ mod changes;
 mod draft;
 mod draft_local;
 mod lending;
+mod opening;
 mod outcome;
 mod parts;
 mod scan;
