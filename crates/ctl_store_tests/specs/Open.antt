@@ -16,7 +16,7 @@ abbrev pub FitsIn : Parts → ℕ → Type 0
 FitsIn p now = Fits (machine_of p) (me_of p) (ctl_of p) now
 
 pub record IsOpen (p : Parts) (routes : Routes) (now : ℕ) : Type 0 where
-  pub routes : HasRoutes (machine_of p) (me_of p) routes
+  pub by_routes : HasRoutes (machine_of p) (me_of p) routes
   pub in_run : now ≤ last_cycle
   pub fits : FitsIn p now
 

@@ -29,7 +29,10 @@ pub(crate) struct Play {
 
 // A message of a driver.
 fn message(fields: Fields, count: u64, arrival: u64) -> Message
-    ensures { result ≡ record { number = record { sender = COUNT; count = count }; buffer = QUEUE; arrival = arrival; recycled = false; fields = fields } }
+    ensures sender { result.number.sender ≡ COUNT }
+    ensures count { result.number.count ≡ count }
+    ensures buffer { result.buffer ≡ QUEUE }
+    ensures fields { result.fields ≡ fields }
 {
     Message {
         number: MsgNo {
@@ -43,14 +46,17 @@ fn message(fields: Fields, count: u64, arrival: u64) -> Message
     }
 }
 
-// Whether a message with these fields could be taken in, of a count that is above those of all messages.
-fn is_delivered(store: &mut Store, fields: Fields, count: u64, arrival: u64) -> bool
+// Whether a message could be taken in, of a count that is above those of all messages.
+fn is_delivered(alloc: Global, store: &mut Store, count: u64, arrival: u64) -> bool
     requires fits { FitsIn store.old FIRST_CYCLE }
     requires below { AreBelow store.old count }
     ensures fits { FitsIn store.new FIRST_CYCLE }
     ensures below { AreBelow store.new (count + 1) }
     ensures store { IsSameStore store.old store.new }
 {
+    let Ok(fields) = of_line(alloc, 0) else {
+        return false;
+    };
     if store.me() == COUNT || !receives(store.machine(), QUEUE) {
         return false;
     }
@@ -73,13 +79,13 @@ fn are_delivered(alloc: Global, store: &mut Store, arrivals: &[(u64, u64)]) -> b
 {
     let mut next = 0;
     for (count, arrival) in arrivals {
-        let Ok(fields) = of_line(alloc, 0) else {
+        let Some(after) = count.checked_add(1) else {
             return false;
         };
-        if *count < next || !is_delivered(store, fields, *count, *arrival) {
+        if *count < next || !is_delivered(alloc, store, *count, *arrival) {
             return false;
         }
-        next = count.saturating_add(1);
+        next = after;
     }
     true
 }

@@ -37,16 +37,10 @@ pub(crate) const ON_TABLES: Rows = &[
     (Table(Deallocate, CACHE, 64), Done),
     (Table(Avail, CACHE, 128), Is(true)),
     (Table(Deallocate, CACHE, 64), Fault(Word::Absent)),
-    (
-        Table(Lookup, DIRECTORY, 128),
-        To(1, 128),
-    ),
+    (Table(Lookup, DIRECTORY, 128), To(1, 128)),
     (Table(Get, DIRECTORY, 128), Int(7)),
     (Table(Set(8), DIRECTORY, 128), Done),
-    (
-        Table(Allocate, DIRECTORY, 128),
-        To(1, 128),
-    ),
+    (Table(Allocate, DIRECTORY, 128), To(1, 128)),
     (Table(Get, DIRECTORY, 128), Int(8)),
     (Table(Get, DIRECTORY, 64), Int(7)),
     (Table(Touch, DIRECTORY, 0), NotServed),
@@ -281,8 +275,12 @@ pub(crate) const ON_JITTER_NEXT: Rows = &[
     (Buffer(Send(1, &[1, 2]), OUT), Done),
 ];
 
-pub(crate) const LATE_FIRST: &[Copy] =
-    &[(1, 3, 0, 17), (2, 3, 1, 15), (54, 3, 2, 11), (54, 0, 3, 11)];
+pub(crate) const LATE_FIRST: &[Copy] = &[
+    (1, 3, 0, 17),
+    (2, 3, 1, 15),
+    (54, 3, 2, 11),
+    (54, 0, 3, 11),
+];
 
 pub(crate) const LATE_NEXT: &[Copy] = &[(1, 5, 4, 17), (1, 3, 5, 17), (2, 3, 6, 16)];
 

@@ -2,11 +2,10 @@
 ghost use Rattle.std.specs.Prelude.{◌≡◌, ◌<◌, ◌≤◌, IfOk};
 ghost use Rattle.ctl_face.specs.Fits.{last_cycle};
 ghost use Rattle.ctl_face.specs.LocalView.{SameScan};
-ghost use Rattle.ctl_store.specs.Drafted.{view_of};
 ghost use Rattle.ctl_store.specs.Room.{IsSameStore};
 ghost use Rattle.ctl_store_tests.specs.Open.{FitsIn, IsOpen, IsScanned};
 
-use crate::calls::{Rows, first_wrong_call};
+use crate::calls::{Rows, ShowsMachine, first_wrong_call};
 use crate::node::SEED;
 use crate::told::{Told, Wrong, are_posted, wrong_in};
 use ctl_face::Routes;
@@ -34,13 +33,13 @@ const NOTE: FireNote = FireNote {
 };
 
 // Plays the calls of a scan.
-fn wrong_call(alloc: Global, draft: &mut Draft<'_>, scan: &Scan) -> Option<Wrong>
-    ensures { SameScan (view_of draft.old) (view_of draft.new) }
+fn wrong_call<L: ShowsMachine>(alloc: Global, local: &mut L, scan: &Scan) -> Option<Wrong>
+    ensures { SameScan (L.view local.old) (L.view local.new) }
 {
-    if let Some(i) = first_wrong_call(alloc, draft, scan.before) {
+    if let Some(i) = first_wrong_call(alloc, local, scan.before) {
         return Some(Wrong::Before(i));
     }
-    match first_wrong_call(alloc, draft, scan.calls) {
+    match first_wrong_call(alloc, local, scan.calls) {
         Some(i) => Some(Wrong::Call(i)),
         None => None,
     }

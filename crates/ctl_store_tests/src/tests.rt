@@ -74,7 +74,7 @@ const WAITING: Play = Play {
                 woken: &[(COUNT, 3), (COUNT, 4), (COUNT, 0)],
                 recycled: &[(COUNT, 0)],
                 marks: &[3, 4, 7, 8, 15],
-                census: (1, 0, 1),
+                census: (0, 0, 1),
                 ..NOTHING
             }),
         },
@@ -106,7 +106,7 @@ const LEFT_WAITING: Play = Play {
                 stalled: &[(COUNT, 4), (COUNT, 3)],
                 recycled: &[(COUNT, 0)],
                 marks: &[3, 4, 7, 8, 15],
-                census: (2, 2, 1),
+                census: (1, 2, 1),
                 ..NOTHING
             }),
         },
@@ -117,7 +117,7 @@ const LEFT_WAITING: Play = Play {
             told: Some(Told {
                 woken: &[(COUNT, 3), (COUNT, 4)],
                 marks: &[15],
-                census: (4, 0, 1),
+                census: (3, 0, 1),
                 ..NOTHING
             }),
         },

@@ -2,8 +2,7 @@
 use crate::node::ME;
 use crate::rows::Copy;
 use ctl_face::{Message, Seq};
-use ctl_store::SentNote;
-use ctl_store::Outcome;
+use ctl_store::{Outcome, SentNote};
 use ruby_value::MsgNo;
 
 /// The sender and the count of a number.
@@ -23,7 +22,7 @@ pub(crate) struct Told {
     pub(crate) again: bool,
     /// The cycles at which the controller must wake.
     pub(crate) marks: &'static [u64],
-    /// How many messages are in buffers and how many are stalled, and how many have been recycled.
+    /// How many messages are queued, stalled and recycled, each of which counts once.
     pub(crate) census: (u64, u64, u64),
 }
 
