@@ -4,6 +4,7 @@
 
 mod applying;
 mod changes;
+mod coming;
 mod draft;
 mod draft_local;
 mod lending;
@@ -16,6 +17,7 @@ mod scan_tables;
 mod store;
 mod stubs;
 
+pub use coming::SentNote;
 pub use draft::Draft;
 pub use outcome::Outcome;
 pub use store::Store;

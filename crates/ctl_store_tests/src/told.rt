@@ -2,7 +2,8 @@
 use crate::node::ME;
 use crate::rows::Copy;
 use ctl_face::{Message, Seq};
-use ctl_store::{Outcome, SentNote};
+use ctl_mail::SentNote;
+use ctl_store::Outcome;
 use ruby_value::MsgNo;
 
 /// The sender and the count of a number.
