@@ -7,10 +7,9 @@ ghost use Rattle.ctl_store_tests.specs.Open.{FitsIn, IsOpen, IsScanned};
 
 use crate::calls::{Rows, ShowsMachine, first_wrong_call};
 use crate::node::SEED;
-use crate::told::{Told, Wrong, are_posted, wrong_in};
+use crate::told::{NOTE, Told, Wrong, are_posted, wrong_in};
 use ctl_face::Routes;
 use ctl_store::{Draft, Outcome, Store};
-use run_journal::FireNote;
 use std::alloc::Global;
 
 /// A scan: its cycle, its calls, and what it must have told. A draft of which nothing is told is dropped.
@@ -24,13 +23,6 @@ pub(crate) struct Scan {
 
 /// The cycle in which a play begins.
 pub(crate) const FIRST_CYCLE: u64 = 10;
-
-const NOTE: FireNote = FireNote {
-    address: 64,
-    state: 1,
-    event: 2,
-    next: 3,
-};
 
 // Plays the calls of a scan.
 fn wrong_call<L: ShowsMachine>(alloc: Global, local: &mut L, scan: &Scan) -> Option<Wrong>
@@ -81,8 +73,8 @@ fn outcome_of(
     Ok(draft.seal(NOTE))
 }
 
-// Whether these are the cycles at which the controller must wake.
-fn has_marks(store: &Store, marks: &[u64]) -> bool {
+/// Whether these are the cycles at which the controller must wake.
+pub(crate) fn has_marks(store: &Store, marks: &[u64]) -> bool {
     let mut from = 0;
     for mark in marks {
         if store.next_mark(from) != Some(*mark) || *mark == u64::MAX {
@@ -94,6 +86,9 @@ fn has_marks(store: &Store, marks: &[u64]) -> bool {
 }
 
 fn wrong_in_store(store: &Store, told: &Told) -> Option<Wrong> {
+    if store.fired() != told.fired {
+        return Some(Wrong::Fired);
+    }
     if !has_marks(store, told.marks) {
         return Some(Wrong::Marks);
     }

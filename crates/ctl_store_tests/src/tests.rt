@@ -1,4 +1,4 @@
-use crate::node::COUNT;
+use crate::node::{COUNT, ME, machine};
 use crate::plays::{Play, played};
 use crate::rows::{
     LATE, LATE_FIRST, LATE_NEXT, ON_ALL, ON_ARRIVED, ON_DROPPED, ON_FINISHED, ON_JITTER,
@@ -7,8 +7,10 @@ use crate::rows::{
     ON_USED_TABLES, ON_WAITING, ON_WOKEN, SENT, SENT_AFTER_ALL, SENT_LATER, SENT_NEXT,
     TO_ALL_ALWAYS,
 };
-use crate::scans::Scan;
+use crate::scans::{Scan, has_marks};
 use crate::told::Told;
+use ctl_face::is_machine;
+use ctl_store::Store;
 use ruby_value::Ask;
 use std::test::Fail;
 
@@ -22,6 +24,7 @@ const NOTHING: Told = Told {
     posted: 0,
     sent: &[],
     again: false,
+    fired: 1,
     marks: &[],
     census: (0, 0, 0),
 };
@@ -41,7 +44,10 @@ const TABLES: Play = Play {
             cycle: 10,
             before: &[],
             calls: ON_LEFT_TABLES,
-            told: Some(NOTHING),
+            told: Some(Told {
+                fired: 2,
+                ..NOTHING
+            }),
         },
         Scan {
             cycle: 11,
@@ -247,6 +253,7 @@ const JITTER_IN_TWO: Play = Play {
                 copies: 3,
                 posted: 3,
                 sent: LATE_NEXT,
+                fired: 2,
                 marks: &[11],
                 census: (2, 0, 0),
                 ..NOTHING
@@ -284,6 +291,7 @@ const TOO_MANY: Play = Play {
             before: &[],
             calls: ON_STILL_TOO_MANY,
             told: Some(Told {
+                fired: 2,
                 marks: &[11],
                 census: (64, 0, 0),
                 ..NOTHING
@@ -375,4 +383,25 @@ const DROPPED: Play = Play {
 #[test]
 fn a_draft_that_is_dropped_has_changed_nothing(rt: HostRuntime) -> Result<(), Fail> {
     played(&rt, rt.alloc(), &DROPPED)
+}
+
+fn are_marked(store: &mut Store, cycles: &[u64]) -> bool {
+    for cycle in cycles {
+        if store.room(0).is_err() {
+            return false;
+        }
+        store.mark(*cycle);
+    }
+    true
+}
+
+#[test]
+fn marks_are_kept_until_a_later_cycle_begins(rt: HostRuntime) -> Result<(), Fail> {
+    let machine = machine(rt.alloc())?;
+    assert!(rt; is_machine(&machine));
+    let mut store = Store::of(rt.alloc(), machine, ME)?;
+    assert!(rt; are_marked(&mut store, &[12, 11, 12, 15]) && has_marks(&store, &[11, 12, 15]));
+    store.begin(12);
+    assert!(rt; has_marks(&store, &[12, 15]));
+    Ok(())
 }

@@ -5,6 +5,15 @@ use ctl_face::{Message, Seq};
 use ctl_mail::SentNote;
 use ctl_store::Outcome;
 use ruby_value::MsgNo;
+use run_journal::FireNote;
+
+/// The transition that each scan fires.
+pub(crate) const NOTE: FireNote = FireNote {
+    address: 64,
+    state: 1,
+    event: 2,
+    next: 3,
+};
 
 /// The sender and the count of a number.
 pub(crate) type Number = (u32, u64);
@@ -21,6 +30,8 @@ pub(crate) struct Told {
     /// The first of the copies.
     pub(crate) sent: &'static [Copy],
     pub(crate) again: bool,
+    /// How many transitions have fired in the cycle.
+    pub(crate) fired: u64,
     /// The cycles at which the controller must wake.
     pub(crate) marks: &'static [u64],
     /// How many messages are queued, stalled and recycled, each of which counts once.
@@ -34,8 +45,8 @@ pub(crate) enum Wrong {
     Before(usize),
     Call(usize),
     NoMemory,
-    Fired,
     Cycle,
+    Note,
     Consumed,
     Stalled,
     Woken,
@@ -43,6 +54,7 @@ pub(crate) enum Wrong {
     Sent,
     Posted,
     Again,
+    Fired,
     Marks,
     Census,
 }
@@ -108,6 +120,9 @@ pub(crate) fn are_posted(posted: &Seq<(u32, Message)>, told: &Told) -> bool {
 
 /// What of an outcome isn't as it is told.
 pub(crate) fn wrong_in(o: &Outcome, told: &Told) -> Option<Wrong> {
+    if o.note() != NOTE {
+        return Some(Wrong::Note);
+    }
     if !are_numbers(o.consumed(), told.consumed) {
         return Some(Wrong::Consumed);
     }
