@@ -5,6 +5,7 @@ use Rattle.std.proofs.lemmas.List.Elements.{Contains-append_left, Contains-push,
 use Rattle.ruby_value.specs.declared.fault.Fault.TheVariants.{Front, Latency}
 use Rattle.ruby_value.specs.declared.message.Message.{Message}
 use Rattle.ruby_value.specs.declared.message.MsgNo.{MsgNo}
+use Rattle.stall_map.specs.declared.stalled.Stalled.{Stalled}
 use Rattle.ctl_face.specs.Acts.{Acts}
 use Rattle.ctl_face.specs.AtFront.{at_front}
 use Rattle.ctl_face.specs.Ctl.{InboxMessage, Mail}
@@ -17,14 +18,20 @@ use Rattle.ctl_face.specs.Pop.{mail_without}
 use Rattle.ctl_face.specs.Recycle.{mail_with_recycled, message_arriving_again}
 use Rattle.ctl_face.proofs.Inboxes.{ascend-without}
 use Rattle.ctl_face.proofs.OneKey.{changed_message-contains, without_message-contains}
+use Rattle.ctl_face.proofs.Fronts.{front_first}
 use Rattle.ctl_mail.proofs.Changed.{ascend-changed}
+use Rattle.ctl_mail.proofs.Inboxes.{one-of-ascending}
+use Rattle.ctl_mail.proofs.Leasts.{front-least}
+use Rattle.ctl_mail.proofs.SentActs.{fits-act}
 use Rattle.ctl_mail.specs.declared.act.MailAct.{MailAct}
 use Rattle.ctl_mail.specs.declared.act.MailAct.TheVariants.{Mark, Pop, Recycle}
+use Rattle.ctl_mail.specs.declared.sent.SendCounts.{SendCounts}
 use Rattle.ctl_mail.specs.MailView.{view_after_front, view_again, view_popped, view_recycled}
-use Rattle.ctl_mail.specs.Queues.{Queues, queue_of}
+use Rattle.ctl_mail.specs.Least.{IsFree, IsLeast}
+use Rattle.ctl_mail.specs.Queues.{Queues}
 use Rattle.ctl_mail.specs.declared.store.MailStore.{MailStore}
 use Rattle.ctl_mail.specs.MailOf.{mail_of}
-use Rattle.ctl_mail.specs.Told.{AreOf, IsGone, IsLeft, Reflects, Told, after_act, after_acts, changed_mail, changed_view, mail_at_front}
+use Rattle.ctl_mail.specs.Told.{AreOf, IsGone, IsSeen, Reflects, Told, after_act, after_acts, changed_mail, changed_view, mail_at_front}
 
 pub fold-more : {A B : Type 0} (f : B → A → B) (b : B) (xs : List A) (x : A) → fold f b (xs ++ x ∷ []) ≡ f (fold f b xs) x
 fold-more f b [] x = refl
@@ -83,91 +90,66 @@ module _ (mail : Mail) (old : Told) where
   does-again =
       ap (λ (after : Mail). record { mail = after; acts = record old.acts { again = true } }) (sym (after-more old.cycle mail old.log (Mark (old.cycle + 1))))
 
-module _ (queues : Queues) (cycle : ℕ) (acts : Acts) (number : MsgNo) where
-  abbrev popped_acts : Acts
-  popped_acts = record acts { consumed = acts.consumed ++ number ∷ [] }
+-- other acts of the same scan, by which the same messages are gone
+module _ (queues : Queues) (stalled : List Stalled) (old : Told) (counts : SendCounts) (log : List MailAct) (acts : Acts) (woken : acts.woken ≡ old.acts.woken) where
+  abbrev told_as : Told
+  told_as = record old { counts = counts; log = log; acts = acts }
 
-  gone-more : (n : MsgNo) → IsGone popped_acts n → IsGone acts n ⊎ (number ≡ n)
-  gone-more n gone =
-      ⊎_elim
-      (λ consumed. ⊎_elim (λ has. inl (inl has)) (λ same. inr same) (Contains-push_cases acts.consumed number n consumed))
-      (λ other. inl (inr other))
-      gone
-
-  gone-still : (n : MsgNo) → IsGone acts n → IsGone popped_acts n
-  gone-still n gone = ⊎_elim (λ consumed. inl (Contains-append_left acts.consumed (number ∷ []) n consumed)) (λ other. inr other) gone
-
-  left-more : (queue : List Message) (m : Message) → IsLeft queue cycle acts m → m.number ≢ number → IsLeft queue cycle popped_acts m
-  left-more queue m left apart = record {
-    held = left.held;
-    arrived = left.arrived;
-    not_gone = λ gone. ⊎_elim left.not_gone (λ same. apart (sym same)) (gone-more m.number gone);
-  }
-
-  left-before : (queue : List Message) (m : Message) → IsLeft queue cycle popped_acts m → IsLeft queue cycle acts m × (m.number ≢ number)
-  left-before queue m left = (
-    record { held = left.held; arrived = left.arrived; not_gone = λ gone. left.not_gone (gone-still m.number gone) },
-    λ same. left.not_gone (inl (subst (Contains (acts.consumed ++ number ∷ [])) (sym same) (Contains-push acts.consumed number))),
-  )
-
-  pub reflects-pop : (inbox : List InboxMessage) → Reflects queues cycle acts inbox → Reflects queues cycle popped_acts (without_message inbox number)
-  reflects-pop inbox reflects = record {
-    ascends = ascend-without inbox number reflects.ascends;
-    free = λ m arrived. (
+  pub reflects-as : (inbox : List InboxMessage) → ((n : MsgNo) → IsGone old.acts n → IsGone acts n) → ((n : MsgNo) → IsGone acts n → IsGone old.acts n)
+      → Reflects queues stalled old inbox → Reflects queues stalled told_as inbox
+  reflects-as inbox on back reflects = record {
+    ascends = reflects.ascends;
+    left = λ o seen. (
       λ has.
-          let so = (without_message-contains inbox number (incoming_message m)).0 has in
-          left-more (queue_of queues m.buffer) m ((reflects.free m arrived).0 so.0) so.1,
-      λ left.
-          let so = left-before (queue_of queues m.buffer) m left in
-          (without_message-contains inbox number (incoming_message m)).1 ((reflects.free m arrived).1 so.0, so.1),
+          let l = (reflects.left o seen).0 has in
+          record { before = l.before; held = l.held; now = l.now; not_gone = λ gone. l.not_gone (back o.message.number gone) },
+      λ l.
+          (reflects.left o seen).1 (record { before = l.before; held = l.held; now = l.now; not_gone = λ gone. l.not_gone (on o.message.number gone) }),
     );
+    none_back = λ none. reflects.none_back (sym woken ∙ none);
+    moved = reflects.moved;
   }
 
--- the acts are others, but the same messages are gone
-pub reflects-as : (queues : Queues) (cycle : ℕ) (old new : Acts) (inbox : List InboxMessage) → ((n : MsgNo) → IsGone old n → IsGone new n) → ((n : MsgNo) → IsGone new n → IsGone old n)
-    → Reflects queues cycle old inbox → Reflects queues cycle new inbox
-reflects-as queues cycle old new inbox on back reflects = record {
-  ascends = reflects.ascends;
-  free = λ m arrived. (
-    λ has.
-        let left = (reflects.free m arrived).0 has in
-        record { held = left.held; arrived = left.arrived; not_gone = λ gone. left.not_gone (back m.number gone) },
-    λ left.
-        (reflects.free m arrived).1 (record { held = left.held; arrived = left.arrived; not_gone = λ gone. left.not_gone (on m.number gone) }),
-  );
-}
+  -- one message more is gone, and the inbox no longer has it
+  module _ (number : MsgNo) (more : (n : MsgNo) → IsGone acts n → IsGone old.acts n ⊎ (number ≡ n)) (still : (n : MsgNo) → IsGone old.acts n → IsGone acts n) (it : IsGone acts number) where
+    abbrev Loses : (before after : List InboxMessage) → InboxMessage → Type 0
+    Loses before after o = Contains after o ↔ (Contains before o × (o.message.number ≢ number))
 
--- one message more is gone, and the inbox no longer has it as ready
-module _ (queues : Queues) (cycle : ℕ) (old new : Acts) (number : MsgNo) (more : (n : MsgNo) → IsGone new n → IsGone old n ⊎ (number ≡ n)) (still : (n : MsgNo) → IsGone old n → IsGone new n) (it : IsGone new number) where
-  abbrev Loses : (before after : List InboxMessage) → Message → Type 0
-  Loses before after m = Contains after (incoming_message m) ↔ (Contains before (incoming_message m) × (m.number ≢ number))
+    pub reflects-gone : (before after : List InboxMessage) → NumbersAscend after → ((o : InboxMessage) → IsSeen old.cycle o → Loses before after o)
+        → Reflects queues stalled old before → Reflects queues stalled told_as after
+    reflects-gone before after ascends loses reflects = record {
+      ascends = ascends;
+      left = λ o seen. (
+        λ has.
+            let so = (loses o seen).0 has in
+            let l = (reflects.left o seen).0 so.0 in
+            record {
+              before = l.before;
+              held = l.held;
+              now = l.now;
+              not_gone = λ gone. ⊎_elim l.not_gone (λ same. so.1 (sym same)) (more o.message.number gone);
+            },
+        λ l.
+            (loses o seen).1 (
+              (reflects.left o seen).1 (record { before = l.before; held = l.held; now = l.now; not_gone = λ gone. l.not_gone (still o.message.number gone) }),
+              λ same. l.not_gone (subst (IsGone acts) (sym same) it),
+            ),
+      );
+      none_back = λ none. reflects.none_back (sym woken ∙ none);
+      moved = reflects.moved;
+    }
 
-  pub reflects-gone : (before after : List InboxMessage) → NumbersAscend after → ((m : Message) → m.arrival ≤ cycle → Loses before after m) → Reflects queues cycle old before → Reflects queues cycle new after
-  reflects-gone before after ascends loses reflects = record {
-    ascends = ascends;
-    free = λ m arrived. (
-      λ has.
-          let so = (loses m arrived).0 has in
-          let left = (reflects.free m arrived).0 so.0 in
-          record { held = left.held; arrived = left.arrived; not_gone = λ gone. ⊎_elim left.not_gone (λ same. so.1 (sym same)) (more m.number gone) },
-      λ left.
-          (loses m arrived).1 (
-            (reflects.free m arrived).1 (record { held = left.held; arrived = left.arrived; not_gone = λ gone. left.not_gone (still m.number gone) }),
-            λ same. left.not_gone (subst (IsGone new) (sym same) it),
-          ),
-    );
-  }
-
--- the message of a number is no longer as it came in, or arrives later
-pub changed-loses : (inbox : List InboxMessage) (number : MsgNo) (change : InboxMessage → InboxMessage) (m : Message) → ((o : InboxMessage) → change o ≢ incoming_message m)
-    → Contains (changed_message inbox number change) (incoming_message m) ↔ (Contains inbox (incoming_message m) × (m.number ≢ number))
-changed-loses inbox number change m never = (
+-- the messages of a number are all others, or arrive later
+pub changed-loses : (inbox : List InboxMessage) (number : MsgNo) (change : InboxMessage → InboxMessage) (o : InboxMessage)
+    → ((q : InboxMessage) → Contains inbox q → q.message.number ≡ number → change q ≢ o)
+    → Contains (changed_message inbox number change) o ↔ (Contains inbox o × (o.message.number ≢ number))
+changed-loses inbox number change o never = (
   λ has.
       ⊎_elim
-      (λ (so : Contains inbox (incoming_message m) × (m.number ≢ number)). so)
-      (λ (so : (o : InboxMessage) × Contains inbox o × (o.message.number ≡ number) × (change o ≡ incoming_message m)). absurd (never so.0 so.3))
-      ((changed_message-contains inbox number change (incoming_message m)).0 has),
-  λ so. (changed_message-contains inbox number change (incoming_message m)).1 (inl so),
+      (λ (so : Contains inbox o × (o.message.number ≢ number)). so)
+      (λ (so : (q : InboxMessage) × Contains inbox q × (q.message.number ≡ number) × (change q ≡ o)). absurd (never so.0 so.1 so.2 so.3))
+      ((changed_message-contains inbox number change o).0 has),
+  λ so. (changed_message-contains inbox number change o).1 (inl so),
 )
 
 abbrev pub told_recycled : Told → (buffer arrival : ℕ) → MsgNo → Told
@@ -209,29 +191,60 @@ module _ (mail : Mail) (old : Told) where
   pub bad-latency : (buffer : ℕ) (latency : ℤ) → is_latency latency ≡ false → view_recycled (changed_view mail old) buffer latency old.cycle ≡ Err Latency
   bad-latency buffer latency bad = by-latency buffer latency false bad
 
+-- the front that an act is done to is in the inbox, as one that has arrived
+pub front-free : (mail : Mail) (buffer now : ℕ) (m : Message) → face.front mail buffer now ≡ Some m → IsFree mail.inbox buffer now m
+front-free mail buffer now m is =
+    (subst (IsLeast (IsFree mail.inbox buffer now)) is (front-least mail.inbox buffer now (face.front mail buffer now) (front_first mail buffer now))).one
+
 pub are-of-recycle : (store : MailStore) (old : Told) (buffer arrival : ℕ) (m : Message) → old.cycle < arrival → face.front (changed_mail (mail_of store) old) buffer old.cycle ≡ Some m
     → AreOf store old → AreOf store (told_recycled old buffer arrival m.number)
-are-of-recycle store old buffer arrival m later is reflects =
-    let inbox = (changed_mail (mail_of store) old).inbox in
+are-of-recycle store old buffer arrival m later is are =
+    let reflects = are.0 in
+    let mail = changed_mail (mail_of store) old in
+    let inbox = mail.inbox in
     let new = told_recycled old buffer arrival m.number in
     let change : InboxMessage → InboxMessage = message_arriving_again arrival in
-    subst (λ (mail : Mail). Reflects store.buffers.items old.cycle new.acts mail.inbox) (sym (recycled-mail (mail_of store) old buffer arrival m is))
-    (reflects-gone store.buffers.items old.cycle old.acts new.acts m.number
-    (λ n gone. ⊎_elim (λ consumed. inl (inl consumed)) (λ other. ⊎_elim (λ stalled. inl (inr (inl stalled))) (λ recycled. ⊎_elim (λ has. inl (inr (inr has))) (λ same. inr same) (Contains-push_cases old.acts.recycled m.number n recycled)) other) gone)
-    (λ n gone. ⊎_elim (λ consumed. inl consumed) (λ other. ⊎_elim (λ stalled. inr (inl stalled)) (λ recycled. inr (inr (Contains-append_left old.acts.recycled (m.number ∷ []) n recycled))) other) gone)
-    (inr (inr (Contains-push old.acts.recycled m.number)))
-    inbox (changed_message inbox m.number change) (ascend-changed inbox m change (λ o. refl) reflects.ascends)
-    (λ x arrived. changed-loses inbox m.number change x (λ o same. let so : arrival ≡ x.arrival = ap (λ (z : InboxMessage). z.message.arrival) same in absurd (omega arith)))
-    reflects)
+    let free : IsFree inbox buffer old.cycle m = front-free mail buffer old.cycle m is in
+    let never : (o : InboxMessage) → IsSeen old.cycle o → (q : InboxMessage) → Contains inbox q → q.message.number ≡ m.number → change q ≢ o =
+    λ o seen q has number same.
+    let it : q ≡ incoming_message m = one-of-ascending inbox reflects.ascends q (incoming_message m) has free.held number in
+    let waits : o.waiting ≡ None = ap (λ (z : InboxMessage). z.waiting) (sym same) ∙ ap (λ (z : InboxMessage). z.waiting) it in
+    let so : o.message.arrival ≤ old.cycle = seen waits in
+    let at : arrival ≡ o.message.arrival = ap (λ (z : InboxMessage). z.message.arrival) same in
+    absurd (omega arith) in (
+      subst (λ (after : Mail). Reflects store.buffers.items store.stalls.kept new after.inbox) (sym (recycled-mail (mail_of store) old buffer arrival m is))
+          (reflects-gone store.buffers.items store.stalls.kept old old.counts new.log new.acts refl m.number
+          (λ n gone. ⊎_elim (λ consumed. inl (inl consumed)) (λ recycled. ⊎_elim (λ has. inl (inr has)) (λ same. inr same) (Contains-push_cases old.acts.recycled m.number n recycled)) gone)
+          (λ n gone. ⊎_elim (λ consumed. inl consumed) (λ recycled. inr (Contains-append_left old.acts.recycled (m.number ∷ []) n recycled)) gone)
+          (inr (Contains-push old.acts.recycled m.number))
+          inbox (changed_message inbox m.number change) (ascend-changed inbox m change (λ o. refl) reflects.ascends)
+          (λ o seen. changed-loses inbox m.number change o (never o seen))
+          reflects),
+      fits-act (mail_of store) old (Recycle buffer arrival) new.acts old.moves tt are.1,
+    )
 
 -- changes of a scan of this mail still are that after an act
 pub are-of-pop : (store : MailStore) (old : Told) (buffer : ℕ) (m : Message) → face.front (changed_mail (mail_of store) old) buffer old.cycle ≡ Some m
     → AreOf store old → AreOf store (told_popped old buffer m.number)
-are-of-pop store old buffer m is reflects =
-    subst (λ (mail : Mail). Reflects store.buffers.items old.cycle (told_popped old buffer m.number).acts mail.inbox) (sym (popped-mail (mail_of store) old buffer m is))
-    (reflects-pop store.buffers.items old.cycle old.acts m.number (changed_mail (mail_of store) old).inbox reflects)
+are-of-pop store old buffer m is are =
+    let reflects = are.0 in
+    let inbox = (changed_mail (mail_of store) old).inbox in
+    let new = told_popped old buffer m.number in (
+      subst (λ (after : Mail). Reflects store.buffers.items store.stalls.kept new after.inbox) (sym (popped-mail (mail_of store) old buffer m is))
+          (reflects-gone store.buffers.items store.stalls.kept old old.counts new.log new.acts refl m.number
+          (λ n gone. ⊎_elim (λ consumed. ⊎_elim (λ has. inl (inl has)) (λ same. inr same) (Contains-push_cases old.acts.consumed m.number n consumed)) (λ recycled. inl (inr recycled)) gone)
+          (λ n gone. ⊎_elim (λ consumed. inl (Contains-append_left old.acts.consumed (m.number ∷ []) n consumed)) (λ recycled. inr recycled) gone)
+          (inl (Contains-push old.acts.consumed m.number))
+          inbox (without_message inbox m.number) (ascend-without inbox m.number reflects.ascends)
+          (λ o seen. without_message-contains inbox m.number o)
+          reflects),
+      fits-act (mail_of store) old (Pop buffer) new.acts old.moves tt are.1,
+    )
 
 pub are-of-again : (store : MailStore) (old : Told) (cycle : ℕ) → AreOf store old → AreOf store (told_again old cycle)
-are-of-again store old cycle reflects =
-    subst (λ (mail : Mail). Reflects store.buffers.items old.cycle (told_again old cycle).acts mail.inbox) (sym (after-more old.cycle (mail_of store) old.log (Mark cycle)))
-    (reflects-as store.buffers.items old.cycle old.acts (told_again old cycle).acts (changed_mail (mail_of store) old).inbox (λ n gone. gone) (λ n gone. gone) reflects)
+are-of-again store old cycle are =
+    let new = told_again old cycle in (
+      subst (λ (mail : Mail). Reflects store.buffers.items store.stalls.kept new mail.inbox) (sym (after-more old.cycle (mail_of store) old.log (Mark cycle)))
+          (reflects-as store.buffers.items store.stalls.kept old old.counts new.log new.acts refl (changed_mail (mail_of store) old).inbox (λ n gone. gone) (λ n gone. gone) are.0),
+      fits-act (mail_of store) old (Mark cycle) new.acts old.moves tt are.1,
+    )

@@ -9,7 +9,7 @@ use Rattle.ctl_face.specs.Lasts.{Lasts}
 use Rattle.ctl_mail.specs.Queues.{Queues, Replaces, messages_in, queue_of, room_in, room_of}
 
 -- what is read at a place within
-pub read-at : (queues : Queues) (at : ℕ) (q : Roomy (List Message)) → at < length queues → q ≡ get_or queues at q → slice_get queues at ≡ Some q
+pub read-at : {X : Type 0} (queues : List X) (at : ℕ) (q : X) → at < length queues → q ≡ get_or queues at q → slice_get queues at ≡ Some q
 read-at [] at q within is = absurd (omega arith)
 read-at (x ∷ xs) zero q within is = ap Some (sym is)
 read-at (x ∷ xs) (suc at) q within is = read-at xs at q (omega arith) is
@@ -20,7 +20,7 @@ at-or-past n at = grind arith
 pub past-end : (n at : ℕ) → (at < n → false ≡ true) → n ≤ at
 past-end n at none = ⊎_elim (λ less. absurd (cc (none less))) (λ le. le) (at-or-past n at)
 
-pub read-past : (queues : Queues) (at : ℕ) → length queues ≤ at → slice_get queues at ≡ None
+pub read-past : {X : Type 0} (queues : List X) (at : ℕ) → length queues ≤ at → slice_get queues at ≡ None
 read-past queues at past = slice_get_past queues at past
 
 pub queue-at : (queues : Queues) (at buffer : ℕ) (q : Roomy (List Message)) → at ≡ buffer → slice_get queues at ≡ Some q → queue_of queues buffer ≡ q.kept
@@ -39,19 +39,19 @@ pub room-none : (queues : Queues) (at buffer : ℕ) → at ≡ buffer → slice_
 unfolding room_of
 room-none queues at buffer same is = ap (λ i. room_in (slice_get queues i)) (sym same) ∙ ap room_in is
 
-pub set-here : (queues : Queues) (at : ℕ) (old new : Roomy (List Message)) → slice_get queues at ≡ Some old → slice_get (slice_set queues at new) at ≡ Some new
+pub set-here : {X : Type 0} (queues : List X) (at : ℕ) (old new : X) → slice_get queues at ≡ Some old → slice_get (slice_set queues at new) at ≡ Some new
 set-here [] at old new is = absurd (cc is)
 set-here (q ∷ qs) zero old new is = refl
 set-here (q ∷ qs) (suc at) old new is = set-here qs at old new is
 
-set-other : (queues : Queues) (at other : ℕ) (new : Roomy (List Message)) → other ≢ at → slice_get (slice_set queues at new) other ≡ slice_get queues other
+pub set-other : {X : Type 0} (queues : List X) (at other : ℕ) (new : X) → other ≢ at → slice_get (slice_set queues at new) other ≡ slice_get queues other
 set-other [] at other new apart = refl
 set-other (q ∷ qs) zero zero new apart = absurd (apart refl)
 set-other (q ∷ qs) zero (suc other) new apart = refl
 set-other (q ∷ qs) (suc at) zero new apart = refl
 set-other (q ∷ qs) (suc at) (suc other) new apart = set-other qs at other new (λ same. apart (ap suc same))
 
-nat-same-or-not : (a b : ℕ) → (a ≡ b) ⊎ (a ≢ b)
+pub nat-same-or-not : (a b : ℕ) → (a ≡ b) ⊎ (a ≢ b)
 nat-same-or-not a b = grind arith
 
 pub replaces : (queues : Queues) (at buffer : ℕ) (old new : Roomy (List Message)) (messages : List Message) → at ≡ buffer → slice_get queues at ≡ Some old → new.kept ≡ messages
@@ -86,3 +86,10 @@ all-no-lasts (n ∷ ns) all =
     let first : n.kept ≡ empty = All-head (λ (r : Roomy Lasts). r.kept ≡ empty) n ns all in
     let rest : map (λ (r : Roomy Lasts). r.kept) ns ≡ replicate (length ns) empty = all-no-lasts ns (All-tail (λ (r : Roomy Lasts). r.kept ≡ empty) n ns all) in
     ap (λ (x : Lasts). x ∷ map (λ (r : Roomy Lasts). r.kept) ns) first ∙ ap (λ (xs : List Lasts). empty ∷ xs) rest
+
+-- where there is room there is a buffer
+pub within-room : (queues : Queues) (buffer : ℕ) → 0 < room_of queues buffer → buffer < length queues
+unfolding room_of
+within-room [] buffer room = absurd (omega arith)
+within-room (q ∷ qs) zero room = omega arith
+within-room (q ∷ qs) (suc buffer) room = let so : buffer < length qs = within-room qs buffer room in omega arith

@@ -1,32 +1,35 @@
 -- Going along a queue past the messages that are gone leads to the first that is left, which is the front of the changed mail.
-use Rattle.std.proofs.Common.{nat_le, ◌≡◌, ◌⊎◌, ◌≤◌, ◌<◌, ◌+◌, ◌&&◌, ℕ, Bool, true, false, not, Option, None, Some, List, [], ◌∷◌, refl, sym, subst, ⊎_elim, cond, length, Contains, IsTrue, filter, arith}
+use Rattle.std.proofs.Common.{nat_le, ◌≡◌, ◌≢◌, ◌⊎◌, inl, inr, ◌≤◌, ◌<◌, ◌+◌, ◌&&◌, ℕ, Bool, true, false, not, Option, None, Some, List, [], ◌∷◌, refl, sym, subst, ⊎_elim, cond, length, Contains, IsTrue, filter, arith}
 use Rattle.std.proofs.lemmas.Bool.Decides.{nat_tests}
 use Rattle.ruby_value.specs.declared.message.Message.{Message}
 use Rattle.ruby_value.specs.declared.message.MsgNo.{MsgNo}
+use Rattle.stall_map.specs.declared.stalled.Stalled.{Stalled}
 use Rattle.ruby_value.specs.Front as general
 use Rattle.ruby_value.proofs.Contained.{Contains-cons_cases}
 use Rattle.ruby_value.proofs.Fronts.{front-is}
 use Rattle.msg_buffer.specs.Queue as queue
 use Rattle.msg_buffer.specs.Queue.{ComesBefore, is_after, next_after}
-use Rattle.ctl_face.specs.Acts.{Acts}
 use Rattle.ctl_face.specs.Ctl.{Mail}
 use Rattle.ctl_face.specs.Front as face
+use Rattle.ctl_face.specs.Mailing.{incoming_message}
 use Rattle.ctl_face.proofs.Held.{nothing-there}
-use Rattle.ctl_mail.specs.Least.{HasArrived, IsFirst, IsFree, IsLeast}
+use Rattle.ctl_mail.specs.Inbox.{IsAt}
+use Rattle.ctl_mail.specs.Least.{HasArrived, IsBack, IsEither, IsFirst, IsFree, IsLeast, IsLeftIn}
+use Rattle.ctl_mail.specs.Moves.{waiting_after}
 use Rattle.ctl_mail.specs.Queues.{Queues, queue_of}
-use Rattle.ctl_mail.specs.Told.{IsGone, IsLeft, Reflects}
+use Rattle.ctl_mail.specs.Told.{IsGone, IsOut, Reflects, Told}
 use Rattle.ctl_mail.proofs.Leasts.{front-only, least-as, queue-least}
 
-module _ (messages : List Message) (cycle : ℕ) (acts : Acts) where
+module _ (messages : List Message) (cycle : ℕ) (Out : MsgNo → Type 0) where
   abbrev pub NoneBefore : Message → Type 0
-  NoneBefore x = (m : Message) → IsLeft messages cycle acts m → ComesBefore m x → ⊥
+  NoneBefore x = (m : Message) → IsLeftIn messages cycle Out m → ComesBefore m x → ⊥
 
   -- a place of the queue before which all are gone, or its end
   abbrev pub Reached : Option Message → Type 0
-  Reached None = (m : Message) → IsLeft messages cycle acts m → ⊥
+  Reached None = (m : Message) → IsLeftIn messages cycle Out m → ⊥
   Reached (Some x) = HasArrived messages cycle x × NoneBefore x
 
-  has-arrived : (m : Message) → IsLeft messages cycle acts m → HasArrived messages cycle m
+  has-arrived : (m : Message) → IsLeftIn messages cycle Out m → HasArrived messages cycle m
   has-arrived m left = record { held = left.held; arrived = left.arrived }
 
   reached-by : (o : Option Message) → IsLeast (HasArrived messages cycle) o → Reached o
@@ -42,11 +45,11 @@ module _ (messages : List Message) (cycle : ℕ) (acts : Acts) where
   number-is : (a b : MsgNo) → a.sender ≡ b.sender → a.count ≡ b.count → a ≡ b
   number-is a b s n = λ i. record { sender = s i; count = n i }
 
-  passes : (x m : Message) → IsGone acts x.number → NoneBefore x → IsLeft messages cycle acts m → IsTrue (queue.is_ready cycle m && is_after x.arrival x.number m)
+  passes : (x m : Message) → Out x.number → NoneBefore x → IsLeftIn messages cycle Out m → IsTrue (queue.is_ready cycle m && is_after x.arrival x.number m)
   passes x m gone none left =
       let arrived : m.arrival ≤ cycle = left.arrived in
       ⊎_elim
-      (λ same. absurd (left.not_gone (subst (IsGone acts) (number-is x.number m.number same.0 same.1) gone)))
+      (λ same. absurd (left.not_out (subst (Out) (number-is x.number m.number same.0 same.1) gone)))
       (λ (after : is_after x.arrival x.number m ≡ true). both m.arrival (is_after x.arrival x.number m) arrived after)
       (tied-or-after x m (none m left))
     where
@@ -62,7 +65,7 @@ module _ (messages : List Message) (cycle : ℕ) (acts : Acts) where
   abbrev Tests : Message → Message → Bool
   Tests x m = queue.is_ready cycle m && is_after x.arrival x.number m
 
-  next-by : (x : Message) (o : Option Message) → IsGone acts x.number → NoneBefore x
+  next-by : (x : Message) (o : Option Message) → Out x.number → NoneBefore x
       → general.IsFront (Tests x) (λ (m : Message). m.arrival) (λ (m : Message). m.number) messages o → Reached o
   next-by x None gone none is = λ m left. is m left.held (passes x m gone none left)
   next-by x (Some y) gone none is = (
@@ -73,11 +76,11 @@ module _ (messages : List Message) (cycle : ℕ) (acts : Acts) where
   next-is : (x : Message) → general.IsFront (Tests x) (λ (m : Message). m.arrival) (λ (m : Message). m.number) messages (next_after messages cycle x.arrival x.number)
   next-is x = front-is (Tests x) (λ (m : Message). m.arrival) (λ (m : Message). m.number) messages
 
-  pub reached-next : (x : Message) → IsGone acts x.number → Reached (Some x) → Reached (next_after messages cycle x.arrival x.number)
+  pub reached-next : (x : Message) → Out x.number → Reached (Some x) → Reached (next_after messages cycle x.arrival x.number)
   reached-next x gone here = next-by x (next_after messages cycle x.arrival x.number) gone here.1 (next-is x)
 
-  pub reached-left : (x : Message) → (IsGone acts x.number → ⊥) → Reached (Some x) → IsFirst (IsLeft messages cycle acts) x
-  reached-left x stays here = record { one = record { held = here.0.held; arrived = here.0.arrived; not_gone = stays }; none_before = here.1 }
+  pub reached-left : (x : Message) → (Out x.number → ⊥) → Reached (Some x) → IsFirst (IsLeftIn messages cycle Out) x
+  reached-left x stays here = record { one = record { held = here.0.held; arrived = here.0.arrived; not_out = stays }; none_before = here.1 }
 
 -- how many come after a place
 module _ (messages : List Message) where
@@ -139,24 +142,67 @@ module _ (messages : List Message) where
       falls-by cycle x (next_after messages cycle x.arrival x.number)
       (front-is (λ m. queue.is_ready cycle m && is_after x.arrival x.number m) (λ (m : Message). m.arrival) (λ (m : Message). m.number) messages)
 
--- what is left in a buffer's queue is what is free in the changed inbox
-module _ (queues : Queues) (cycle : ℕ) (acts : Acts) (mail : Mail) (own : (buffer : ℕ) (m : Message) → Contains (queue_of queues buffer) m → m.buffer ≡ buffer) (reflects : Reflects queues cycle acts mail.inbox) where
-  left-free : (buffer : ℕ) (m : Message) → IsLeft (queue_of queues buffer) cycle acts m → IsFree mail.inbox buffer cycle m
-  left-free buffer m left =
+-- what is ready in a buffer, in its queue or stalled before the scan, is what is free in the changed inbox
+module _ (queues : Queues) (stalled : List Stalled) (told : Told) (mail : Mail) (own : (buffer : ℕ) (m : Message) → Contains (queue_of queues buffer) m → m.buffer ≡ buffer) (reflects : Reflects queues stalled told mail.inbox) where
+  none-by : (o : Option ℕ) → (o ≢ None → ⊥) → o ≡ None
+  none-by None is = refl
+  none-by (Some line) is = absurd (is (λ same. cc same))
+
+  queued-free : (buffer : ℕ) (m : Message) → IsLeftIn (queue_of queues buffer) told.cycle (IsOut told) m → IsFree mail.inbox buffer told.cycle m
+  queued-free buffer m left =
       let is : m.buffer ≡ buffer = own buffer m left.held in
       record {
-        held = (reflects.free m left.arrived).1 (subst (λ (b : ℕ). IsLeft (queue_of queues b) cycle acts m) (sym is) left);
+        held = (reflects.left (incoming_message m) (λ _. left.arrived)).1 (record {
+          before = None;
+          held = subst (λ (b : ℕ). Contains (queue_of queues b) m) (sym is) left.held;
+          now = none-by (waiting_after m.number told.moves None) (λ waits. left.not_out (inr waits));
+          not_gone = λ gone. left.not_out (inl gone);
+        });
         in_buffer = is;
         arrived = left.arrived;
       }
 
-  free-left : (buffer : ℕ) (m : Message) → IsFree mail.inbox buffer cycle m → IsLeft (queue_of queues buffer) cycle acts m
-  free-left buffer m free = subst (λ (b : ℕ). IsLeft (queue_of queues b) cycle acts m) free.in_buffer ((reflects.free m free.arrived).0 free.held)
+  back-free : (buffer : ℕ) (m : Message) → IsBack stalled told buffer m → IsFree mail.inbox buffer told.cycle m
+  back-free buffer m back = record {
+    held = (reflects.left (incoming_message m) (λ _. back.now.arrived)).1 (record {
+      before = Some back.line;
+      held = back.held;
+      now = back.now.free.back;
+      not_gone = back.now.free.not_gone;
+    });
+    in_buffer = back.now.in_buffer;
+    arrived = back.now.arrived;
+  }
 
-  pub front-left : (buffer : ℕ) (o : Option Message) → IsLeast (IsLeft (queue_of queues buffer) cycle acts) o → face.front mail buffer cycle ≡ o
-  front-left buffer o is =
-      front-only mail buffer cycle o reflects.ascends
-      (least-as (IsLeft (queue_of queues buffer) cycle acts) (IsFree mail.inbox buffer cycle) (left-free buffer) (free-left buffer) o is)
+  either-by : (buffer : ℕ) (m : Message) (before : Option ℕ) → m.buffer ≡ buffer → m.arrival ≤ told.cycle → IsAt queues stalled m before
+      → waiting_after m.number told.moves before ≡ None → (IsGone told.acts m.number → ⊥) → IsEither queues stalled told buffer m
+  either-by buffer m None in_buffer arrived held now stays = inl (record {
+    held = subst (λ (b : ℕ). Contains (queue_of queues b) m) in_buffer held;
+    arrived = arrived;
+    not_out = λ out. ⊎_elim stays (λ waits. waits now) out;
+  })
+  either-by buffer m (Some line) in_buffer arrived held now stays = inr (record {
+    line = line;
+    held = held;
+    now = record { in_buffer = in_buffer; arrived = arrived; free = record { back = now; not_gone = stays } };
+  })
 
-pub none-left : (cycle : ℕ) (acts : Acts) (m : Message) → IsLeft [] cycle acts m → ⊥
-none-left cycle acts m left = nothing-there m left.held
+  either-free : (buffer : ℕ) (m : Message) → IsEither queues stalled told buffer m → IsFree mail.inbox buffer told.cycle m
+  either-free buffer m is = ⊎_elim (queued-free buffer m) (back-free buffer m) is
+
+  free-either : (buffer : ℕ) (m : Message) → IsFree mail.inbox buffer told.cycle m → IsEither queues stalled told buffer m
+  free-either buffer m free =
+      let l = (reflects.left (incoming_message m) (λ _. free.arrived)).0 free.held in
+      either-by buffer m l.before free.in_buffer free.arrived l.held l.now l.not_gone
+
+  pub front-either : (buffer : ℕ) (o : Option Message) → IsLeast (IsEither queues stalled told buffer) o → face.front mail buffer told.cycle ≡ o
+  front-either buffer o is =
+      front-only mail buffer told.cycle o reflects.ascends
+      (least-as (IsEither queues stalled told buffer) (IsFree mail.inbox buffer told.cycle) (either-free buffer) (free-either buffer) o is)
+
+  -- where nothing was woken, the queue has all that is ready
+  pub none-back : told.acts.woken ≡ [] → (buffer : ℕ) (m : Message) → IsBack stalled told buffer m → ⊥
+  none-back none buffer m back = reflects.none_back none (record { line = back.line; message = m }) back.held back.now.free.back
+
+pub none-left : (cycle : ℕ) (Out : MsgNo → Type 0) (m : Message) → IsLeftIn [] cycle Out m → ⊥
+none-left cycle Out m left = nothing-there m left.held

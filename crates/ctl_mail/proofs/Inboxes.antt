@@ -1,5 +1,5 @@
 -- The inbox that queues and stalled messages make: it ascends, and has what they have; and there is one such list alone.
-use Rattle.std.proofs.Common.{◌≡◌, ◌≢◌, ◌⊎◌, ◌↔◌, ◌++◌, ℕ, zero, suc, true, false, Option, None, Some, List, [], ◌∷◌, refl, sym, subst, ap, ◌∙◌, inl, inr, ⊎_elim, Contains, map, IsTrue, arith}
+use Rattle.std.proofs.Common.{◌≡◌, ◌≢◌, ◌⊎◌, ◌↔◌, ◌<◌, ◌++◌, ℕ, length, zero, suc, true, false, Option, None, Some, List, [], ◌∷◌, refl, sym, subst, ap, ◌∙◌, inl, inr, ⊎_elim, Contains, map, IsTrue, arith}
 use Rattle.std.specs.List.{fold}
 use Rattle.std.proofs.lemmas.Bool.Decides.{nat_tests}
 use Rattle.std.proofs.lemmas.List.Elements.{All-contains, Contains-append_cases, Contains-append_left, Contains-append_right}
@@ -24,6 +24,9 @@ number-parts a b = grind (arith, nat_tests)
 
 same-refl : (a : MsgNo) → same_number a a ≡ true
 same-refl a = grind (arith, nat_tests)
+
+pub same-test : (a b : MsgNo) → a ≡ b → same_number a b ≡ true
+same-test a b same = subst (λ (n : MsgNo). same_number a n ≡ true) same (same-refl a)
 
 pub differ-by : (a b : MsgNo) → same_number a b ≡ false → a ≢ b
 differ-by a b is = λ same. let so : same_number a b ≡ true = subst (λ (n : MsgNo). same_number a n ≡ true) same (same-refl a) in absurd (cc (is, so))
@@ -205,11 +208,13 @@ module _ (queues : Queues) (stalled : List Stalled) where
 
   -- queues and stalled messages have what an ascending list has: then that is their inbox
   pub becomes : (inbox : List InboxMessage) → NumbersAscend inbox → ((buffer : ℕ) (m : Message) → Contains (queue_of queues buffer) m → m.buffer ≡ buffer)
+      → ((s : Stalled) → Contains stalled s → s.message.buffer < length queues)
       → ((o : InboxMessage) → Has queues stalled o ↔ Contains inbox o) → Holds queues stalled × (inbox_of queues stalled ≡ inbox)
-  becomes inbox ascends own has =
+  becomes inbox ascends own homes has =
       let holds : Holds queues stalled = record {
         own_buffer = own;
         one = λ a b has_a has_b same. one-of-ascending inbox ascends a b ((has a).0 has_a) ((has b).0 has_b) same;
+        homes = homes;
       } in (
         holds,
         same-lists (inbox_of queues stalled) inbox inbox-ascends ascends

@@ -1,14 +1,20 @@
 -- The acts of a local on messages are the acts on its mail.
-use Rattle.std.proofs.Common.{◌≡◌, ◌∷◌, ◌++◌, [], ℕ, ℤ, Result, Ok, Err, refl}
+use Rattle.std.proofs.Common.{◌≡◌, ◌∷◌, ◌++◌, [], ℕ, ℤ, List, Result, Ok, Err, refl}
 use Rattle.ruby_value.specs.declared.fault.Fault.{Fault}
 use Rattle.ruby_value.specs.declared.message.MsgNo.{MsgNo}
+use Rattle.ruby_value.specs.declared.value.Value.{Value}
 use Rattle.ctl_face.specs.Acts.{Acts}
 use Rattle.ctl_face.specs.Again.{again}
 use Rattle.ctl_face.specs.AtFront.{AtFront, after_front}
+use Rattle.ctl_face.specs.Enqueue.{after_sending, enqueue}
 use Rattle.ctl_face.specs.LocalView.{LocalView}
 use Rattle.ctl_face.specs.Pop.{pop, popped_mail}
 use Rattle.ctl_face.specs.Recycle.{recycle, recycled_mail}
-use Rattle.ctl_mail.specs.MailView.{MailView, mail_view, view_after_front, view_again, view_popped, view_recycled, with_mail_view}
+use Rattle.ctl_face.specs.Send.{Sending, send}
+use Rattle.ctl_face.specs.Stall.{stall, stalled_mail}
+use Rattle.ctl_face.specs.Wake.{wake, wake_all}
+use Rattle.ctl_mail.specs.Sends.{view_after_sending, view_sent}
+use Rattle.ctl_mail.specs.MailView.{MailView, mail_view, view_after_front, view_again, view_popped, view_recycled, view_stalled, view_wake, view_wake_all, with_mail_view}
 
 -- the local after it, or the fault
 abbrev pub in_local : LocalView → Result MailView Fault → Result LocalView Fault
@@ -28,3 +34,20 @@ again-is v = refl
 pub recycle-is : (v : LocalView) (buffer : ℕ) (latency : ℤ) → recycle v buffer latency ≡ in_local v (view_recycled (mail_view v) buffer latency v.now)
 recycle-is v buffer latency =
     front-is v (λ (number : MsgNo). record v.acts { recycled = v.acts.recycled ++ number ∷ [] }) (recycled_mail v.ctl.mail buffer latency v.now)
+
+pub stall-is : (v : LocalView) (buffer line : ℕ) → stall v buffer line ≡ in_local v (view_stalled (mail_view v) buffer line v.now)
+stall-is v buffer line =
+    front-is v (λ (number : MsgNo). record v.acts { stalled = v.acts.stalled ++ number ∷ [] }) (stalled_mail v.ctl.mail buffer line v.now)
+
+pub wake-is : (v : LocalView) (line : ℕ) → wake v line ≡ with_mail_view v (view_wake (mail_view v) line)
+wake-is v line = refl
+
+pub wake_all-is : (v : LocalView) → wake_all v ≡ with_mail_view v (view_wake_all (mail_view v))
+wake_all-is v = refl
+
+sending-is : (v : LocalView) (r : Result Sending Fault) → after_sending v r ≡ in_local v (view_after_sending v.actor.me (mail_view v) r)
+sending-is v (Ok s) = refl
+sending-is v (Err fault) = refl
+
+pub enqueue-is : (v : LocalView) (buffer : ℕ) (latency : ℤ) (fields : List Value) → enqueue v buffer latency fields ≡ in_local v (view_sent (mail_view v) v.machine v.actor buffer latency fields v.now)
+enqueue-is v buffer latency fields = sending-is v (send v.machine v.actor v.ctl.mail buffer latency fields v.now)

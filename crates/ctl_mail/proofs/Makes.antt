@@ -1,5 +1,5 @@
 -- What an act makes of the mail as it is kept is what it makes of the abstract mail.
-use Rattle.std.proofs.Common.{◌≡◌, ◌≢◌, ℕ, Option, None, Some, List, [], refl, sym, subst, ap, ◌∙◌, Contains, IfSome, IfNone, All, true, get_or, replicate}
+use Rattle.std.proofs.Common.{◌≡◌, ◌≢◌, ℕ, Option, None, Some, List, [], refl, sym, subst, ap, ◌∙◌, Contains, IfSome, IfNone, All, true, get_or, length, replicate}
 use Rattle.std.proofs.lemmas.List.Elements.{All-contains, Contains-get_or}
 use Rattle.std.specs.List.Sorted.{IsStrictlyIncreasing}
 use Rattle.std.specs.FinMap.{empty}
@@ -44,7 +44,7 @@ gone-out : (inbox : List InboxMessage) (number : MsgNo) → All (λ (o : InboxMe
 gone-out inbox number k d within =
     ((without_message-contains inbox number (get_or (without_message inbox number) k d)).0 (Contains-get_or (without_message inbox number) k d within)).1
 
-module _ (store : MailStore) (new : Vec (Roomy (List Message)) Global) (is_mail : IsMail store) where
+module _ (store : MailStore) (new : Vec (Roomy (List Message)) Global) (is_mail : IsMail store) (count : length new.items ≡ length store.buffers.items) where
   abbrev pub with_buffers : MailStore
   with_buffers = record store { buffers = new }
 
@@ -53,7 +53,7 @@ module _ (store : MailStore) (new : Vec (Roomy (List Message)) Global) (is_mail 
 
   pub same-queues : ((buffer : ℕ) → queue_of new.items buffer ≡ queue_of store.buffers.items buffer) → (mail_of with_buffers ≡ mail_of store) × IsMail with_buffers
   same-queues same =
-      let so = same-held store.buffers.items new.items store.stalls.kept same is_mail.holds in
+      let so = same-held store.buffers.items new.items store.stalls.kept same count is_mail.holds in
       (ap (λ xs. record (mail_of store) { inbox = xs }) so.1, kept so.0)
 
   front-is : (buffer now : ℕ) → face.front (mail_of store) buffer now ≡ queue.front (queue_of store.buffers.items buffer) now
@@ -73,7 +73,7 @@ module _ (store : MailStore) (new : Vec (Roomy (List Message)) Global) (is_mail 
   taken-out buffer now None is taken = tt
   taken-out buffer now (Some m) is taken =
       let held = front-held buffer now m is in
-      let so = popped store.buffers.items new.items store.stalls.kept buffer m is_mail.holds held taken in (
+      let so = popped store.buffers.items new.items store.stalls.kept buffer m is_mail.holds held taken count in (
         ap (λ xs. record (mail_of store) { inbox = xs }) so.1,
         kept so.0,
         subst (All (λ (o : InboxMessage). o.message.number ≢ m.number)) (sym so.1) (gone-out (inbox_of store.buffers.items store.stalls.kept) m.number),
@@ -86,7 +86,7 @@ module _ (store : MailStore) (new : Vec (Roomy (List Message)) Global) (is_mail 
   taken-none buffer (Some m) none = tt
 
   -- a message comes in, with its mark
-  fresh : (number : MsgNo) → IsNewIn (mail_of store) number → (o : InboxMessage) → Has store.buffers.items store.stalls.kept o → o.message.number ≢ number
+  pub fresh : (number : MsgNo) → IsNewIn (mail_of store) number → (o : InboxMessage) → Has store.buffers.items store.stalls.kept o → o.message.number ≢ number
   fresh number new_in o has =
       All-contains (λ (x : InboxMessage). x.message.number ≢ number) (inbox_of store.buffers.items store.stalls.kept) o new_in
       ((inbox-has store.buffers.items store.stalls.kept is_mail.holds o).1 has)
@@ -101,7 +101,7 @@ module _ (store : MailStore) (new : Vec (Roomy (List Message)) Global) (is_mail 
       → Replaces store.buffers.items new.items m.buffer (queue.with_message (queue_of store.buffers.items m.buffer) m)
       → (mail_with_mark (mail_of with_buffers) m.arrival ≡ mail_with_message (mail_of store) m) × IsMail with_buffers
   made-put m new_in put =
-      let so = put-in store.buffers.items new.items store.stalls.kept m is_mail.holds (fresh m.number new_in) put in
+      let so = put-in store.buffers.items new.items store.stalls.kept m is_mail.holds (fresh m.number new_in) put count in
       (ap (λ xs. mail_with_mark (record (mail_of store) { inbox = xs }) m.arrival) so.1, kept so.0)
 
 -- other marks
@@ -113,6 +113,7 @@ pub no-messages : (queues : Queues) → ((buffer : ℕ) → queue_of queues buff
 no-messages queues none =
     becomes queues [] [] (AllPairs-nil Before)
     (λ buffer m has. absurd (nothing-there m (subst (λ xs. Contains xs m) (none buffer) has)))
+    (λ s has. absurd (nothing-there s has))
     (λ o. (λ has. nowhere o.message o.waiting has, λ is. absurd (nothing-there o is)))
   where
     nowhere : (m : Message) (waiting : Option ℕ) → IsAt queues [] m waiting → Contains {X = InboxMessage} [] (record { message = m; waiting = waiting })

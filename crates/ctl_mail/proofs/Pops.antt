@@ -1,5 +1,5 @@
 -- The front of a buffer goes out of its queue, and so out of the inbox.
-use Rattle.std.proofs.Common.{◌≡◌, ◌≢◌, ℕ, Bool, true, false, not, Option, None, Some, List, refl, sym, subst, ap, ◌∙◌, ⊎_elim, Contains}
+use Rattle.std.proofs.Common.{◌≡◌, ◌≢◌, ◌<◌, ℕ, length, Bool, true, false, not, Option, None, Some, List, refl, sym, subst, ap, ◌∙◌, ⊎_elim, Contains}
 use Rattle.ruby_value.specs.declared.message.Message.{Message}
 use Rattle.ruby_value.specs.declared.message.MsgNo.{MsgNo}
 use Rattle.ruby_value.specs.NumberBefore.{same_number}
@@ -29,7 +29,7 @@ pub without-to : (xs : List Message) (number : MsgNo) (m : Message) → Contains
 without-to xs number m has apart =
     in-filter (λ (o : Message). not (same_number o.number number)) xs m (ap not (differ-test m.number number apart)) has
 
-module _ (old new : Queues) (stalled : List Stalled) (buffer : ℕ) (m : Message) (holds : Holds old stalled) (held : Contains (queue_of old buffer) m) (taken : Replaces old new buffer (queue.without_message (queue_of old buffer) m.number)) where
+module _ (old new : Queues) (stalled : List Stalled) (buffer : ℕ) (m : Message) (holds : Holds old stalled) (held : Contains (queue_of old buffer) m) (taken : Replaces old new buffer (queue.without_message (queue_of old buffer) m.number)) (count : length new ≡ length old) where
   its_buffer : m.buffer ≡ buffer
   its_buffer = holds.own_buffer buffer m held
 
@@ -87,6 +87,7 @@ module _ (old new : Queues) (stalled : List Stalled) (buffer : ℕ) (m : Message
   pub popped : Holds new stalled × (inbox_of new stalled ≡ without_message (inbox_of old stalled) m.number)
   popped =
       becomes new stalled (without_message (inbox_of old stalled) m.number) (ascend-without (inbox_of old stalled) m.number (inbox-ascends old stalled)) own
+      (λ s has. subst (λ n. s.message.buffer < n) (sym count) (holds.homes s has))
       (λ o. (
         λ has. let so = from-new o.message o.waiting has in
             (without_message-contains (inbox_of old stalled) m.number o).1 ((inbox-has old stalled holds o).1 so.0, so.1),
@@ -95,10 +96,11 @@ module _ (old new : Queues) (stalled : List Stalled) (buffer : ℕ) (m : Message
       ))
 
 -- nothing went out
-pub same-held : (old new : Queues) (stalled : List Stalled) → ((buffer : ℕ) → queue_of new buffer ≡ queue_of old buffer) → Holds old stalled → Holds new stalled × (inbox_of new stalled ≡ inbox_of old stalled)
-same-held old new stalled same holds =
+pub same-held : (old new : Queues) (stalled : List Stalled) → ((buffer : ℕ) → queue_of new buffer ≡ queue_of old buffer) → length new ≡ length old → Holds old stalled → Holds new stalled × (inbox_of new stalled ≡ inbox_of old stalled)
+same-held old new stalled same count holds =
     becomes new stalled (inbox_of old stalled) (inbox-ascends old stalled)
     (λ buffer m has. holds.own_buffer buffer m (subst (λ xs. Contains xs m) (same buffer) has))
+    (λ s has. subst (λ n. s.message.buffer < n) (sym count) (holds.homes s has))
     (λ o. (λ has. (inbox-has old stalled holds o).1 (to-old o.message o.waiting has), λ is. from-old o.message o.waiting ((inbox-has old stalled holds o).0 is)))
   where
     to-old : (x : Message) (waiting : Option ℕ) → IsAt new stalled x waiting → IsAt old stalled x waiting

@@ -1,5 +1,5 @@
 -- A message with a new number goes into its buffer's queue, and so into the inbox.
-use Rattle.std.proofs.Common.{◌≡◌, ◌≢◌, ◌⊎◌, ℕ, Bool, true, Option, None, Some, List, ◌∷◌, sym, subst, ap, ◌∙◌, inl, inr, ⊎_elim, Contains, filter, arith}
+use Rattle.std.proofs.Common.{◌≡◌, ◌≢◌, ◌⊎◌, ◌<◌, ℕ, length, Bool, true, Option, None, Some, List, ◌∷◌, sym, subst, ap, ◌∙◌, inl, inr, ⊎_elim, Contains, filter, arith}
 use Rattle.std.proofs.lemmas.Bool.Decides.{nat_tests}
 use Rattle.std.proofs.lemmas.List.Elements.{Contains-append_cases, Contains-append_left, Contains-append_right}
 use Rattle.ruby_value.specs.declared.message.Message.{Message}
@@ -46,7 +46,7 @@ in-with-old xs m x apart has =
     (λ high. Contains-append_right (filter p xs) (m ∷ filter q xs) x (Contains-cons_there m x (filter q xs) (in-filter q xs x high has)))
     (order-else x m apart)
 
-module _ (old new : Queues) (stalled : List Stalled) (m : Message) (holds : Holds old stalled) (fresh : (o : InboxMessage) → Has old stalled o → o.message.number ≢ m.number) (put : Replaces old new m.buffer (queue.with_message (queue_of old m.buffer) m)) where
+module _ (old new : Queues) (stalled : List Stalled) (m : Message) (holds : Holds old stalled) (fresh : (o : InboxMessage) → Has old stalled o → o.message.number ≢ m.number) (put : Replaces old new m.buffer (queue.with_message (queue_of old m.buffer) m)) (count : length new ≡ length old) where
   here-from : (x : Message) (buffer : ℕ) → buffer ≡ m.buffer → Contains (queue_of new buffer) x → (m ≡ x) ⊎ Contains (queue_of old buffer) x
   here-from x buffer is has =
       subst (λ (b : ℕ). (m ≡ x) ⊎ Contains (queue_of old b) x) (sym is)
@@ -92,6 +92,7 @@ module _ (old new : Queues) (stalled : List Stalled) (m : Message) (holds : Hold
   put-in =
       let inbox = inbox_of old stalled in
       becomes new stalled (with_message inbox (incoming_message m)) (ascend-with inbox (incoming_message m) (inbox-ascends old stalled)) own
+      (λ s has. subst (λ n. s.message.buffer < n) (sym count) (holds.homes s has))
       (λ o. (
         λ has.
             (with_message-contains inbox (incoming_message m) o).1

@@ -1,6 +1,6 @@
 -- The inbox of a controller whose messages are in queues, one for each of its buffers, or stalled under lines: all of them by
 -- ascending number. Each message is in the queue of the buffer that it names, and no number is there twice.
-use Rattle.std.specs.Prelude.{◌≡◌, ◌++◌, ℕ, Option, None, Some, List, [], ◌∷◌, Contains, map}
+use Rattle.std.specs.Prelude.{◌≡◌, ◌<◌, ◌++◌, ℕ, Option, None, Some, List, [], ◌∷◌, Contains, length, map}
 use Rattle.std.specs.List.{fold}
 use Rattle.ruby_value.specs.declared.message.Message.{Message}
 use Rattle.stall_map.specs.declared.stalled.Stalled.{Stalled}
@@ -31,3 +31,5 @@ Has queues stalled o = IsAt queues stalled o.message o.waiting
 pub record Holds (queues : Queues) (stalled : List Stalled) : Type 0 where
   pub own_buffer : (buffer : ℕ) (m : Message) → Contains (queue_of queues buffer) m → m.buffer ≡ buffer
   pub one : (a b : InboxMessage) → Has queues stalled a → Has queues stalled b → a.message.number ≡ b.message.number → a ≡ b
+  -- a stalled message has a buffer to come back to
+  pub homes : (s : Stalled) → Contains stalled s → s.message.buffer < length queues

@@ -1,10 +1,14 @@
 -- Which of some messages comes first: one of them before which none of them comes, by arrival, then number; none where there is
 -- none.
-use Rattle.std.specs.Prelude.{◌≡◌, ◌≤◌, ℕ, Option, None, Some, List, Contains}
+use Rattle.std.specs.Prelude.{◌≡◌, ◌≤◌, ◌⊎◌, ℕ, Option, None, Some, List, Contains, slice_get, if◌then◌else◌}
 use Rattle.ruby_value.specs.declared.message.Message.{Message}
+use Rattle.ruby_value.specs.declared.message.MsgNo.{MsgNo}
+use Rattle.stall_map.specs.declared.stalled.Stalled.{Stalled}
 use Rattle.ctl_face.specs.Ctl.{InboxMessage}
 use Rattle.ctl_face.specs.Mailing.{incoming_message}
-use Rattle.msg_buffer.specs.Queue.{ComesBefore}
+use Rattle.msg_buffer.specs.Queue.{ComesBefore, comes_before}
+use Rattle.ctl_mail.specs.Queues.{Queues, queue_of}
+use Rattle.ctl_mail.specs.Told.{IsFreeNow, IsOut, Told}
 
 pub record IsFirst (P : Message → Type 0) (m : Message) : Type 0 where
   pub one : P m
@@ -24,3 +28,38 @@ pub record IsFree (inbox : List InboxMessage) (buffer now : ℕ) (m : Message) :
 pub record HasArrived (queue : List Message) (now : ℕ) (m : Message) : Type 0 where
   pub held : Contains queue m
   pub arrived : m.arrival ≤ now
+
+-- a message of a queue that has arrived and isn't out
+pub record IsLeftIn (queue : List Message) (cycle : ℕ) (Out : MsgNo → Type 0) (m : Message) : Type 0 where
+  pub held : Contains queue m
+  pub arrived : m.arrival ≤ cycle
+  pub not_out : Out m.number → ⊥
+
+-- what was stalled before the scan is ready in a buffer now
+pub record IsBackNow (told : Told) (buffer : ℕ) (s : Stalled) : Type 0 where
+  pub in_buffer : s.message.buffer ≡ buffer
+  pub arrived : s.message.arrival ≤ told.cycle
+  pub free : IsFreeNow told s.message.number (Some s.line)
+
+-- the message is of those
+pub record IsBack (stalled : List Stalled) (told : Told) (buffer : ℕ) (m : Message) : Type 0 where
+  pub line : ℕ
+  pub held : Contains stalled (record { line = line; message = m })
+  pub now : IsBackNow told buffer (record { line = line; message = m })
+
+-- the message at a place is of those
+pub record IsBackAt (stalled : List Stalled) (told : Told) (buffer at : ℕ) (m : Message) : Type 0 where
+  pub line : ℕ
+  pub held : slice_get stalled at ≡ Some (record { line = line; message = m })
+  pub now : IsBackNow told buffer (record { line = line; message = m })
+
+-- the one of two that comes first, or the only one
+abbrev pub first_of_two : Option Message → Option Message → Option Message
+first_of_two None b = b
+first_of_two (Some x) None = Some x
+first_of_two (Some x) (Some y) = if comes_before y x then Some y else Some x
+
+-- a message that is ready in a buffer, which its queue has, or which was stalled before the scan
+abbrev pub IsEither : Queues → List Stalled → Told → ℕ → Message → Type 0
+IsEither queues stalled told buffer m =
+    IsLeftIn (queue_of queues buffer) told.cycle (IsOut told) m ⊎ IsBack stalled told buffer m

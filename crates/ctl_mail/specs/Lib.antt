@@ -1,8 +1,14 @@
+pub mod Census
 pub mod Inbox
+pub mod Lasts
 pub mod Least
 pub mod MailOf
 pub mod MailView
 pub mod Marks
+pub mod Moves
+pub mod Numbers
 pub mod Queues
 pub mod Room
+pub mod Sends
+pub mod Sent
 pub mod Told

@@ -1,15 +1,17 @@
 -- What a scan has done to a controller's mail: the mail as its acts have left it, and what they have done to messages. The acts
 -- of a local on messages are these acts on its mail and its list of acts; nothing else of the local changes.
-use Rattle.std.specs.Prelude.{◌≡◌, ◌+◌, ◌++◌, ℕ, ℤ, true, [], ◌∷◌, Result, Ok, Err}
+use Rattle.std.specs.Prelude.{◌≡◌, ◌+◌, ◌++◌, ℕ, ℤ, Bool, true, [], ◌∷◌, Result, Ok, Err, is_some}
 use Rattle.ruby_value.specs.declared.fault.Fault.{Fault}
 use Rattle.ruby_value.specs.declared.message.MsgNo.{MsgNo}
 use Rattle.ctl_face.specs.Acts.{Acts}
 use Rattle.ctl_face.specs.AtFront.{AtFront}
-use Rattle.ctl_face.specs.Ctl.{Mail}
+use Rattle.ctl_face.specs.Ctl.{InboxMessage, Mail}
 use Rattle.ctl_face.specs.LocalView.{LocalView}
 use Rattle.ctl_face.specs.Mailing.{mail_with_mark}
 use Rattle.ctl_face.specs.Pop.{popped_mail}
 use Rattle.ctl_face.specs.Recycle.{recycled_mail}
+use Rattle.ctl_face.specs.Stall.{stalled_mail}
+use Rattle.ctl_face.specs.Wake.{is_under, numbers_where, woken_mail}
 use Rattle.ctl_face.specs.declared.trouble.Trouble.{Trouble}
 use Rattle.ctl_face.specs.declared.trouble.Trouble.TheVariants as trouble
 
@@ -29,6 +31,20 @@ view_popped v buffer now =
 abbrev pub view_recycled : MailView → ℕ → ℤ → ℕ → Result MailView Fault
 view_recycled v buffer latency now =
     view_after_front (λ (number : MsgNo). record v.acts { recycled = v.acts.recycled ++ number ∷ [] }) (recycled_mail v.mail buffer latency now)
+
+abbrev pub view_stalled : MailView → ℕ → ℕ → ℕ → Result MailView Fault
+view_stalled v buffer line now =
+    view_after_front (λ (number : MsgNo). record v.acts { stalled = v.acts.stalled ++ number ∷ [] }) (stalled_mail v.mail buffer line now)
+
+-- the messages that pass the test are woken
+abbrev pub view_woken : MailView → (InboxMessage → Bool) → MailView
+view_woken v test = record { mail = woken_mail v.mail test; acts = record v.acts { woken = v.acts.woken ++ numbers_where v.mail test } }
+
+abbrev pub view_wake : MailView → ℕ → MailView
+view_wake v line = view_woken v (λ (o : InboxMessage). is_under line o.waiting)
+
+abbrev pub view_wake_all : MailView → MailView
+view_wake_all v = view_woken v (λ (o : InboxMessage). is_some o.waiting)
 
 abbrev pub view_again : MailView → ℕ → MailView
 view_again v now = record { mail = mail_with_mark v.mail (now + 1); acts = record v.acts { again = true } }

@@ -1,5 +1,10 @@
--- The room that a mail has: for how many more messages and marks.
-use Rattle.std.specs.Prelude.{◌-◌, ◌≤◌, ◌<◌, ℕ, length, vec_capacity, vec_len}
+-- The room that a mail has: for how many more messages, marks and last arrivals.
+use Rattle.std.specs.Prelude.{◌+◌, ◌-◌, ◌≤◌, ◌<◌, ℕ, Bool, true, false, List, IfSome, count_by, length, slice_get, vec_capacity, vec_len}
+use Rattle.std.specs.List.{All}
+use Rattle.ruby_value.specs.Roomy.{Roomy}
+use Rattle.ctl_face.specs.Lasts.{Lasts}
+use Rattle.ctl_mail.specs.declared.act.MailAct.{MailAct}
+use Rattle.ctl_mail.specs.declared.act.MailAct.TheVariants.{Arrive, LocalLast, NetworkLast, Stall, Wake, WakeAll}
 use Rattle.ctl_mail.specs.declared.store.MailStore.{MailStore}
 use Rattle.ctl_mail.specs.Queues.{room_of}
 use Rattle.ctl_mail.specs.Told.{Told}
@@ -7,9 +12,49 @@ use Rattle.ctl_mail.specs.Told.{Told}
 abbrev pub mark_room : MailStore → ℕ
 mark_room store = vec_capacity store.marks - vec_len store.marks
 
+abbrev pub is_stall : MailAct → Bool
+is_stall (Stall buffer line) = true
+is_stall act = false
+
+abbrev pub is_wake : MailAct → Bool
+is_wake (Wake line) = true
+is_wake WakeAll = true
+is_wake act = false
+
+-- each buffer has places for all messages that wait, and for so many more
+abbrev pub HasPlacesToWake : MailStore → ℕ → Type 0
+HasPlacesToWake store more = (buffer : ℕ) → buffer < length store.buffers.items → length store.stalls.kept + more ≤ room_of store.buffers.items buffer
+
+-- the network, if there is one, has room for n more last arrivals
+unfoldable pub HasLastRoom : List (Roomy Lasts) → ℕ → ℕ → Type 0
+HasLastRoom networks network n = IfSome (slice_get networks network) (λ (lasts : Roomy Lasts). n ≤ lasts.room)
+
+-- n more acts like this one have room for what they write beside marks, also where all that waits comes back to its buffers
+abbrev pub HasPlaces : MailStore → ℕ → MailAct → Type 0
+HasPlaces store n (Arrive m) = length store.stalls.kept + n ≤ room_of store.buffers.items m.buffer
+HasPlaces store n (NetworkLast network receiver arrival) = HasLastRoom store.network_last.items network n
+HasPlaces store n (LocalLast buffer arrival) = n ≤ store.local_last.room
+HasPlaces store n _ = Unit {0}
+
+-- room for acts: for a mark each and one more, for each message that they stall, for what they write beside these, and where they
+-- wake messages, places for those to come back to
+pub record HasRoomToMake (store : MailStore) (log : List MailAct) : Type 0 where
+  pub marks : length log < mark_room store
+  pub waits : count_by is_stall log ≤ store.stalls.room
+  pub places : All (HasPlaces store (length log)) log
+  pub to_wake : 0 < count_by is_wake log → HasPlacesToWake store (length log)
+
 -- room for the changes, and for one mark after them
 abbrev pub HasRoom : MailStore → Told → Type 0
-HasRoom store told = length told.log < mark_room store
+HasRoom store told = HasRoomToMake store told.log
+
+-- how much room is lost at most, in each place; in a buffer, of that beyond what waits
+pub record LosesPlaces (old new : MailStore) (less : ℕ) : Type 0 where
+  pub buffers :
+      (buffer : ℕ)
+      → length new.stalls.kept + room_of old.buffers.items buffer ≤ length old.stalls.kept + room_of new.buffers.items buffer + less
+  pub networks : (network n : ℕ) → HasLastRoom old.network_last.items network (n + less) → HasLastRoom new.network_last.items network n
+  pub locals : old.local_last.room ≤ new.local_last.room + less
 
 -- room for so many messages in each buffer, each with its mark, and for one mark beside them
 pub record HasRoomFor (store : MailStore) (messages : ℕ) : Type 0 where

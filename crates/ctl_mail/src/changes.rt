@@ -1,13 +1,15 @@
-ghost use Rattle.std.specs.Prelude.{◌≡◌, ◌++◌, [], ◌∷◌, ◌⊎◌, ◌↔◌, true, OnOk, OnErr, Contains, IsTrue};
+ghost use Rattle.std.specs.Prelude.{◌≡◌, ◌++◌, [], ◌∷◌, ◌↔◌, true, OnOk, OnErr, Contains, IsTrue, map};
 ghost use Rattle.ruby_value.specs.declared.message.MsgNo.{MsgNo as MsgNoRecord};
 ghost use Rattle.ctl_face.specs.ScanView.{no_acts};
 ghost use Rattle.ctl_mail.specs.declared.act.MailAct.TheVariants as act;
-ghost use Rattle.ctl_mail.specs.MailOf.{IsMail};
-ghost use Rattle.ctl_mail.specs.Told.{AreOf, IsGone, told_by};
+ghost use Rattle.ctl_mail.specs.MailOf.{IsMail, mail_of};
+ghost use Rattle.ctl_mail.specs.Told.{AreOf, IsGone, copy_in, counts_in, note_in, told_by};
 
 use crate::MailStore;
 use crate::act::MailAct;
-use ruby_value::{MsgNo, NoMemory};
+use crate::moves::Move;
+use crate::sent::{SendCounts, SentNote};
+use ruby_value::{Message, MsgNo, NoMemory, Seq};
 use std::alloc::Global;
 use std::collections::VecDeque;
 
@@ -15,23 +17,34 @@ use std::collections::VecDeque;
 #[derive(Drop)]
 pub struct MailChanges {
     pub(crate) cycle: u64,
+    pub(crate) counts: SendCounts,
     pub(crate) log: VecDeque<MailAct>,
     pub(crate) consumed: Vec<MsgNo>,
     pub(crate) stalled: Vec<MsgNo>,
     pub(crate) woken: Vec<MsgNo>,
     pub(crate) recycled: Vec<MsgNo>,
+    pub(crate) sent: Vec<SentNote>,
+    pub(crate) posted: Vec<(u32, Message)>,
     pub(crate) again: bool,
+    pub(crate) moves: Vec<Move>,
+    pub(crate) alloc: Global,
 }
 
 impl MailChanges {
     /// No changes yet of this mail, of a scan in this cycle. It takes no memory.
     pub fn begin(alloc: Global, store: &MailStore, cycle: u64) -> MailChanges
         requires { IsMail store.now }
-        ensures none { told_by result ≡ record { cycle = cycle; log = []; acts = no_acts } }
+        ensures none { let counts = counts_in (mail_of store.now) in
+            told_by result
+            ≡ record { cycle = cycle; counts = counts; log = []; acts = no_acts; moves = [] } }
         ensures changes { AreOf store.now (told_by result) }
     {
-        let _store = store;
-        MailChanges::new(alloc, cycle)
+        let counts = SendCounts {
+            sent: store.sent,
+            drawn: store.drawn,
+            copies: store.copies,
+        };
+        MailChanges::new(alloc, cycle, counts)
     }
 
     /// The cycle of the scan.
@@ -41,35 +54,81 @@ impl MailChanges {
         self.cycle
     }
 
-    /// Whether the scan called `again`.
+    /// The messages that the scan consumed, in the order of its acts, as those of the next lists.
+    pub fn consumed(&self) -> &[MsgNo]
+        ensures { result.now ≡ (told_by self.now).acts.consumed }
+    {
+        &self.consumed
+    }
+
+    /// The messages that it stalled.
+    pub fn stalled_numbers(&self) -> &[MsgNo]
+        ensures { result.now ≡ (told_by self.now).acts.stalled }
+    {
+        &self.stalled
+    }
+
+    /// The messages that it woke.
+    pub fn woken(&self) -> &[MsgNo]
+        ensures { result.now ≡ (told_by self.now).acts.woken }
+    {
+        &self.woken
+    }
+
+    /// The messages that it recycled.
+    pub fn recycled(&self) -> &[MsgNo]
+        ensures { result.now ≡ (told_by self.now).acts.recycled }
+    {
+        &self.recycled
+    }
+
+    /// The copies that it sent.
+    pub fn sent(&self) -> &[SentNote]
+        ensures { map note_in result.now ≡ (told_by self.now).acts.sent }
+    {
+        &self.sent
+    }
+
+    /// The copies for other controllers, each with its receiver, in the order in which they were sent.
+    pub fn into_posted(self) -> Seq<(u32, Message)>
+        ensures { map copy_in result ≡ (told_by self).acts.posted }
+    {
+        Seq::of(self.posted)
+    }
+
+    // No changes yet, of a scan in this cycle.
+    fn new(alloc: Global, cycle: u64, counts: SendCounts) -> MailChanges
+        ensures { told_by result
+            ≡ record { cycle = cycle; counts = counts; log = []; acts = no_acts; moves = [] } }
+    {
+        MailChanges {
+            cycle,
+            counts,
+            log: VecDeque::new(alloc),
+            consumed: Vec::new(alloc),
+            stalled: Vec::new(alloc),
+            woken: Vec::new(alloc),
+            recycled: Vec::new(alloc),
+            sent: Vec::new(alloc),
+            posted: Vec::new(alloc),
+            again: false,
+            moves: Vec::new(alloc),
+            alloc,
+        }
+    }
+
+    /// Whether the scan was told to wake the controller again.
     pub fn stalled(&self) -> bool
         ensures { result ≡ (told_by self.now).acts.again }
     {
         self.again
     }
 
-    // No changes yet, of a scan in this cycle.
-    fn new(alloc: Global, cycle: u64) -> MailChanges
-        ensures { told_by result ≡ record { cycle = cycle; log = []; acts = no_acts } }
-    {
-        MailChanges {
-            cycle,
-            log: VecDeque::new(alloc),
-            consumed: Vec::new(alloc),
-            stalled: Vec::new(alloc),
-            woken: Vec::new(alloc),
-            recycled: Vec::new(alloc),
-            again: false,
-        }
-    }
-
-    // Whether the message of this number is no longer ready since the scan began.
+    // Whether the message of this number is consumed, or arrives again in a later cycle, since the scan began.
     pub(crate) fn is_gone(&self, number: MsgNo) -> bool
         ensures { IsTrue result ↔ IsGone (told_by self.now).acts number }
     {
-        contains(&self.consumed, number)
-            || contains(&self.stalled, number)
-            || contains(&self.recycled, number)
+        contains(&self.consumed, number) || contains(&self.recycled, number)
     }
 
     // Keeps that the front of a buffer, of this number, is consumed.

@@ -4,17 +4,31 @@
 #![tactic(auto)]
 
 mod act;
+mod arrivals;
+mod census;
 mod changes;
+mod copies;
 mod lasts;
 mod make;
 mod marks;
+mod moves;
+mod numbers;
 mod queues;
 mod reads;
 mod scan;
+mod sends;
+mod sent;
+mod stalls;
 mod store;
+mod wakes;
+mod wakings;
 
 pub use act::MailAct;
 pub use changes::MailChanges;
-pub use reads::peek;
+pub use reads::{front, peek, ready};
 pub use scan::{again, pop, recycle};
+pub use sends::send;
+pub use sent::{SendCounts, SentNote};
+pub use stalls::stall;
 pub use store::MailStore;
+pub use wakes::{wake, wake_all};

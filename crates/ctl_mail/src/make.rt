@@ -1,15 +1,17 @@
 // The acts on mail, made in a controller's mail as it is kept. They take no memory.
-ghost use Rattle.std.specs.Prelude.{◌≡◌, ◌<◌, ◌≤◌, ◌+◌, IfNone, IfSome, OnOk};
+ghost use Rattle.std.specs.Prelude.{◌≡◌, ◌<◌, ◌≤◌, ◌+◌, ℕ, [], ◌∷◌, true, IfNone, IfSome, OnOk, All, count_by, length};
+ghost use Rattle.std.specs.FinMap as finite;
 ghost use Rattle.ctl_face.specs.Front.{front};
+ghost use Rattle.ctl_face.specs.Lasts.{with_last};
 ghost use Rattle.ctl_face.specs.Mailing.{mail_with_mark, mail_with_message};
 ghost use Rattle.ctl_face.specs.Pop.{mail_without};
 ghost use Rattle.ctl_mail.specs.declared.act.MailAct.TheVariants as act;
 ghost use Rattle.ctl_mail.specs.MailOf.{IsMail, IsNewIn, buffer_count, mail_of};
-ghost use Rattle.ctl_mail.specs.Queues.{room_of};
-ghost use Rattle.ctl_mail.specs.Room.{HasRoom, mark_room};
-ghost use Rattle.ctl_mail.specs.Told.{after_act, changed_mail, told_by};
+ghost use Rattle.ctl_mail.specs.Queues.{LosesNoRoom, LosesOneRoom, room_of};
+ghost use Rattle.ctl_mail.specs.Room.{HasLastRoom, HasPlaces, HasPlacesToWake, HasRoom, LosesPlaces, is_stall, is_wake, mark_room};
+ghost use Rattle.ctl_mail.specs.Told.{CopiesFit, CountsFit, IsMakeable, after_act, changed_mail, counted_mail, told_by};
 
-use crate::{MailAct, MailChanges, MailStore, marks, queues};
+use crate::{MailAct, MailChanges, MailStore, lasts, marks, queues, stalls, wakings};
 use ruby_value::{Message, NoMemory};
 
 /// The mail with a mark.
@@ -20,12 +22,15 @@ pub(crate) fn mark(store: &mut MailStore, cycle: u64)
     ensures mail { IsMail store.new }
     ensures buffers { buffer_count store.new ≡ buffer_count store.old }
     ensures room { mark_room store.old ≤ mark_room store.new + 1 }
+    ensures buffers_stay { store.new.buffers ≡ store.old.buffers }
+    ensures stalls { store.new.stalls ≡ store.old.stalls }
+    ensures places { LosesPlaces store.old store.new 0 }
 {
     marks::put(&mut store.marks, cycle);
 }
 
 // Takes the front of a buffer out, if it has one.
-fn take(store: &mut MailStore, now: u64, buffer: u16) -> Option<Message>
+pub(crate) fn take(store: &mut MailStore, now: u64, buffer: u16) -> Option<Message>
     requires mail { IsMail store.old }
     ensures value { result ≡ front (mail_of store.old) buffer now }
     ensures taken { IfSome result (λ m. mail_of store.new ≡ mail_without (mail_of store.old) m) }
@@ -35,6 +40,10 @@ fn take(store: &mut MailStore, now: u64, buffer: u16) -> Option<Message>
     ensures new { IfSome result (λ m. IsNewIn (mail_of store.new) m.number) }
     ensures place { IfSome result (λ m. 0 < room_of store.new.buffers.items m.buffer) }
     ensures marks { store.new.marks ≡ store.old.marks }
+    ensures stalls { store.new.stalls ≡ store.old.stalls }
+    ensures rooms { LosesNoRoom store.old.buffers.items store.new.buffers.items }
+    ensures home { IfSome result (λ m. m.buffer < buffer_count store.old) }
+    ensures places { LosesPlaces store.old store.new 0 }
 {
     queues::pop(&mut store.buffers, buffer, now)
 }
@@ -49,6 +58,9 @@ fn put(store: &mut MailStore, m: Message)
     ensures mail { IsMail store.new }
     ensures buffers { buffer_count store.new ≡ buffer_count store.old }
     ensures room { mark_room store.old ≤ mark_room store.new + 1 }
+    ensures stalls { store.new.stalls ≡ store.old.stalls }
+    ensures rooms { LosesOneRoom store.old.buffers.items store.new.buffers.items }
+    ensures places { LosesPlaces store.old store.new 1 }
 {
     let arrival = m.arrival;
     queues::put(&mut store.buffers, m);
@@ -62,6 +74,9 @@ pub(crate) fn pop(store: &mut MailStore, now: u64, buffer: u16)
     ensures mail { IsMail store.new }
     ensures buffers { buffer_count store.new ≡ buffer_count store.old }
     ensures marks { store.new.marks ≡ store.old.marks }
+    ensures stalls { store.new.stalls ≡ store.old.stalls }
+    ensures rooms { LosesNoRoom store.old.buffers.items store.new.buffers.items }
+    ensures places { LosesPlaces store.old store.new 0 }
 {
     let _taken = take(store, now, buffer);
 }
@@ -74,6 +89,9 @@ pub(crate) fn recycle(store: &mut MailStore, now: u64, buffer: u16, arrival: u64
     ensures mail { IsMail store.new }
     ensures buffers { buffer_count store.new ≡ buffer_count store.old }
     ensures room { mark_room store.old ≤ mark_room store.new + 1 }
+    ensures stalls { store.new.stalls ≡ store.old.stalls }
+    ensures rooms { LosesOneRoom store.old.buffers.items store.new.buffers.items }
+    ensures places { LosesPlaces store.old store.new 1 }
 {
     let Some(mut m) = take(store, now, buffer) else {
         return;
@@ -83,23 +101,179 @@ pub(crate) fn recycle(store: &mut MailStore, now: u64, buffer: u16, arrival: u64
     put(store, m);
 }
 
+// The mail with one copy more counted.
+fn count(store: &mut MailStore, drawn: bool)
+    requires mail { IsMail store.old }
+    requires fit { CountsFit (mail_of store.old) }
+    ensures after { mail_of store.new ≡ counted_mail (mail_of store.old) drawn }
+    ensures mail { IsMail store.new }
+    ensures buffers { buffer_count store.new ≡ buffer_count store.old }
+    ensures marks { store.new.marks ≡ store.old.marks }
+    ensures stalls { store.new.stalls ≡ store.old.stalls }
+    ensures places { LosesPlaces store.old store.new 0 }
+{
+    store.sent += 1;
+    store.copies += 1;
+    if drawn {
+        store.drawn += 1;
+    }
+}
+
+// The mail with another last arrival at a receiver on a network, if there is this network.
+fn network_last(store: &mut MailStore, network: u16, receiver: u32, arrival: u64)
+    requires mail { IsMail store.old }
+    requires place { HasLastRoom store.old.network_last.items network 1 }
+    ensures after { let written = act.NetworkLast network receiver arrival in
+        mail_of store.new ≡ after_act 0 (mail_of store.old) written }
+    ensures mail { IsMail store.new }
+    ensures buffers { buffer_count store.new ≡ buffer_count store.old }
+    ensures marks { store.new.marks ≡ store.old.marks }
+    ensures stalls { store.new.stalls ≡ store.old.stalls }
+    ensures places { LosesPlaces store.old store.new 1 }
+{
+    lasts::put(&mut store.network_last, network, receiver, arrival);
+}
+
+// The mail with another last arrival in a buffer of the controller's own.
+fn local_last(store: &mut MailStore, buffer: u16, arrival: u64)
+    requires mail { IsMail store.old }
+    requires place { 0 < store.old.local_last.room }
+    ensures after { let written = act.LocalLast buffer arrival in
+        mail_of store.new ≡ after_act 0 (mail_of store.old) written }
+    ensures mail { IsMail store.new }
+    ensures buffers { buffer_count store.new ≡ buffer_count store.old }
+    ensures marks { store.new.marks ≡ store.old.marks }
+    ensures stalls { store.new.stalls ≡ store.old.stalls }
+    ensures places { LosesPlaces store.old store.new 1 }
+{
+    let _before = store.local_last.put(u64::from(buffer), arrival);
+}
+
 /// The mail after an act.
 pub(crate) fn make(store: &mut MailStore, cycle: u64, act: MailAct)
     requires mail { IsMail store.old }
+    requires makeable { IsMakeable (mail_of store.old) act }
     requires room { 0 < mark_room store.old }
+    requires waits { is_stall act ≡ true → 0 < store.old.stalls.room }
+    requires to_wake { is_wake act ≡ true → HasPlacesToWake store.old 0 }
+    requires places { HasPlaces store.old 1 act }
     ensures after { mail_of store.new ≡ after_act cycle (mail_of store.old) act }
     ensures mail { IsMail store.new }
     ensures buffers { buffer_count store.new ≡ buffer_count store.old }
     ensures room { mark_room store.old ≤ mark_room store.new + 1 }
+    ensures waits { store.old.stalls.room ≤ store.new.stalls.room + count_by is_stall (act ∷ []) }
+    ensures places { LosesPlaces store.old store.new 1 }
 {
     match act {
         MailAct::Pop(buffer) => pop(store, cycle, buffer),
         MailAct::Recycle(buffer, arrival) => recycle(store, cycle, buffer, arrival),
         MailAct::Mark(mark_cycle) => mark(store, mark_cycle),
+        MailAct::Stall(buffer, line) => stalls::make_stall(store, cycle, buffer, line),
+        MailAct::Wake(line) => wakings::make_wake(store, line),
+        MailAct::WakeAll => wakings::make_wake_all(store),
+        MailAct::Arrive(m) => put(store, m),
+        MailAct::Count(drawn) => count(store, drawn),
+        MailAct::NetworkLast(network, receiver, arrival) => {
+            network_last(store, network, receiver, arrival)
+        }
+        MailAct::LocalLast(buffer, arrival) => local_last(store, buffer, arrival),
     }
 }
 
+impl MailAct {
+    fn is_stall(&self) -> bool
+        ensures { result ≡ is_stall self.now }
+    {
+        matches!(self, MailAct::Stall(_, _))
+    }
+
+    fn is_wake(&self) -> bool
+        ensures { result ≡ is_wake self.now }
+    {
+        matches!(self, MailAct::Wake(_) | MailAct::WakeAll)
+    }
+}
+
+impl MailChanges {
+    // How many messages the acts stall, at most.
+    fn stall_count(&self) -> usize
+        ensures { result ≡ count_by is_stall (told_by self.now).log }
+    {
+        self.log.iter().filter(|act| act.is_stall()).count()
+    }
+
+    // How many of the acts wake messages.
+    fn wake_count(&self) -> usize
+        ensures { result ≡ count_by is_wake (told_by self.now).log }
+    {
+        self.log.iter().filter(|act| act.is_wake()).count()
+    }
+}
+
+// Makes room for so many more acts like this one, or answers that there is no memory for them, as of a buffer that isn't there:
+// routes that fit name no such buffer.
+fn reserve_place(store: &mut MailStore, act: &MailAct, more: usize) -> Result<(), NoMemory>
+    requires mail { IsMail store.old }
+    ensures same { mail_of store.new ≡ mail_of store.old }
+    ensures mail { IsMail store.new }
+    ensures buffers { buffer_count store.new ≡ buffer_count store.old }
+    ensures marks { store.new.marks ≡ store.old.marks }
+    ensures stalls { store.new.stalls ≡ store.old.stalls }
+    ensures places { LosesPlaces store.old store.new 0 }
+    ensures ok { OnOk result (HasPlaces store.new more act.now) }
+{
+    match act {
+        MailAct::Arrive(m) => {
+            let Some(places) = store.stalls.len().checked_add(more) else {
+                return Err(NoMemory);
+            };
+            queues::reserve_at(&mut store.buffers, m.buffer, places)
+        }
+        MailAct::NetworkLast(network, _, _) => {
+            lasts::reserve(&mut store.network_last, *network, more)
+        }
+        MailAct::LocalLast(_, _) => store.local_last.reserve(more),
+        _ => Ok(()),
+    }
+}
+
+// Makes room for what the acts write beside marks, or answers that there is no memory for it.
+fn reserve_places(store: &mut MailStore, changes: &MailChanges) -> Result<(), NoMemory>
+    requires mail { IsMail store.old }
+    ensures same { mail_of store.new ≡ mail_of store.old }
+    ensures mail { IsMail store.new }
+    ensures buffers { buffer_count store.new ≡ buffer_count store.old }
+    ensures marks { store.new.marks ≡ store.old.marks }
+    ensures stalls { store.new.stalls ≡ store.old.stalls }
+    ensures places { LosesPlaces store.old store.new 0 }
+    ensures ok { OnOk result (let log = (told_by changes.now).log in
+        All (HasPlaces store.new (length log)) log) }
+{
+    let more = changes.log.len();
+    for i in 0..changes.log.len() {
+        reserve_place(store, &changes.log[i], more)?;
+    }
+    Ok(())
+}
+
 impl MailStore {
+    // Makes a place in each buffer for all messages that wait, and for so many more. The mail stays as it is.
+    fn reserve_to_wake(&mut self, more: usize) -> Result<(), NoMemory>
+        requires mail { IsMail self.old }
+        ensures same { mail_of self.new ≡ mail_of self.old }
+        ensures mail { IsMail self.new }
+        ensures buffers { buffer_count self.new ≡ buffer_count self.old }
+        ensures marks { self.new.marks ≡ self.old.marks }
+        ensures stalls { self.new.stalls ≡ self.old.stalls }
+        ensures places { LosesPlaces self.old self.new 0 }
+        ensures ok { OnOk result (HasPlacesToWake self.new more) }
+    {
+        let Some(places) = self.stalls.len().checked_add(more) else {
+            return Err(NoMemory);
+        };
+        queues::reserve(&mut self.buffers, places)
+    }
+
     /// Makes room for the changes, and for one mark after them, or answers that there is no memory for them. The mail stays
     /// as it is.
     pub fn reserve(&mut self, changes: &MailChanges) -> Result<(), NoMemory>
@@ -113,13 +287,21 @@ impl MailStore {
             return Err(NoMemory);
         };
         self.marks.reserve(more)?;
-        Ok(())
+        let stalls = changes.stall_count();
+        if stalls > 0 {
+            self.stalls.reserve(stalls)?;
+        }
+        if changes.wake_count() > 0 {
+            self.reserve_to_wake(changes.log.len())?;
+        }
+        reserve_places(self, changes)
     }
 
     /// Makes the changes of a scan of this mail, where there is room for them, and leaves room for one mark. It takes no memory.
-    /// The lists of what the scan did to messages stay in the changes.
+    /// The lists of what the scan did to messages stay in the changes, the copies for other controllers among them.
     pub fn apply(&mut self, changes: &mut MailChanges)
         requires mail { IsMail self.old }
+        requires changes { CopiesFit (mail_of self.old) (told_by changes.old) }
         requires room { HasRoom self.old (told_by changes.old) }
         ensures after { mail_of self.new ≡ changed_mail (mail_of self.old) (told_by changes.old) }
         ensures mail { IsMail self.new }

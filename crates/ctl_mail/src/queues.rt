@@ -63,3 +63,20 @@ pub(crate) fn empty_buffers(alloc: Global, count: usize) -> Result<Vec<Buffer>, 
     }
     Ok(buffers)
 }
+
+/// Makes room for so many more messages in one buffer, or answers that there is no memory for them, or not this buffer.
+pub(crate) fn reserve_at(
+    buffers: &mut Vec<Buffer>,
+    buffer: u16,
+    more: usize,
+) -> Result<(), NoMemory>
+    ensures same { (other : ℕ) → queue_of buffers.new.items other ≡ queue_of buffers.old.items other }
+    ensures ok { OnOk result (more ≤ room_of buffers.new.items buffer) }
+    ensures room { LosesNoRoom buffers.old.items buffers.new.items }
+    ensures count { length buffers.new.items ≡ length buffers.old.items }
+{
+    match buffers.get_mut(usize::from(buffer)) {
+        Some(queue) => queue.reserve(more),
+        None => Err(NoMemory),
+    }
+}

@@ -1,22 +1,27 @@
 // What a scan reads of a controller's mail, through what it has changed.
-ghost use Rattle.std.specs.Prelude.{◌≡◌, slice_get};
-ghost use Rattle.std.specs.Option.{option_copied};
+ghost use Rattle.std.specs.Prelude.{◌≡◌, ◌<◌, ◌↔◌, None, Some, IsTrue, is_some, length, slice_get};
+ghost use Rattle.std.specs.Option.{ok_or, option_copied};
+ghost use Rattle.ruby_value.specs.declared.fault.Fault.TheVariants as fault;
+ghost use Rattle.ctl_face.specs.Does.{Reads};
 ghost use Rattle.ctl_face.specs.Front.{front};
-ghost use Rattle.ctl_mail.specs.Least.{IsLeast};
+ghost use Rattle.ctl_mail.specs.Least.{IsBack, IsBackAt, IsBackNow, IsEither, IsLeast, IsLeftIn, first_of_two};
 ghost use Rattle.ctl_mail.specs.MailOf.{IsMail, mail_of};
 ghost use Rattle.ctl_mail.specs.Queues.{queue_of};
-ghost use Rattle.ctl_mail.specs.Told.{AreOf, IsLeft, changed_mail, told_by};
+ghost use Rattle.ctl_mail.specs.Told.{AreOf, IsOut, changed_mail, told_by};
 
 use crate::{MailChanges, MailStore};
+use ctl_face::{Fault, Trouble};
 use msg_buffer::{Buffer, Message};
+use stall_map::{StallMap, Stalled};
 
-// The first of the messages of a buffer that have arrived and aren't gone.
+// The first of the messages of a buffer that have arrived and aren't out.
 fn first_left<'a>(queue: &'a Buffer, changes: &MailChanges) -> Option<&'a Message>
-    ensures { IsLeast (IsLeft queue.now.kept changes.now.cycle (told_by changes.now).acts) (option_copied result) }
+    ensures { let told = told_by changes.now in
+        IsLeast (IsLeftIn queue.now.kept told.cycle (IsOut told)) (option_copied result) }
 {
     let mut next = queue.front(changes.cycle);
     while let Some(m) = next {
-        if !changes.is_gone(m.number) {
+        if !changes.is_out(m.number) {
             return Some(m);
         }
         next = queue.next_after(changes.cycle, m.arrival, m.number);
@@ -31,9 +36,10 @@ fn buffer_at(buffers: &[Buffer], buffer: u16) -> Option<&Buffer>
     buffers.get(usize::from(buffer))
 }
 
-// The first of the messages of the buffer of this number that have arrived and aren't gone.
+// The first of the messages of the buffer of this number that have arrived and aren't out.
 fn first_of<'a>(buffers: &'a [Buffer], changes: &MailChanges, buffer: u16) -> Option<&'a Message>
-    ensures { IsLeast (IsLeft (queue_of buffers.now buffer) changes.now.cycle (told_by changes.now).acts) (option_copied result) }
+    ensures { let told = told_by changes.now in
+        IsLeast (IsLeftIn (queue_of buffers.now buffer) told.cycle (IsOut told)) (option_copied result) }
 {
     match buffer_at(buffers, buffer) {
         Some(queue) => first_left(queue, changes),
@@ -41,11 +47,104 @@ fn first_of<'a>(buffers: &'a [Buffer], changes: &MailChanges, buffer: u16) -> Op
     }
 }
 
+// The first of two messages.
+fn first_of_two<'a>(a: Option<&'a Message>, b: Option<&'a Message>) -> Option<&'a Message>
+    ensures { option_copied result ≡ first_of_two (option_copied a.entry) (option_copied b.entry) }
+{
+    match (a, b) {
+        (Some(x), Some(y)) => {
+            if y.arrival < x.arrival || (y.arrival == x.arrival && y.number.is_before(x.number)) {
+                b
+            } else {
+                a
+            }
+        }
+        (Some(_), None) => a,
+        (None, _) => b,
+    }
+}
+
+// Whether what was stalled before the scan is ready in the buffer now.
+fn is_back(changes: &MailChanges, s: &Stalled, buffer: u16) -> bool
+    ensures { IsTrue result ↔ IsBackNow (told_by changes.now) buffer s.now }
+{
+    let m = &s.message;
+    m.buffer == buffer && m.arrival <= changes.cycle && changes.is_free(m.number, Some(s.line))
+}
+
+// The message at a place of those that were stalled before the scan, if it is ready in the buffer now.
+fn back_at<'a>(
+    stalls: &'a StallMap,
+    changes: &MailChanges,
+    buffer: u16,
+    at: usize,
+) -> Option<&'a Message>
+    requires { at < length stalls.now.kept }
+    ensures { IsLeast (IsBackAt stalls.now.kept (told_by changes.now) buffer at) (option_copied result) }
+{
+    let s = stalls.at(at);
+    if is_back(changes, s, buffer) {
+        return Some(&s.message);
+    }
+    None
+}
+
+// The first of the messages that were stalled before the scan and are ready in the buffer now.
+fn first_back<'a>(stalls: &'a StallMap, changes: &MailChanges, buffer: u16) -> Option<&'a Message>
+    ensures { IsLeast (IsBack stalls.now.kept (told_by changes.now) buffer) (option_copied result) }
+{
+    let mut first = None;
+    for i in 0..stalls.len() {
+        first = first_of_two(first, back_at(stalls, changes, buffer, i));
+    }
+    first
+}
+
+// The first of the messages that are ready in the buffer now.
+fn first_ready<'a>(store: &'a MailStore, changes: &MailChanges, buffer: u16) -> Option<&'a Message>
+    requires { AreOf store.now (told_by changes.now) }
+    ensures { IsLeast (IsEither store.now.buffers.items store.now.stalls.kept (told_by changes.now) buffer)
+        (option_copied result) }
+{
+    let queued = first_of(&store.buffers, changes, buffer);
+    if changes.woken.is_empty() {
+        return queued;
+    }
+    first_of_two(queued, first_back(&store.stalls, changes, buffer))
+}
+
 /// The front of a buffer in the changed mail, lent, or `None` exactly where there is none. It takes no memory.
 pub fn peek<'a>(store: &'a MailStore, changes: &MailChanges, buffer: u16) -> Option<&'a Message>
     requires mail { IsMail store.now }
     requires changes { AreOf store.now (told_by changes.now) }
-    ensures { option_copied result ≡ front (changed_mail (mail_of store.now) (told_by changes.now)) buffer changes.now.cycle }
+    ensures { let told = told_by changes.now in
+        option_copied result ≡ front (changed_mail (mail_of store.now) told) buffer told.cycle }
 {
-    first_of(&store.buffers, changes, buffer)
+    first_ready(store, changes, buffer)
+}
+
+/// Whether a buffer has a front in the changed mail.
+pub fn ready(store: &MailStore, changes: &MailChanges, buffer: u16) -> bool
+    requires mail { IsMail store.now }
+    requires changes { AreOf store.now (told_by changes.now) }
+    ensures { let told = told_by changes.now in
+        result ≡ is_some (front (changed_mail (mail_of store.now) told) buffer told.cycle) }
+{
+    peek(store, changes, buffer).is_some()
+}
+
+/// The front of a buffer in the changed mail. The fault `Front` comes exactly where there is none.
+pub fn front(store: &MailStore, changes: &MailChanges, buffer: u16) -> Result<Message, Trouble>
+    requires mail { IsMail store.now }
+    requires changes { AreOf store.now (told_by changes.now) }
+    ensures { let told = told_by changes.now in
+        Reads (ok_or (front (changed_mail (mail_of store.now) told) buffer told.cycle) fault.Front) result }
+{
+    let Some(m) = peek(store, changes, buffer) else {
+        return Err(Trouble::Fault(Fault::Front));
+    };
+    match m.clone() {
+        Ok(cloned) => Ok(cloned),
+        Err(_) => Err(Trouble::NoMemory),
+    }
 }

@@ -14,9 +14,9 @@ pub fn pop(store: &MailStore, changes: &mut MailChanges, buffer: u16) -> Result<
     requires mail { IsMail store.now }
     requires changes { AreOf store.now (told_by changes.old) }
     ensures does { let old = changed_view (mail_of store.now) (told_by changes.old) in
-        MailDoes (view_popped old buffer changes.old.cycle) result old (changed_view (mail_of store.now) (told_by changes.new)) }
+        MailDoes (view_popped old buffer (told_by changes.old).cycle) result old (changed_view (mail_of store.now) (told_by changes.new)) }
     ensures changes { AreOf store.now (told_by changes.new) }
-    ensures cycle { changes.new.cycle ≡ changes.old.cycle }
+    ensures cycle { (told_by changes.new).cycle ≡ (told_by changes.old).cycle }
 {
     let Some(m) = peek(store, changes, buffer) else {
         return Err(Trouble::Fault(Fault::Front));
@@ -26,7 +26,7 @@ pub fn pop(store: &MailStore, changes: &mut MailChanges, buffer: u16) -> Result<
 }
 
 // The latency as a number of cycles, if it is one that a message may be given.
-fn latency_of(latency: i64) -> Option<u64>
+pub(crate) fn latency_of(latency: i64) -> Option<u64>
     ensures value { result ≡ (if is_latency latency then Some (nat_abs latency) else None) }
     ensures bound { IfSome result (λ n. (1 ≤ n) × n ≤ 1000000) }
 {
@@ -47,11 +47,11 @@ pub fn recycle(
 ) -> Result<(), Trouble>
     requires mail { IsMail store.now }
     requires changes { AreOf store.now (told_by changes.old) }
-    requires cycle { changes.old.cycle ≤ 10 ^ 12 }
+    requires cycle { (told_by changes.old).cycle ≤ 10 ^ 12 }
     ensures does { let old = changed_view (mail_of store.now) (told_by changes.old) in
-        MailDoes (view_recycled old buffer latency changes.old.cycle) result old (changed_view (mail_of store.now) (told_by changes.new)) }
+        MailDoes (view_recycled old buffer latency (told_by changes.old).cycle) result old (changed_view (mail_of store.now) (told_by changes.new)) }
     ensures changes { AreOf store.now (told_by changes.new) }
-    ensures cycle { changes.new.cycle ≡ changes.old.cycle }
+    ensures cycle { (told_by changes.new).cycle ≡ (told_by changes.old).cycle }
 {
     let Some(later) = latency_of(latency) else {
         return Err(Trouble::Fault(Fault::Latency));
@@ -68,11 +68,11 @@ pub fn recycle(
 pub fn again(store: &MailStore, changes: &mut MailChanges) -> Result<(), Trouble>
     requires mail { IsMail store.now }
     requires changes { AreOf store.now (told_by changes.old) }
-    requires cycle { changes.old.cycle ≤ 10 ^ 12 }
+    requires cycle { (told_by changes.old).cycle ≤ 10 ^ 12 }
     ensures does { let old = changed_view (mail_of store.now) (told_by changes.old) in
-        MailDoes (Ok (view_again old changes.old.cycle)) result old (changed_view (mail_of store.now) (told_by changes.new)) }
+        MailDoes (Ok (view_again old (told_by changes.old).cycle)) result old (changed_view (mail_of store.now) (told_by changes.new)) }
     ensures changes { AreOf store.now (told_by changes.new) }
-    ensures cycle { changes.new.cycle ≡ changes.old.cycle }
+    ensures cycle { (told_by changes.new).cycle ≡ (told_by changes.old).cycle }
 {
     let next = changes.cycle + 1;
     changes.keep_again(next)?;

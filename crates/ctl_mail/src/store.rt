@@ -3,6 +3,7 @@ ghost use Rattle.std.specs.List.{find};
 ghost use Rattle.ctl_face.specs.Mailing.{mail_with_mark, mail_with_message};
 ghost use Rattle.ctl_face.specs.Opening.{no_mail};
 ghost use Rattle.ctl_mail.specs.MailOf.{IsMail, buffer_count, IsNewIn, mail_at_cycle, mail_of};
+ghost use Rattle.ctl_mail.specs.Marks.{IsNextMark};
 ghost use Rattle.ctl_mail.specs.Room.{HasRoomFor, mark_room};
 
 use crate::{lasts, make, marks, queues};
@@ -54,6 +55,7 @@ impl MailStore {
         ensures mail { IsMail self.new }
         ensures buffers { buffer_count self.new ≡ buffer_count self.old }
         ensures ok { OnOk result (HasRoomFor self.new messages) }
+        ensures no_less { (earlier : ℕ) → HasRoomFor self.old earlier → HasRoomFor self.new earlier }
     {
         let Some(marks) = messages.checked_add(1) else {
             return Err(NoMemory);
@@ -86,6 +88,9 @@ impl MailStore {
         ensures mail { IsMail self.new }
         ensures buffers { buffer_count self.new ≡ buffer_count self.old }
         ensures room { mark_room self.old ≤ mark_room self.new + 1 }
+        ensures earlier { (messages : ℕ) → HasRoomFor self.old (messages + 1) → HasRoomFor self.new messages }
+        ensures places { (messages : ℕ) → HasRoomFor self.old messages → messages < mark_room self.new
+            → HasRoomFor self.new messages }
     {
         make::mark(self, cycle)
     }
@@ -93,7 +98,8 @@ impl MailStore {
     /// The least mark that isn't below a cycle, or `None` exactly where there is none.
     pub fn next_mark(&self, from: u64) -> Option<u64>
         requires { IsMail self.now }
-        ensures { result ≡ find (λ m. not (nat_lt m from)) (mail_of self.now).marks }
+        ensures found { result ≡ find (λ m. not (nat_lt m from)) (mail_of self.now).marks }
+        ensures first { IsNextMark (mail_of self.now).marks from result }
     {
         marks::next(&self.marks, from)
     }
@@ -105,6 +111,7 @@ impl MailStore {
         ensures mail { IsMail self.new }
         ensures buffers { buffer_count self.new ≡ buffer_count self.old }
         ensures room { mark_room self.old ≤ mark_room self.new }
+        ensures earlier { (messages : ℕ) → HasRoomFor self.old messages → HasRoomFor self.new messages }
     {
         marks::drop_below(&mut self.marks, cycle);
         self.copies = 0;

@@ -13,6 +13,7 @@ use Rattle.ctl_face.specs.RoutesFit.{HasRoutes}
 use Rattle.ctl_face.specs.ScanView.{no_acts, scan_view}
 use Rattle.ctl_face.proofs.LawfulAfter.{scan_begins}
 use Rattle.ctl_mail.specs.declared.changes.MailChanges.{MailChanges}
+use Rattle.ctl_mail.specs.declared.sent.SendCounts.{SendCounts}
 use Rattle.ctl_mail.specs.MailOf.{mail_of}
 use Rattle.ctl_mail.specs.Told as mail
 use Rattle.ctl_tables.specs.declared.change.TableChanges.{TableChanges}
@@ -37,11 +38,11 @@ none_made : (now : ℕ) (m : Mail) → mail.after_acts now m [] ≡ m
 unfolding mail.after_acts
 none_made now m = refl
 
-abbrev pub first_told : ℕ → mail.Told
-first_told now = record { cycle = now; log = []; acts = no_acts }
+abbrev pub first_told : SendCounts → ℕ → mail.Told
+first_told counts now = record { cycle = now; counts = counts; log = []; acts = no_acts; moves = [] }
 
-unchanged_mail : (m : Mail) (told : mail.Told) (now : ℕ) → told ≡ first_told now → mail.changed_mail m told ≡ m
-unchanged_mail m told now is = ap (mail.changed_mail m) is ∙ none_made now m
+unchanged_mail : (m : Mail) (told : mail.Told) (counts : SendCounts) (now : ℕ) → told ≡ first_told counts now → mail.changed_mail m told ≡ m
+unchanged_mail m told counts now is = ap (mail.changed_mail m) is ∙ none_made now m
 
 module _ (p : Parts) (routes : Routes) (seed now : ℕ) (changed : TableChanges) (m : MailChanges) (calls : List Answer) where
   abbrev begun : Scanned
@@ -61,10 +62,10 @@ module _ (p : Parts) (routes : Routes) (seed now : ℕ) (changed : TableChanges)
   }
 
   pub begun_view : tables.tables_now p.tables changed ≡ tables.tables_of p.tables → tables.states_now p.tables changed ≡ tables.states_of p.tables
-      → mail.told_by m ≡ first_told now → ((r : own.Requests) → after_callbacks calls r ≡ r)
+      → mail.told_by m ≡ first_told (mail.counts_in (mail_of p.mail)) now → ((r : own.Requests) → after_callbacks calls r ≡ r)
       → local_of begun ≡ scan_view p.machine actor now (ctl_of p)
   begun_view same_tables same_states told same_calls =
-      let mails : mail.changed_mail (mail_of p.mail) (mail.told_by m) ≡ mail_of p.mail = unchanged_mail (mail_of p.mail) (mail.told_by m) now told in
+      let mails : mail.changed_mail (mail_of p.mail) (mail.told_by m) ≡ mail_of p.mail = unchanged_mail (mail_of p.mail) (mail.told_by m) (mail.counts_in (mail_of p.mail)) now told in
       let requests : after_calls calls (ctl_of p).sequencer ≡ (ctl_of p).sequencer = no_calls calls (ctl_of p).sequencer same_calls in
       ap (λ (t : mail.Told). view_with t.cycle t.acts (tables.tables_now p.tables changed) (tables.states_now p.tables changed) (mail.changed_mail (mail_of p.mail) (mail.told_by m)) (after_calls calls (ctl_of p).sequencer)) told
       ∙ four (view_with now no_acts) same_tables same_states mails requests

@@ -114,10 +114,10 @@ module _ (s : Scanned) (q : Roomy own.Requests) (there : s.parts.sequencer ≡ S
       let there_is : local_of (with_calls s calls) ≡ with_requests (local_of s) (now_of calls) = view_is calls in
       let raw = does_by_calls (local_of s) (now_of s.changes.calls) (now_of calls) want own_answer result does in
       let done : DoesWith (act (local_of s)) (answer (local_of s)) (as_trouble result) (local_of s) (local_of (with_calls s calls)) =
-          subst (λ (v : LocalView). DoesWith (act v) (answer v) (as_trouble result) v (local_of (with_calls s calls))) (sym here)
-          (subst (λ (w : Result LocalView Fault). DoesWith w (answer (with_requests (local_of s) (now_of s.changes.calls))) (as_trouble result) (with_requests (local_of s) (now_of s.changes.calls)) (local_of (with_calls s calls))) (sym acts)
-          (subst (λ (a : A). DoesWith (viewed (local_of s) want) a (as_trouble result) (with_requests (local_of s) (now_of s.changes.calls)) (local_of (with_calls s calls))) (sym answers)
-          (subst (DoesWith (viewed (local_of s) want) own_answer (as_trouble result) (with_requests (local_of s) (now_of s.changes.calls))) (sym there_is) raw))) in
+      subst (λ (v : LocalView). DoesWith (act v) (answer v) (as_trouble result) v (local_of (with_calls s calls))) (sym here)
+      (subst (λ (w : Result LocalView Fault). DoesWith w (answer (with_requests (local_of s) (now_of s.changes.calls))) (as_trouble result) (with_requests (local_of s) (now_of s.changes.calls)) (local_of (with_calls s calls))) (sym acts)
+      (subst (λ (a : A). DoesWith (viewed (local_of s) want) a (as_trouble result) (with_requests (local_of s) (now_of s.changes.calls)) (local_of (with_calls s calls))) (sym answers)
+      (subst (DoesWith (viewed (local_of s) want) own_answer (as_trouble result) (with_requests (local_of s) (now_of s.changes.calls))) (sym there_is) raw))) in
       let lawful = stays_lawful (act (local_of s)) (answer (local_of s)) (as_trouble result) (local_of s) (local_of (with_calls s calls)) kept is.lawful done in
       record {
         does = done;

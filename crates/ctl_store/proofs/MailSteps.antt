@@ -1,23 +1,31 @@
 -- A call that changes a scan's mail, as a call on the local that the scan is.
-use Rattle.std.proofs.Common.{◌≡◌, ℕ, ℤ, Result, Ok, Err, refl, sym, ap, subst}
+use Rattle.std.proofs.Common.{◌≡◌, ℕ, ℤ, List, Result, Ok, Err, refl, sym, ap, subst}
 use Rattle.ruby_value.specs.declared.fault.Fault.{Fault}
 use Rattle.ruby_value.specs.declared.message.MsgNo.{MsgNo}
 use Rattle.ctl_face.specs.declared.trouble.Trouble.{Trouble}
 use Rattle.ctl_face.specs.declared.trouble.Trouble.TheVariants as trouble
 use Rattle.ctl_face.specs.Acts.{Acts}
+use Rattle.ruby_value.specs.declared.value.Value.{Value}
 use Rattle.ctl_face.specs.Again.{again}
 use Rattle.ctl_face.specs.AtFront.{AtFront, after_front}
 use Rattle.ctl_face.specs.Does.{Does}
-use Rattle.ctl_face.specs.Fits.{IsLawful}
+use Rattle.ctl_face.specs.Enqueue.{enqueue}
+use Rattle.ctl_face.specs.Fits.{IsLawful, IsLine}
 use Rattle.ctl_face.specs.LocalView.{LocalView}
-use Rattle.ctl_face.specs.Pop.{pop, popped_mail}
-use Rattle.ctl_face.specs.Recycle.{recycle, recycled_mail}
-use Rattle.ctl_face.proofs.ActsKept.{pop_acts, recycle_acts}
-use Rattle.ctl_face.proofs.LawfulAfter.{lawful_after}
-use Rattle.ctl_face.proofs.MailKept.{again_keeps, pop_keeps, recycle_keeps}
+use Rattle.ctl_face.specs.Pop.{pop}
+use Rattle.ctl_face.specs.Recycle.{recycle}
+use Rattle.ctl_face.specs.Served.{TakesMessage}
+use Rattle.ctl_face.specs.Stall.{stall}
+use Rattle.ctl_face.specs.Wake.{wake, wake_all}
+use Rattle.ctl_face.proofs.ActsKept.{enqueue_acts, pop_acts, recycle_acts, stall_acts, wake_acts}
+use Rattle.ctl_face.proofs.LawfulAfter.{lawful_after, own_below}
+use Rattle.ctl_face.proofs.MailKept.{again_keeps, pop_keeps, recycle_keeps, stall_keeps, wake_all_keeps, wake_keeps}
+use Rattle.ctl_face.proofs.Sendings.{enqueue_keeps}
 use Rattle.ctl_mail.specs.declared.changes.MailChanges.{MailChanges}
 use Rattle.ctl_mail.specs.MailOf.{mail_of}
-use Rattle.ctl_mail.specs.MailView.{MailDoes, MailView, view_after_front, view_again, view_popped, view_recycled, with_mail_view}
+use Rattle.ctl_mail.specs.MailView.{MailDoes, MailView, view_again, view_popped, view_recycled, view_stalled, view_wake, view_wake_all, with_mail_view}
+use Rattle.ctl_mail.specs.Sends.{actor_of, view_sent}
+use Rattle.ctl_mail.proofs.Locals.{enqueue-is, in_local, pop-is, recycle-is, stall-is}
 use Rattle.ctl_mail.specs.Told as mail
 use Rattle.ctl_store.specs.Scanned.{IsScan, Scanned, local_of}
 use Rattle.ctl_store.proofs.Stays.{Steps, stays_lawful}
@@ -26,24 +34,10 @@ use Rattle.ctl_store.proofs.Stays.{Steps, stays_lawful}
 abbrev pub with_mail_changes : Scanned → MailChanges → Scanned
 with_mail_changes s m = record s { changes = record s.changes { mail = m } }
 
-abbrev viewed : LocalView → Result MailView Fault → Result LocalView Fault
-viewed v (Ok w) = Ok (with_mail_view v w)
-viewed v (Err fault) = Err fault
-
-front_is : (v : LocalView) (told : MsgNo → Acts) (r : Result AtFront Fault) → after_front v told r ≡ viewed v (view_after_front told r)
-front_is v told (Ok a) = refl
-front_is v told (Err fault) = refl
-
-pop_is : (v : LocalView) (buffer : ℕ) → pop v buffer ≡ viewed v (view_popped (record { mail = v.ctl.mail; acts = v.acts }) buffer v.now)
-pop_is v buffer = front_is v _ (popped_mail v.ctl.mail buffer v.now)
-
-recycle_is : (v : LocalView) (buffer : ℕ) (latency : ℤ) → recycle v buffer latency ≡ viewed v (view_recycled (record { mail = v.ctl.mail; acts = v.acts }) buffer latency v.now)
-recycle_is v buffer latency = front_is v _ (recycled_mail v.ctl.mail buffer latency v.now)
-
 does_by_mail : (v : LocalView) (want : Result MailView Fault) (result : Result (Unit {0}) Trouble) (new : MailView)
-    → MailDoes want result (record { mail = v.ctl.mail; acts = v.acts }) new → Does (viewed v want) result v (with_mail_view v new)
-does_by_mail v want (Ok a) new does = record { comes = (ap (viewed v) does, refl); scan = record { machine = refl; actor = refl; now = refl; start = refl } }
-does_by_mail v want (Err (trouble.Fault fault)) new does = record { comes = (ap (viewed v) does.0, ap (with_mail_view v) does.1); scan = record { machine = refl; actor = refl; now = refl; start = refl } }
+    → MailDoes want result (record { mail = v.ctl.mail; acts = v.acts }) new → Does (in_local v want) result v (with_mail_view v new)
+does_by_mail v want (Ok a) new does = record { comes = (ap (in_local v) does, refl); scan = record { machine = refl; actor = refl; now = refl; start = refl } }
+does_by_mail v want (Err (trouble.Fault fault)) new does = record { comes = (ap (in_local v) does.0, ap (with_mail_view v) does.1); scan = record { machine = refl; actor = refl; now = refl; start = refl } }
 does_by_mail v want (Err trouble.NoMemory) new does = record { comes = ap (with_mail_view v) does; scan = record { machine = refl; actor = refl; now = refl; start = refl } }
 
 module _ (s : Scanned) (m : MailChanges) where
@@ -59,7 +53,7 @@ module _ (s : Scanned) (m : MailChanges) where
 
   -- by a call whose definition is this act on the local
   mail_step : (act : LocalView → Result LocalView Fault) (want : Result MailView Fault) (result : Result (Unit {0}) Trouble)
-      → act (local_of s) ≡ viewed (local_of s) want
+      → act (local_of s) ≡ in_local (local_of s) want
       → IsScan s → MailDoes want result before after
       → (mail.told_by m).cycle ≡ (mail.told_by s.changes.mail).cycle
       → mail.AreOf s.parts.mail (mail.told_by m)
@@ -67,8 +61,8 @@ module _ (s : Scanned) (m : MailChanges) where
       → Steps act (λ v. tt) result s (with_mail_changes s m)
   mail_step act want result acts is does same of_mail kept =
       let done =
-          subst (λ (w : Result LocalView Fault). Does w result (local_of s) (local_of (with_mail_changes s m))) (sym acts)
-          (subst (Does (viewed (local_of s) want) result (local_of s)) (sym (view_after same)) (does_by_mail (local_of s) want result after does)) in
+      subst (λ (w : Result LocalView Fault). Does w result (local_of s) (local_of (with_mail_changes s m))) (sym acts)
+      (subst (Does (in_local (local_of s) want) result (local_of s)) (sym (view_after same)) (does_by_mail (local_of s) want result after does)) in
       let lawful = stays_lawful (act (local_of s)) tt result (local_of s) (local_of (with_mail_changes s m)) kept is.lawful done in
       record {
         does = done;
@@ -82,14 +76,14 @@ module _ (s v : Scanned) (m : MailChanges) (result : Result (Unit {0}) Trouble) 
       → Steps (λ u. pop u buffer) (λ u. tt) result v (with_mail_changes s m)
   pop_step buffer does =
       subst (λ (u : Scanned). Steps (λ u. pop u buffer) (λ u. tt) result u (with_mail_changes s m)) same_scan
-      (mail_step s m (λ u. pop u buffer) (view_popped (before s m) buffer (mail.told_by s.changes.mail).cycle) result (pop_is (local_of s) buffer) is does same of_mail
+      (mail_step s m (λ u. pop u buffer) (view_popped (before s m) buffer (mail.told_by s.changes.mail).cycle) result (pop-is (local_of s) buffer) is does same of_mail
       (λ u. lawful_after _ (pop_keeps (local_of s) buffer is.lawful.scan) (pop_acts (local_of s) is.lawful.acts is.lawful.scan.fits.mail.inbox_ascends buffer) u))
 
   pub recycle_step : (buffer : ℕ) (latency : ℤ) → MailDoes (view_recycled (before s m) buffer latency (mail.told_by s.changes.mail).cycle) result (before s m) (after s m)
       → Steps (λ u. recycle u buffer latency) (λ u. tt) result v (with_mail_changes s m)
   recycle_step buffer latency does =
       subst (λ (u : Scanned). Steps (λ u. recycle u buffer latency) (λ u. tt) result u (with_mail_changes s m)) same_scan
-      (mail_step s m (λ u. recycle u buffer latency) (view_recycled (before s m) buffer latency (mail.told_by s.changes.mail).cycle) result (recycle_is (local_of s) buffer latency) is does same of_mail
+      (mail_step s m (λ u. recycle u buffer latency) (view_recycled (before s m) buffer latency (mail.told_by s.changes.mail).cycle) result (recycle-is (local_of s) buffer latency) is does same of_mail
       (λ u. lawful_after _ (recycle_keeps (local_of s) buffer latency is.lawful.scan) (recycle_acts (local_of s) is.lawful.acts buffer latency) u))
 
   pub again_step : MailDoes (Ok (view_again (before s m) (mail.told_by s.changes.mail).cycle)) result (before s m) (after s m)
@@ -98,3 +92,35 @@ module _ (s v : Scanned) (m : MailChanges) (result : Result (Unit {0}) Trouble) 
       subst (λ (u : Scanned). Steps (λ u. Ok (again u)) (λ u. tt) result u (with_mail_changes s m)) same_scan
       (mail_step s m (λ u. Ok (again u)) (Ok (view_again (before s m) (mail.told_by s.changes.mail).cycle)) result refl is does same of_mail
       (λ u is_ok. subst IsLawful (cc is_ok) (record { scan = again_keeps (local_of s) is.lawful.scan; acts = is.lawful.acts })))
+
+  pub stall_step : (buffer line : ℕ) → IsLine line → MailDoes (view_stalled (before s m) buffer line (mail.told_by s.changes.mail).cycle) result (before s m) (after s m)
+      → Steps (λ u. stall u buffer line) (λ u. tt) result v (with_mail_changes s m)
+  stall_step buffer line is_line does =
+      subst (λ (u : Scanned). Steps (λ u. stall u buffer line) (λ u. tt) result u (with_mail_changes s m)) same_scan
+      (mail_step s m (λ u. stall u buffer line) (view_stalled (before s m) buffer line (mail.told_by s.changes.mail).cycle) result (stall-is (local_of s) buffer line) is does same of_mail
+      (λ u. lawful_after _ (stall_keeps (local_of s) buffer line is_line is.lawful.scan) (stall_acts (local_of s) is.lawful.acts buffer line) u))
+
+  pub wake_step : (line : ℕ) → MailDoes (Ok (view_wake (before s m) line)) result (before s m) (after s m)
+      → Steps (λ u. Ok (wake u line)) (λ u. tt) result v (with_mail_changes s m)
+  wake_step line does =
+      subst (λ (u : Scanned). Steps (λ u. Ok (wake u line)) (λ u. tt) result u (with_mail_changes s m)) same_scan
+      (mail_step s m (λ u. Ok (wake u line)) (Ok (view_wake (before s m) line)) result refl is does same of_mail
+      (λ u is_ok. subst IsLawful (cc is_ok) (record { scan = wake_keeps (local_of s) line is.lawful.scan; acts = wake_acts (local_of s) is.lawful.acts _ })))
+
+  pub wake_all_step : MailDoes (Ok (view_wake_all (before s m))) result (before s m) (after s m)
+      → Steps (λ u. Ok (wake_all u)) (λ u. tt) result v (with_mail_changes s m)
+  wake_all_step does =
+      subst (λ (u : Scanned). Steps (λ u. Ok (wake_all u)) (λ u. tt) result u (with_mail_changes s m)) same_scan
+      (mail_step s m (λ u. Ok (wake_all u)) (Ok (view_wake_all (before s m))) result refl is does same of_mail
+      (λ u is_ok. subst IsLawful (cc is_ok) (record { scan = wake_all_keeps (local_of s) is.lawful.scan; acts = wake_acts (local_of s) is.lawful.acts _ })))
+
+  pub send_step : (buffer : ℕ) (latency : ℤ) (fields : List Value) → TakesMessage (local_of v) buffer fields
+      → MailDoes (view_sent (before s m) s.parts.machine (actor_of s.parts.me s.seed s.routes) buffer latency fields (mail.told_by s.changes.mail).cycle) result (before s m) (after s m)
+      → Steps (λ u. enqueue u buffer latency fields) (λ u. tt) result v (with_mail_changes s m)
+  send_step buffer latency fields takes does =
+      let takes_it : TakesMessage (local_of s) buffer fields = subst (λ (u : Scanned). TakesMessage (local_of u) buffer fields) (sym same_scan) takes in
+      subst (λ (u : Scanned). Steps (λ u. enqueue u buffer latency fields) (λ u. tt) result u (with_mail_changes s m)) same_scan
+      (mail_step s m (λ u. enqueue u buffer latency fields) (view_sent (before s m) s.parts.machine (actor_of s.parts.me s.seed s.routes) buffer latency fields (mail.told_by s.changes.mail).cycle) result
+      (enqueue-is (local_of s) buffer latency fields) is does same of_mail
+      (λ u. lawful_after _ (enqueue_keeps (local_of s) buffer latency fields takes_it is.lawful.scan)
+      (enqueue_acts (local_of s) buffer latency fields takes_it (own_below (local_of s) is.lawful.scan) is.lawful.acts) u))

@@ -7,7 +7,7 @@ use Rattle.ruby_value.specs.declared.asked.Answer.{Answer}
 use Rattle.ruby_value.specs.WithAll.{with_all}
 use Rattle.ctl_face.specs.Acts.{Acts}
 use Rattle.ctl_face.specs.Ctl.{Ctl, Requests}
-use Rattle.ctl_mail.specs.Told.{changed_mail, told_by}
+use Rattle.ctl_mail.specs.Told.{CopiesFit, changed_mail, told_by}
 use Rattle.ctl_tables.specs.After.{after_changes}
 use Rattle.ctl_tables.specs.Stored.{log_of, state_log_of}
 use Rattle.sequencer.specs.Callbacks.{FitCallbacks, after_callbacks}
@@ -32,3 +32,9 @@ changed_ctl changes ctl = record ctl {
 -- what the acts of the scan have done to messages
 abbrev pub acts_of : Changes → Acts
 acts_of changes = (told_by changes.mail).acts
+
+-- The changes can be made in a controller: each message that comes in has a new number, no count overflows, and each request that
+-- is finished is outstanding. So it is in the controller that they are changes of.
+pub record FitChanges (changes : Changes) (ctl : Ctl) : Type 0 where
+  pub copies : CopiesFit ctl.mail (told_by changes.mail)
+  pub calls : FitCalls changes.calls ctl.sequencer

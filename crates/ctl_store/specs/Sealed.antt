@@ -1,12 +1,15 @@
 -- What a sealed scan has: what it changes, which fits the controller that the scan began with, and what is told of its transition.
-use Rattle.std.specs.Prelude.{◌≡◌}
+use Rattle.std.specs.Prelude.{◌≡◌, ℕ, List, map}
+use Rattle.ruby_value.specs.declared.message.Message.{Message}
 use Rattle.run_journal.specs.declared.entry.FireNote.{FireNote}
-use Rattle.ctl_face.specs.Acts.{Acts}
+use Rattle.ctl_face.specs.Acts.{Acts, Copy, Note}
 use Rattle.ctl_face.specs.Ctl.{Ctl}
 use Rattle.ctl_face.specs.LocalView.{LocalView}
+use Rattle.ctl_mail.specs.Told.{copy_in, note_in}
+use Rattle.ctl_mail.specs.declared.sent.SentNote.{SentNote}
 use Rattle.ctl_store.specs.declared.outcome.Outcome.{Outcome}
 use Rattle.ctl_store.specs.declared.parts.Parts.{Parts}
-use Rattle.ctl_store.specs.Changed.{FitCalls, acts_of, changed_ctl}
+use Rattle.ctl_store.specs.Changed.{FitChanges, acts_of, changed_ctl}
 use Rattle.ctl_store.specs.Room.{HasRoomForChanges}
 
 -- the controller that it makes of one
@@ -20,8 +23,16 @@ abbrev pub note_of : Outcome → FireNote
 note_of o = o.note
 
 -- it can be applied to the controller
-pub record IsOutcomeFor (o : Outcome) (ctl : Ctl) : Type 0 where
-  pub calls : FitCalls o.changes.calls ctl.sequencer
+abbrev pub IsOutcomeFor : Outcome → Ctl → Type 0
+IsOutcomeFor o ctl = FitChanges o.changes ctl
+
+-- the copies for other controllers, each with its receiver, as they are handed out
+abbrev pub posted_as : List (ℕ × Message) → List Copy
+posted_as posted = map copy_in posted
+
+-- the notes of the copies that were sent, as they are handed out
+abbrev pub notes_as : List SentNote → List Note
+notes_as sent = map note_in sent
 
 abbrev pub HasRoomForOutcome : Parts → Outcome → Type 0
 HasRoomForOutcome p o = HasRoomForChanges p o.changes

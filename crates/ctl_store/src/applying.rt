@@ -1,12 +1,13 @@
 // The changes of a scan, made in the parts of a store.
-ghost use Rattle.std.specs.Prelude.{◌≡◌, ◌<◌, ◌+◌, ◌^◌, map};
-ghost use Rattle.ctl_face.specs.Ctl.{Ctl};
-ghost use Rattle.ctl_store.specs.Changed.{FitCalls, after_calls, changed_ctl};
+ghost use Rattle.std.specs.Prelude.{◌≡◌};
+ghost use Rattle.ctl_store.specs.Changed.{FitCalls, FitChanges, acts_of, after_calls, changed_ctl};
 ghost use Rattle.ctl_store.specs.Kept.{IsKept, ctl_of, requests_of};
 ghost use Rattle.ctl_store.specs.Room.{HasRoomForChanges, HasRoomForMark, IsSameStore};
+ghost use Rattle.ctl_store.specs.Sealed.{posted_as};
 
 use crate::changes::Changes;
 use crate::parts::Parts;
+use ruby_value::{Message, Seq};
 use sequencer::{Callbacks, Sequencer};
 
 fn finish(calls: Callbacks, sequencer: &mut Option<Sequencer>)
@@ -19,14 +20,16 @@ fn finish(calls: Callbacks, sequencer: &mut Option<Sequencer>)
 }
 
 // Makes the changes, for which there is room. It takes no memory.
-pub(crate) fn apply(parts: &mut Parts, changes: Changes)
+pub(crate) fn apply(parts: &mut Parts, changes: Changes) -> Seq<(u32, Message)>
     requires kept { IsKept parts.old }
-    requires calls { FitCalls changes.calls (ctl_of parts.old).sequencer }
+    requires fit { FitChanges changes (ctl_of parts.old) }
     requires room { HasRoomForChanges parts.old changes }
     ensures after { ctl_of parts.new ≡ changed_ctl changes (ctl_of parts.old) }
     ensures kept { IsKept parts.new }
     ensures store { IsSameStore parts.old parts.new }
     ensures room { HasRoomForMark parts.new }
+    ensures posted { posted_as result ≡ (acts_of changes).posted }
+    ensures rest { (parts.new.fired ≡ parts.old.fired) × (parts.new.stopped ≡ parts.old.stopped) }
 {
     let Changes {
         tables,
@@ -36,4 +39,5 @@ pub(crate) fn apply(parts: &mut Parts, changes: Changes)
     parts.tables.apply(tables);
     parts.mail.apply(&mut mail);
     finish(calls, &mut parts.sequencer);
+    mail.into_posted()
 }

@@ -4,10 +4,10 @@
 
 mod applying;
 mod changes;
-mod coming;
 mod draft;
 mod draft_local;
 mod lending;
+mod opening;
 mod outcome;
 mod parts;
 mod scan;
@@ -15,9 +15,7 @@ mod scan_calls;
 mod scan_mail;
 mod scan_tables;
 mod store;
-mod stubs;
 
-pub use coming::SentNote;
 pub use draft::Draft;
 pub use outcome::Outcome;
 pub use store::Store;

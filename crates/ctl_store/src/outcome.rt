@@ -1,13 +1,14 @@
-ghost use Rattle.std.specs.Prelude.{◌≡◌, ◌<◌, ◌^◌, OnOk};
+ghost use Rattle.std.specs.Prelude.{◌≡◌, ◌<◌, ◌+◌, ◌^◌, OnOk};
 ghost use Rattle.ctl_face.specs.Between.{with_one_fired};
 ghost use Rattle.ctl_store.specs.Kept.{ctl_of};
 ghost use Rattle.ctl_store.specs.Room.{HasRoomForMark, IsSameStore};
-ghost use Rattle.ctl_store.specs.Sealed.{HasRoomForOutcome, IsOutcomeFor, note_of, outcome_ctl};
+ghost use Rattle.ctl_store.specs.Sealed.{HasRoomForOutcome, IsOutcomeFor, note_of, notes_as, outcome_acts, outcome_ctl, posted_as};
 
+use crate::applying::apply;
 use crate::changes::Changes;
-use crate::parts::Parts;
 use crate::store::Store;
-use ruby_value::NoMemory;
+use ctl_mail::SentNote;
+use ruby_value::{Message, MsgNo, NoMemory, Seq};
 use run_journal::FireNote;
 
 /// What a scan has done that fired: what it changes, and the transition that fired.
@@ -24,6 +25,41 @@ impl Outcome {
     {
         self.note
     }
+
+    /// The messages that the scan consumed, in the order of its acts, as those of the next lists.
+    pub fn consumed(&self) -> &[MsgNo]
+        ensures { result.now ≡ (outcome_acts self.now).consumed }
+    {
+        self.changes.mail.consumed()
+    }
+
+    /// The messages that it stalled.
+    pub fn stalled(&self) -> &[MsgNo]
+        ensures { result.now ≡ (outcome_acts self.now).stalled }
+    {
+        self.changes.mail.stalled_numbers()
+    }
+
+    /// The messages that it woke, those of one call in increasing number.
+    pub fn woken(&self) -> &[MsgNo]
+        ensures { result.now ≡ (outcome_acts self.now).woken }
+    {
+        self.changes.mail.woken()
+    }
+
+    /// The messages that it recycled.
+    pub fn recycled(&self) -> &[MsgNo]
+        ensures { result.now ≡ (outcome_acts self.now).recycled }
+    {
+        self.changes.mail.recycled()
+    }
+
+    /// The copies that it sent, to the controller itself too.
+    pub fn sent(&self) -> &[SentNote]
+        ensures { notes_as result.now ≡ (outcome_acts self.now).sent }
+    {
+        self.changes.mail.sent()
+    }
 }
 
 impl Store {
@@ -36,5 +72,22 @@ impl Store {
     {
         self.parts.tables.reserve(&o.changes.tables)?;
         self.parts.mail.reserve(&o.changes.mail)
+    }
+
+    /// Makes what an outcome changes, for which there is room, and counts one more transition as fired in this cycle. The outcome
+    /// was sealed of a scan of this controller as it is. Answers the copies for other controllers with their receivers, in the order
+    /// in which they were sent. It takes no memory, and leaves room for one mark.
+    pub fn apply(&mut self, o: Outcome) -> Seq<(u32, Message)>
+        requires sealed { IsOutcomeFor o (ctl_of self.old) }
+        requires room { HasRoomForOutcome self.old o }
+        requires few { (ctl_of self.old).fired + 1 < 2 ^ 64 }
+        ensures after { ctl_of self.new ≡ with_one_fired (outcome_ctl o (ctl_of self.old)) }
+        ensures posted { posted_as result ≡ (outcome_acts o).posted }
+        ensures store { IsSameStore self.old self.new }
+        ensures room { HasRoomForMark self.new }
+    {
+        let posted = apply(&mut self.parts, o.changes);
+        self.parts.fired += 1;
+        posted
     }
 }

@@ -27,7 +27,6 @@ pub(crate) struct Scan<'a> {
 
 impl<'a> Model for Scan<'a> {
     ghost use Rattle.ctl_store.specs.Scanned.{IsScan, Scanned, scanned};
-
     ghost use Rattle.std.specs.Coded.{codes};
     ghost use Rattle.ctl_face.specs.contracts.routes.Routes as routes_type;
     ghost use Rattle.ctl_store.specs.contracts.changes.Changes as changes_type;

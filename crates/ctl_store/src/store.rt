@@ -1,8 +1,10 @@
-ghost use Rattle.std.specs.Prelude.{◌≡◌, ◌<◌, ◌+◌, ℕ, IfOk, OnOk, length};
+ghost use Rattle.std.specs.Prelude.{◌≡◌, ◌<◌, ◌+◌, ℕ, IfOk, OnOk, count_by, length};
 ghost use Rattle.ctl_face.specs.Between.{at_cycle, with_arrival, with_stop, with_wake_up};
 ghost use Rattle.ctl_face.specs.IsMachine.{IsMachine};
 ghost use Rattle.ctl_face.specs.Opening.{no_requests, opening_ctl};
+ghost use Rattle.ctl_mail.specs.Census.{capped, is_queued, is_recycled, is_stalled};
 ghost use Rattle.ctl_mail.specs.MailOf.{IsNewIn};
+ghost use Rattle.ctl_mail.specs.Marks.{IsNextMark};
 ghost use Rattle.ctl_store.specs.Kept.{ctl_of, machine_of, me_of, requests_of};
 ghost use Rattle.ctl_store.specs.Room.{HasRoomForMark, HasRoomForMessages, IsSameStore};
 
@@ -58,7 +60,7 @@ impl Store {
     {
         let sequencer = sequencer_of(alloc, &machine);
         let mail = MailStore::new(alloc, machine.buffers.len())?;
-        let tables = Tables::new(alloc, &machine.tables, machine.default_state.unwrap_or(0))?;
+        let tables = Tables::new(alloc, &machine)?;
         Ok(Store {
             parts: Parts {
                 machine,
@@ -141,5 +143,22 @@ impl Store {
         ensures { result ≡ me_of self.now }
     {
         self.parts.me
+    }
+
+    /// The least mark that is at least a cycle, or `None` exactly where there is none. It takes no memory.
+    pub fn next_mark(&self, from: u64) -> Option<u64>
+        ensures { IsNextMark (ctl_of self.now).mail.marks from result }
+    {
+        self.parts.mail.next_mark(from)
+    }
+
+    /// How many messages are queued, stalled and recycled: one that waits is stalled, and of the others those are recycled that were
+    /// at any time. A count beyond 64 bits is told as the greatest number of 64 bits. It takes no memory.
+    pub fn census(&self) -> (u64, u64, u64)
+        ensures queued { result.0 ≡ capped (count_by is_queued (ctl_of self.now).mail.inbox) }
+        ensures stalled { result.1 ≡ count_by is_stalled (ctl_of self.now).mail.inbox }
+        ensures recycled { result.2 ≡ capped (count_by is_recycled (ctl_of self.now).mail.inbox) }
+    {
+        self.parts.mail.census()
     }
 }

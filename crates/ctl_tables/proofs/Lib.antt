@@ -1,9 +1,12 @@
+pub mod Adding
 pub mod Backwards
+pub mod Counting
 pub mod Doing
 pub mod Effects
 pub mod Finding
 pub mod Losing
 pub mod Readings
+pub mod Recent
 pub mod Replaying
 pub mod Sets
 pub mod StatesSet

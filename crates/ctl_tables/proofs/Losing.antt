@@ -18,7 +18,7 @@ use Rattle.ctl_tables.specs.Frames.{frame_at, frame_of, keeps_order, loses_lines
 use Rattle.ctl_tables.specs.TableActs.{after_change_in, change_if_there_in, deallocate_in, fields_at, touch_in}
 use Rattle.ctl_tables.proofs.Doing.{IsDone, done_of}
 
-set_same : {X : Type 0} (xs : List X) (i : ℕ) (x : X) → slice_get xs i ≡ Some x → set xs i x ≡ xs
+pub set_same : {X : Type 0} (xs : List X) (i : ℕ) (x : X) → slice_get xs i ≡ Some x → set xs i x ≡ xs
 set_same [] i x is = refl
 set_same (y ∷ ys) zero x is = let e : y ≡ x = cc in ap (λ z. z ∷ ys) (sym e)
 set_same (y ∷ ys) (suc i) x is = ap (λ zs. y ∷ zs) (set_same ys i x is)

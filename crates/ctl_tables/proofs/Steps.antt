@@ -98,6 +98,14 @@ module _ (c : TableChange) (ts : List Table) (can : CanChange c ts) (n : ℕ) (l
     | inr apart ↦ ap (option_map frame_of) (else_after apart)
   ]
 
+  -- what holds of a table before and after the change of it, and of one that stays as it is
+  pub changes_or_stays : (P : Option Table → Option Table → Type 0) → (n ≡ c.table → (t new : Table) → IsTable t → edit_in c.edit c.line t ≡ Ok new → P (Some t) (Some new)) → (n ≢ c.table → (o : Option Table) → P o o) → P (slice_get ts n) (slice_get (with_change c ts) n)
+  changes_or_stays P changed stays = elim (cases_eq n c.table) [
+    | inl here ↦
+        subst (λ o. P o (slice_get (with_change c ts) n)) (sym (here_before here)) (subst (P (Some s.before)) (sym (here_after here)) (changed here s.before s.after (ok here) s.edited))
+    | inr apart ↦ subst (P (slice_get ts n)) (sym (else_after apart)) (stays apart (slice_get ts n))
+  ]
+
   pub kept_step : (line : ℕ) → kept_at (with_change c ts) n line ≡ cond (is_of_line n line c) (after_edit c.edit (kept_at ts n line)) (kept_at ts n line)
   kept_step line = elim (cases_eq n c.table) [
     | inl here ↦
@@ -123,3 +131,7 @@ module _ (n : ℕ) where
   unfolding after_changes Replays
   frames_after [] ts replays law = refl
   frames_after (c ∷ older) ts replays law = frame_step c (after_changes older ts) replays.0 n (law_after older ts replays.1 law) ∙ frames_after older ts replays.1 law
+
+  -- what was asked of the table before the log
+  pub kind_now : (log : List TableChange) (ts : List Table) → Replays log ts → IfSome (slice_get ts n) IsTable → (kind : Option Frame → Bool) (is : Bool) → is ≡ kind (frame_at ts n) → kind (frame_at (after_changes log ts) n) ≡ is
+  kind_now log ts replays law kind is told = ap kind (frames_after log ts replays law) ∙ sym told

@@ -1,5 +1,5 @@
 -- In a lawful local a field that the machine has is one of each line that is there, as `set` requires.
-use Rattle.std.proofs.Common.{◌≡◌, ◌<◌, ℕ, zero, suc, Bool, true, false, List, [], ◌∷◌, length, IsTrue, IfSome, IsSome, Option, None, Some, slice_get, refl, sym, ap, subst, unwrap_or, arith}
+use Rattle.std.proofs.Common.{◌≡◌, ◌<◌, ℕ, zero, suc, List, [], ◌∷◌, length, IsTrue, IfSome, IsSome, Option, None, Some, slice_get, refl, ap, unwrap_or, arith}
 use mathlib.Core.Bool.{false≢true}
 use Rattle.std.proofs.lemmas.Bool.{and_parts}
 use Rattle.std.proofs.lemmas.Option.{IfSome_then}

@@ -3,6 +3,8 @@ pub mod Change
 pub mod Container
 pub mod Frames
 pub mod Logged
+pub mod Places
+pub mod Recency
 pub mod Stored
 pub mod TableActs
 pub mod Told

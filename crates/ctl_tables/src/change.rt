@@ -37,8 +37,8 @@ pub struct TableChanges {
 }
 
 impl TableChanges {
-    /// No changes. It takes no memory.
-    pub fn new(alloc: Global) -> TableChanges
+    // No changes. It takes no memory.
+    pub(crate) fn new(alloc: Global) -> TableChanges
         ensures tables { log_of result ≡ [] }
         ensures states { state_log_of result ≡ [] }
     {

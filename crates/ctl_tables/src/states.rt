@@ -2,7 +2,7 @@
 ghost use Rattle.std.specs.Prelude.{◌≡◌, ◌==◌, ◌∷◌, IfErr, OnErr, OnOk, reverse, unwrap_or};
 ghost use Rattle.std.specs.FinMap as map;
 ghost use Rattle.std.specs.Map.{lookup};
-ghost use Rattle.ctl_tables.specs.Stored.{default_of, log_of, state_log_of, states_now};
+ghost use Rattle.ctl_tables.specs.Stored.{default_of, log_of, state_log_of, states_now, tables_now, AreOf};
 
 use crate::change::TableChanges;
 use crate::held::Tables;
@@ -35,12 +35,30 @@ impl Tables {
             None => self.default_state,
         }
     }
+
+    /// Sets the state of a line in the built-in map. No fault comes, and without memory nothing changes.
+    pub fn set_state(
+        &self,
+        changes: &mut TableChanges,
+        line: u64,
+        state: u16,
+    ) -> Result<(), Trouble>
+        requires { AreOf changes.old self.now }
+        ensures ok { OnOk result (states_now self.now changes.new
+            ≡ map.insert (states_now self.now changes.old) line state) }
+        ensures err { OnErr result (states_now self.now changes.new ≡ states_now self.now changes.old) }
+        ensures memory { IfErr result (λ t. t ≡ Trouble.NoMemory) }
+        ensures tables { tables_now self.now changes.new ≡ tables_now self.now changes.old }
+        ensures replays { AreOf changes.new self.now }
+    {
+        changes.log_state(line, state)
+    }
 }
 
 impl TableChanges {
-    /// Sets the state of a line in the built-in map. Without memory for it nothing changes.
+    // Logs one more state. Without memory for it the log is as it was.
     #[tactic(auto, using(crate::proofs::Backwards::reverse_push))]
-    pub fn set_state(&mut self, line: u64, state: u16) -> Result<(), Trouble>
+    fn log_state(&mut self, line: u64, state: u16) -> Result<(), Trouble>
         ensures ok { OnOk result (state_log_of self.new ≡ (line, state) ∷ state_log_of self.old) }
         ensures err { OnErr result (state_log_of self.new ≡ state_log_of self.old) }
         ensures memory { IfErr result (λ t. t ≡ Trouble.NoMemory) }

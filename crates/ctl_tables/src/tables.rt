@@ -1,9 +1,8 @@
-ghost use Rattle.std.specs.Prelude.{◌≡◌, ◌+◌, ℕ, IfOk, OnOk, map, vec_len};
+ghost use Rattle.std.specs.Prelude.{◌≡◌, ◌+◌, ℕ, IfOk, OnOk, map, unwrap_or, vec_len};
 ghost use Rattle.std.specs.List.{All};
-ghost use Rattle.std.specs.FinMap as finmap;
 ghost use Rattle.ruby_value.specs.declared.setup.TableSetup.{TableSetup as SetupRecord};
-ghost use Rattle.ctl_face.specs.IsMachine.{HasPlaces};
-ghost use Rattle.ctl_face.specs.Opening.{opening_table};
+ghost use Rattle.ctl_face.specs.IsMachine.{HasPlaces, IsMachine};
+ghost use Rattle.ctl_face.specs.Opening.{opening_ctl, opening_table};
 ghost use Rattle.ctl_tables.specs.After.{after_changes, with_change};
 ghost use Rattle.ctl_tables.specs.Container.{table_of, HasRoom};
 ghost use Rattle.ctl_tables.specs.Stored.{default_of, states_now, states_of, tables_now, tables_of, AreOf, HasRoomFor};
@@ -11,23 +10,23 @@ ghost use Rattle.ctl_tables.specs.Stored.{default_of, states_now, states_of, tab
 use crate::change::{Edit, TableChange, TableChanges};
 use crate::held::Tables;
 use crate::stored::StoredTable;
-use ruby_value::{LineMap, NoMemory, TableSetup};
+use ruby_value::{LineMap, MachineSetup, NoMemory, TableSetup};
 use std::alloc::Global;
 
 impl Tables {
-    /// The tables of a machine's setup as a run begins, and no states. A line whose state was never set has the default one.
-    pub fn new(alloc: Global, setups: &[TableSetup], default_state: u16) -> Result<Tables, NoMemory>
-        requires { All (λ (s : SetupRecord). HasPlaces s.size) setups.now }
-        ensures tables { IfOk result (λ s. tables_of s
-            ≡ map (λ (u : SetupRecord). opening_table u.size u.initial) setups.now) }
-        ensures states { IfOk result (λ s. states_of s ≡ finmap.empty) }
-        ensures default { IfOk result (λ s. default_of s ≡ default_state) }
+    /// The tables of a machine as a run begins, and no states. A line whose state was never set has the machine's default state,
+    /// or state 0 where it has none.
+    pub fn new(alloc: Global, machine: &MachineSetup) -> Result<Tables, NoMemory>
+        requires { IsMachine machine.now }
+        ensures tables { IfOk result (λ s. tables_of s ≡ (opening_ctl machine.now).tables) }
+        ensures states { IfOk result (λ s. states_of s ≡ (opening_ctl machine.now).states) }
+        ensures default { IfOk result (λ s. default_of s ≡ unwrap_or machine.now.default_state 0) }
     {
-        let tables = open_all(alloc, setups)?;
+        let tables = open_all(alloc, &machine.tables)?;
         Ok(Tables {
             tables,
             states: LineMap::new(alloc),
-            default_state,
+            default_state: machine.default_state.unwrap_or(0),
         })
     }
 

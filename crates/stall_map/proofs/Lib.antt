@@ -1,4 +1,4 @@
 mod Lanes
 mod Numbered
 mod Parted
-mod Placed
+pub mod Placed

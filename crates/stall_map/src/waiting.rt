@@ -1,4 +1,4 @@
-ghost use Rattle.std.specs.Prelude.{◌≡◌, ◌<◌, ◌≤◌, ◌+◌, ◌↔◌, [], None, Some, length, IfOk, IfErr, IsOk, IsTrue, OnOk, OnErr};
+ghost use Rattle.std.specs.Prelude.{◌≡◌, ◌<◌, ◌≤◌, ◌+◌, ◌↔◌, [], None, Some, length, slice_get, IfOk, IfErr, IsOk, IsTrue, OnOk, OnErr};
 ghost use Rattle.std.specs.Option.{option_map};
 ghost use Rattle.stall_map.specs.Stalls.{Ascends, IsNew, messages_of, messages_under, next_after, with_stalled, without_line};
 
@@ -62,6 +62,14 @@ impl StallMap {
         ensures order { Ascends self.now.kept }
     {
         self.stalled.len()
+    }
+
+    /// The message at a place, in the order of numbers, with its line.
+    pub fn at(&self, place: usize) -> &Stalled
+        requires { place < length self.now.kept }
+        ensures { slice_get self.now.kept place ≡ Some result.now }
+    {
+        &self.stalled[place]
     }
 
     /// Whether no message has this number.

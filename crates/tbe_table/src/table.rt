@@ -129,6 +129,13 @@ impl TbeTable {
         self.held.set_field(line, field, v)
     }
 
+    /// How many lines the table may hold.
+    pub fn entries(&self) -> u32
+        ensures { result ≡ self.now.kept.entries }
+    {
+        self.entries
+    }
+
     /// How many more lines the table may hold. It takes no memory, and it looks at no line.
     pub fn free(&self) -> u64
         ensures left { result ≡ self.now.kept.entries - map.len self.now.kept.held }

@@ -1,8 +1,8 @@
 use Rattle.std.proofs.Common.{◌≡◌, ◌∙◌, List, None, Some, slice_get, refl, sym, subst, ap}
 use Rattle.std.specs.Option.{option_copied}
 use Rattle.ruby_value.specs.declared.message.Message.{Message}
-use Rattle.ctl_mail.specs.Least.{IsLeast}
-use Rattle.ctl_mail.specs.Told.{IsLeft, told_by}
+use Rattle.ctl_mail.specs.Least.{IsLeast, IsLeftIn}
+use Rattle.ctl_mail.specs.Told.{IsOut, told_by}
 use Rattle.ctl_mail.proofs.Edits.{queue-at, queue-none}
 use Rattle.ctl_mail.proofs.Fronts.{none-left}
 use Rattle.ctl_mail.proofs.reads.first_of.Goals as goal
@@ -11,7 +11,7 @@ pub returns-in-Some : goal.returns-in-Some
 returns-in-Some c =
     let changes = c.args.changes.now in
     let there : slice_get c.args.buffers.now c.args.buffer ≡ Some c.in-Some.queue.now = sym c.buffer_at.ensures ∙ ap option_copied c.in-Some.is in
-    subst (λ (xs : List Message). IsLeast (IsLeft xs changes.cycle (told_by changes).acts) (option_copied c.first_left.result))
+    subst (λ (xs : List Message). IsLeast (IsLeftIn xs changes.cycle (IsOut (told_by changes))) (option_copied c.first_left.result))
     (sym (queue-at c.args.buffers.now c.args.buffer c.args.buffer c.in-Some.queue.now refl there)) c.first_left.ensures
 
 pub returns-in-None : goal.returns-in-None
@@ -19,5 +19,5 @@ returns-in-None c =
     let changes = c.args.changes.now in
     let there : slice_get c.args.buffers.now c.args.buffer ≡ None = sym c.buffer_at.ensures ∙ ap option_copied c.in-None.is in
     λ m left.
-    none-left changes.cycle (told_by changes).acts m
-    (subst (λ (xs : List Message). IsLeft xs changes.cycle (told_by changes).acts m) (queue-none c.args.buffers.now c.args.buffer c.args.buffer refl there) left)
+    none-left changes.cycle (IsOut (told_by changes)) m
+    (subst (λ (xs : List Message). IsLeftIn xs changes.cycle (IsOut (told_by changes)) m) (queue-none c.args.buffers.now c.args.buffer c.args.buffer refl there) left)

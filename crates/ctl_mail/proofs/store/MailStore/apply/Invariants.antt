@@ -1,8 +1,8 @@
-use Rattle.std.proofs.Common.{◌≡◌, ◌<◌, length}
+use Rattle.std.proofs.Common.{◌≡◌}
 use Rattle.std.specs.VecDeque.{deque_len}
 use Rattle.ctl_mail.specs.MailOf.{IsMail, buffer_count, mail_of}
-use Rattle.ctl_mail.specs.Room.{mark_room}
-use Rattle.ctl_mail.specs.Told.{after_acts, told_by}
+use Rattle.ctl_mail.specs.Room.{HasRoomToMake}
+use Rattle.ctl_mail.specs.Told.{AreMakeable, after_acts, told_by}
 use Rattle.ctl_mail.proofs.store.MailStore.apply.Given as goal
 
 -- what is left to be made leads to the changed mail
@@ -11,7 +11,8 @@ invariant-loop-act l = record {
   mail : IsMail l.self;
   buffers : buffer_count l.self ≡ buffer_count l.initial.self;
   leads : after_acts l.changes.cycle (mail_of l.self) l.changes.log.items ≡ after_acts l.initial.changes.cycle (mail_of l.initial.self) l.initial.changes.log.items;
-  room : length l.changes.log.items < mark_room l.self;
+  room : HasRoomToMake l.self l.changes.log.items;
+  makeable : AreMakeable l.changes.cycle (mail_of l.self) l.changes.log.items;
   cycle : l.changes.cycle ≡ l.initial.changes.cycle;
   acts : (told_by l.changes).acts ≡ (told_by l.initial.changes).acts;
 }

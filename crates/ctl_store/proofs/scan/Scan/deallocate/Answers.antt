@@ -9,8 +9,9 @@ step : (c : goal.After-deallocate)
     (with_changes (scanned c.self.inside.parts.now c.self.inside.routes.now c.self.inside.seed c.self.inside.changes) c.deallocate.new.changes)
 step c =
     deallocate_step (scanned c.self.inside.parts.now c.self.inside.routes.now c.self.inside.seed c.self.inside.changes)
-    c.args.self.now c.deallocate.new.changes c.args.table c.args.line c.deallocate.result
-    c.self.view_is c.self.invariant c.deallocate.ensures.does c.deallocate.ensures.states c.deallocate.ensures.replays
+    c.args.self.now c.deallocate.new.changes c.self.view_is c.self.invariant c.deallocate.ensures.replays
+    c.args.table c.args.line c.deallocate.result
+    c.deallocate.ensures.does c.deallocate.ensures.states
 
 pub invariant_of-self : goal.invariant_of-self
 invariant_of-self c = (step c).scan

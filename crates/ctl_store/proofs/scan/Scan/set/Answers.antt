@@ -14,8 +14,9 @@ step : (c : goal.After-set)
     (with_changes (scanned c.self.inside.parts.now c.self.inside.routes.now c.self.inside.seed c.self.inside.changes) c.set.new.changes)
 step c =
     set_step (scanned c.self.inside.parts.now c.self.inside.routes.now c.self.inside.seed c.self.inside.changes)
-    c.args.self.now c.set.new.changes c.args.r.now c.args.field c.args.v c.set.result
-    c.self.view_is c.self.invariant c.requires.served c.requires.line c.set.ensures.does c.set.ensures.states c.set.ensures.replays
+    c.args.self.now c.set.new.changes c.self.view_is c.self.invariant c.set.ensures.replays
+    c.args.r.now c.args.field c.args.v c.set.result c.requires.served c.requires.line
+    c.set.ensures.does c.set.ensures.states
 
 pub invariant_of-self : goal.invariant_of-self
 invariant_of-self c = (step c).scan

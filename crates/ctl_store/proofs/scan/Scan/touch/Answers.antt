@@ -9,8 +9,9 @@ step : (c : goal.After-touch)
     (with_changes (scanned c.self.inside.parts.now c.self.inside.routes.now c.self.inside.seed c.self.inside.changes) c.touch.new.changes)
 step c =
     touch_step (scanned c.self.inside.parts.now c.self.inside.routes.now c.self.inside.seed c.self.inside.changes)
-    c.args.self.now c.touch.new.changes c.args.table c.args.line c.touch.result
-    c.self.view_is c.self.invariant c.touch.ensures.does c.touch.ensures.states c.touch.ensures.replays
+    c.args.self.now c.touch.new.changes c.self.view_is c.self.invariant c.touch.ensures.replays
+    c.args.table c.args.line c.touch.result
+    c.touch.ensures.does c.touch.ensures.states
 
 pub invariant_of-self : goal.invariant_of-self
 invariant_of-self c = (step c).scan

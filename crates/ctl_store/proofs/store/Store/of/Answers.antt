@@ -1,9 +1,7 @@
-use Rattle.std.proofs.Common.{ℕ, List, Option, false, ap, ◌∙◌, map as each}
-use Rattle.ruby_value.specs.declared.setup.TableSetup.{TableSetup}
+use Rattle.std.proofs.Common.{ℕ, List, Option, false}
 use Rattle.std.specs.FinMap as map
 use Rattle.std.specs.Ordering.{nat_cmp}
 use Rattle.ctl_face.specs.Ctl.{Ctl, Mail, Requests}
-use Rattle.ctl_face.specs.Opening.{opening_table}
 use Rattle.ctl_face.specs.Table.{Table}
 use Rattle.ctl_store.proofs.Joined.{four}
 use Rattle.ctl_store.proofs.store.Store.of.Goals as goal
@@ -14,6 +12,4 @@ ctl_with ts states m requests = record { tables = ts; states = states; mail = m;
 pub returns-clause-opening : goal.returns-clause-opening
 unfolding ctl_with
 returns-clause-opening c =
-    four ctl_with
-    (c.in_ok-tables.ensures.tables ∙ ap (λ (setups : List TableSetup). each (λ (u : TableSetup). opening_table u.size u.initial) setups) c.deref.ensures)
-    c.in_ok-tables.ensures.states c.in_ok-mail.ensures.mail c.sequencer_of-sequencer.ensures
+    four ctl_with c.in_ok-tables.ensures.tables c.in_ok-tables.ensures.states c.in_ok-mail.ensures.mail c.sequencer_of-sequencer.ensures

@@ -1,0 +1,309 @@
+-- The copies that a scan keeps are those of the definition, one after another.
+use Rattle.std.proofs.Common.{◌≡◌, ◌<◌, ◌≤◌, ◌+◌, ◌*◌, ◌^◌, ◌++◌, ℕ, ℤ, nat_abs, Err, slice_get, Bool, true, false, cond, max, eqb, Option, None, Some, List, [], ◌∷◌, refl, sym, subst, ap, ◌∙◌, ⊎_elim, Contains, get_or, map, append_assoc, is_some, arith}
+use Rattle.std.specs.FinMap as finite
+use Rattle.std.specs.List.{All, fold}
+use Rattle.std.proofs.lemmas.List.Elements.{All-contains, Contains-get_or, filter-append}
+use Rattle.std.proofs.lemmas.List.{append-nil, map-append}
+use Rattle.ruby_value.specs.declared.message.Message.{Message}
+use Rattle.ruby_value.specs.declared.message.MsgNo.{MsgNo}
+use Rattle.ruby_value.specs.declared.fault.Fault.TheVariants.{Latency}
+use Rattle.ruby_value.specs.declared.setup.BufferPlace.{BufferPlace}
+use Rattle.ruby_value.specs.declared.setup.BufferPlace.TheVariants as place
+use Rattle.ruby_value.specs.declared.setup.BufferSetup.{BufferSetup}
+use Rattle.ruby_value.specs.declared.setup.MachineSetup.{MachineSetup}
+use Rattle.ruby_value.specs.declared.value.Value.{Value}
+use Rattle.ctl_face.specs.Latency.{is_latency}
+use Rattle.ctl_face.specs.Acts.{Acts, Copy, note_of}
+use Rattle.ctl_face.specs.Ctl.{InboxMessage, Mail}
+use Rattle.ctl_face.specs.Enqueue.{for_others}
+use Rattle.ctl_face.specs.Inbox.{with_message}
+use Rattle.ctl_face.specs.Lasts.{with_last}
+use Rattle.ctl_face.specs.LocalView.{Actor}
+use Rattle.ctl_face.specs.Mailing.{incoming_message, mail_with_delivery}
+use Rattle.ctl_face.specs.Send.{Sending, has_jitter, no_copies, send, sending_from, sending_on, with_network_copy}
+use Rattle.ctl_face.proofs.Inboxes.{ascend-with}
+use Rattle.ctl_face.proofs.OneKey.{with_message-contains}
+use Rattle.ctl_mail.specs.declared.act.MailAct.{MailAct}
+use Rattle.ctl_mail.specs.declared.act.MailAct.TheVariants.{LocalLast, NetworkLast}
+use Rattle.stall_map.specs.declared.stalled.Stalled.{Stalled}
+use Rattle.ctl_mail.specs.declared.changes.MailChanges.{MailChanges}
+use Rattle.ctl_mail.specs.declared.store.MailStore.{MailStore}
+use Rattle.ctl_mail.specs.MailOf.{IsNewIn, mail_of}
+use Rattle.ctl_mail.specs.MailView.{MailView}
+use Rattle.ctl_mail.specs.Queues.{Queues}
+use Rattle.ctl_mail.specs.Sends.{AreNext, MaySend, OwnAreBelow, copies_to_all, view_with_copies, view_with_network_copy}
+use Rattle.ctl_mail.specs.Sent.{HasSpace, copy_at, told_with_act, told_with_copy}
+use Rattle.ctl_mail.specs.Told.{AreOf, CountsFit, Reflects, Told, after_act, changed_mail, changed_view}
+use Rattle.ctl_mail.proofs.Acts.{reflects-as}
+use Rattle.ctl_mail.proofs.SentActs.{after-both, after-copy, after-one, copied_mail, fits-act, fits-copy, late-contains, still-contains}
+use Rattle.pcg_words.specs.Position.{Position}
+
+pub after-act : (mail : Mail) (act : MailAct) (t : Told) → changed_mail mail (told_with_act act t) ≡ after_act t.cycle (changed_mail mail t) act
+after-act mail act t = after-both t.cycle mail t.log (act ∷ []) ∙ after-one t.cycle (changed_mail mail t) act
+
+pub copy-as : (me count count' receiver buffer buffer' arrival arrival' : ℕ) (fields : List Value) → count ≡ count' → buffer ≡ buffer' → arrival ≡ arrival' → copy_at me count receiver buffer arrival fields ≡ copy_at me count' receiver buffer' arrival' fields
+copy-as me count count' receiver buffer buffer' arrival arrival' fields p q r = λ i. copy_at me (p i) receiver (q i) (r i) fields
+
+-- one copy, as a change of the view
+module _ (mail : Mail) (me network : ℕ) (old : Told) where
+  abbrev before : Mail
+  before = changed_mail mail old
+
+  abbrev pub one_mail : (mine drawn ordered : Bool) → ℕ → Message → Mail
+  one_mail mine drawn ordered receiver m =
+      let after : Mail = record (mail_with_delivery mine before m) { sent = before.sent + 1; copies = before.copies + 1 } in
+      record after {
+        drawn = cond drawn (after.drawn + 1) after.drawn;
+        network_last = cond ordered (with_last after.network_last network receiver m.arrival) after.network_last;
+      }
+
+  abbrev pub with_one : (drawn ordered : Bool) → Copy → MailView
+  with_one drawn ordered c = record {
+    mail = one_mail (eqb c.receiver me) drawn ordered c.receiver c.message;
+    acts = record old.acts { sent = old.acts.sent ++ note_of c ∷ []; posted = old.acts.posted ++ for_others me (c ∷ []) };
+  }
+
+  one-unordered : (mine drawn : Bool) (receiver : ℕ) (m : Message) → copied_mail mine drawn before m ≡ one_mail mine drawn false receiver m
+  one-unordered true drawn receiver m = refl
+  one-unordered false drawn receiver m = refl
+
+  one-ordered : (mine drawn : Bool) (receiver : ℕ) (m : Message)
+      → record (copied_mail mine drawn before m) { network_last = with_last (copied_mail mine drawn before m).network_last network receiver m.arrival } ≡ one_mail mine drawn true receiver m
+  one-ordered true drawn receiver m = refl
+  one-ordered false drawn receiver m = refl
+
+  pub view-unordered : (drawn : Bool) (c : Copy) → changed_view mail (told_with_copy me drawn c old) ≡ with_one drawn false c
+  view-unordered drawn c =
+      ap (λ (m : Mail). record { mail = m; acts = (told_with_copy me drawn c old).acts })
+      (after-copy mail me drawn c old ∙ one-unordered (eqb c.receiver me) drawn c.receiver c.message)
+
+  pub view-ordered : (drawn : Bool) (c : Copy) → changed_view mail (told_with_act (NetworkLast network c.receiver c.message.arrival) (told_with_copy me drawn c old)) ≡ with_one drawn true c
+  view-ordered drawn c =
+      ap (λ (m : Mail). record { mail = m; acts = (told_with_copy me drawn c old).acts })
+      (after-act mail (NetworkLast network c.receiver c.message.arrival) (told_with_copy me drawn c old)
+      ∙ (ap (λ (m : Mail). record m { network_last = with_last m.network_last network c.receiver c.message.arrival }) (after-copy mail me drawn c old)
+      ∙ one-ordered (eqb c.receiver me) drawn c.receiver c.message))
+
+  pub one-as : (d d' o o' : Bool) (c c' : Copy) → d ≡ d' → o ≡ o' → c ≡ c' → with_one d o c ≡ with_one d' o' c'
+  one-as d d' o o' c c' p q r = λ i. with_one (p i) (q i) (r i)
+
+-- one copy in a buffer of the controller's own, as a change of the view
+module _ (mail : Mail) (me : ℕ) (old : Told) where
+  abbrev so_far : Mail
+  so_far = changed_mail mail old
+
+  abbrev pub one_local_mail : (mine ordered : Bool) → ℕ → Message → Mail
+  one_local_mail mine ordered buffer m = record (mail_with_delivery mine so_far m) {
+    sent = so_far.sent + 1;
+    copies = so_far.copies + 1;
+    local_last = cond ordered (finite.insert so_far.local_last buffer m.arrival) so_far.local_last;
+  }
+
+  abbrev pub with_local : (ordered : Bool) → ℕ → Copy → MailView
+  with_local ordered buffer c = record {
+    mail = one_local_mail (eqb c.receiver me) ordered buffer c.message;
+    acts = record old.acts { sent = old.acts.sent ++ note_of c ∷ []; posted = old.acts.posted ++ for_others me (c ∷ []) };
+  }
+
+  local-unordered : (mine : Bool) (buffer : ℕ) (m : Message) → copied_mail mine false so_far m ≡ one_local_mail mine false buffer m
+  local-unordered true buffer m = refl
+  local-unordered false buffer m = refl
+
+  local-ordered : (mine : Bool) (buffer : ℕ) (m : Message)
+      → record (copied_mail mine false so_far m) { local_last = finite.insert (copied_mail mine false so_far m).local_last buffer m.arrival } ≡ one_local_mail mine true buffer m
+  local-ordered true buffer m = refl
+  local-ordered false buffer m = refl
+
+  pub view-local-unordered : (buffer : ℕ) (c : Copy) → changed_view mail (told_with_copy me false c old) ≡ with_local false buffer c
+  view-local-unordered buffer c =
+      ap (λ (m : Mail). record { mail = m; acts = (told_with_copy me false c old).acts })
+      (after-copy mail me false c old ∙ local-unordered (eqb c.receiver me) buffer c.message)
+
+  pub view-local-ordered : (buffer : ℕ) (c : Copy) → changed_view mail (told_with_act (LocalLast buffer c.message.arrival) (told_with_copy me false c old)) ≡ with_local true buffer c
+  view-local-ordered buffer c =
+      ap (λ (m : Mail). record { mail = m; acts = (told_with_copy me false c old).acts })
+      (after-act mail (LocalLast buffer c.message.arrival) (told_with_copy me false c old)
+      ∙ (ap (λ (m : Mail). record m { local_last = finite.insert m.local_last buffer c.message.arrival }) (after-copy mail me false c old)
+      ∙ local-ordered (eqb c.receiver me) buffer c.message))
+
+  pub local-as : (o o' : Bool) (buffer : ℕ) (c c' : Copy) → o ≡ o' → c ≡ c' → with_local o buffer c ≡ with_local o' buffer c'
+  local-as o o' buffer c c' p q = λ i. with_local (p i) buffer (q i)
+
+-- when a copy arrives
+pub arrival-as : (o o' : Bool) (base path path' jitter jitter' last : ℕ) → o ≡ o' → path ≡ path' → jitter ≡ jitter'
+    → cond o (max (base + path + jitter) last) (base + path + jitter) ≡ cond o' (max (base + path' + jitter') last) (base + path' + jitter')
+arrival-as o o' base path path' jitter jitter' last p q r = λ i. cond (p i) (max (base + q i + r i) last) (base + q i + r i)
+
+pub later-than : (now due last arrival : ℕ) (o : Bool) → arrival ≡ cond o (max due last) due → now < due → now < arrival
+later-than now due last arrival true is before = omega arith
+later-than now due last arrival false is before = omega arith
+
+pub are-words : (actor : Actor) (n : ℕ) (words : Option Position) → AreNext actor n words → is_some words ≡ has_jitter actor
+are-words actor n None next = sym next
+are-words actor n (Some p) next = sym next.0
+
+-- the number of the next copy is new
+pub new-number : (me now n : ℕ) (mail : Mail) → MaySend me now n mail → IsNewIn mail (record { sender = me; count = mail.sent })
+new-number me now n mail may k d within same =
+    let o = get_or mail.inbox k d in
+    let own : o.message.number.count < mail.sent = may.own k d within (ap (λ (x : MsgNo). x.sender) same) in
+    let is : o.message.number.count ≡ mail.sent = ap (λ (x : MsgNo). x.count) same in
+    absurd (omega arith)
+
+pub counts-fit : (me now : ℕ) (mail : Mail) → now ≤ 10 ^ 12 → MaySend me now 1 mail → CountsFit mail
+counts-fit me now mail le may =
+    let a = may.copies_left in
+    let b = may.sent in
+    let d = may.drawn in
+    record { sent = omega arith; drawn = omega arith; copies = omega arith }
+
+-- what is seen stays
+reflects-copied : (queues : Queues) (stalled : List Stalled) (told : Told) (mail : Mail) (mine : Bool) (m : Message) → told.cycle < m.arrival → IsNewIn mail m.number
+    → Reflects queues stalled told mail.inbox → Reflects queues stalled told (mail_with_delivery mine mail m).inbox
+reflects-copied queues stalled told mail false m later fresh reflects = reflects
+reflects-copied queues stalled told mail true m later fresh reflects = record {
+  ascends = ascend-with mail.inbox (incoming_message m) reflects.ascends;
+  left = λ o seen. (
+    λ has. (reflects.left o seen).0 (late-contains told.cycle mail.inbox m later fresh o seen has),
+    λ left. still-contains told.cycle mail.inbox m later fresh o ((reflects.left o seen).1 left),
+  );
+  none_back = reflects.none_back;
+  moved = reflects.moved;
+}
+
+pub are-copied : (store : MailStore) (me : ℕ) (drawn : Bool) (c : Copy) (old : Told) → old.cycle ≤ 10 ^ 12 → MaySend me old.cycle 1 (changed_mail (mail_of store) old)
+    → old.cycle < c.message.arrival → c.message.number ≡ record { sender = me; count = (changed_mail (mail_of store) old).sent }
+    → AreOf store old → AreOf store (told_with_copy me drawn c old)
+are-copied store me drawn c old le may later number are =
+    let mail = changed_mail (mail_of store) old in
+    let fresh : IsNewIn mail c.message.number = subst (IsNewIn mail) (sym number) (new-number me old.cycle 1 mail may) in
+    let new = told_with_copy me drawn c old in (
+      subst (λ (m : Mail). Reflects store.buffers.items store.stalls.kept new m.inbox) (sym (after-copy (mail_of store) me drawn c old))
+          (reflects-copied store.buffers.items store.stalls.kept new mail (eqb c.receiver me) c.message later fresh
+          (reflects-as store.buffers.items store.stalls.kept old new.counts new.log new.acts refl mail.inbox (λ n gone. gone) (λ n gone. gone) are.0)),
+      fits-copy (mail_of store) me drawn c old (counts-fit me old.cycle mail le may) (λ _. fresh) are.1,
+    )
+
+-- an act that changes no message
+written-reflects : (store : MailStore) (old : Told) (act : MailAct) → (after_act old.cycle (changed_mail (mail_of store) old) act).inbox ≡ (changed_mail (mail_of store) old).inbox
+    → AreOf store old → Reflects store.buffers.items store.stalls.kept (told_with_act act old) (changed_mail (mail_of store) (told_with_act act old)).inbox
+written-reflects store old act same are =
+    let new = told_with_act act old in
+    subst (Reflects store.buffers.items store.stalls.kept new) (sym (ap (λ (m : Mail). m.inbox) (after-act (mail_of store) act old) ∙ same))
+    (reflects-as store.buffers.items store.stalls.kept old new.counts new.log new.acts refl (changed_mail (mail_of store) old).inbox (λ n gone. gone) (λ n gone. gone) are.0)
+
+pub are-last : (store : MailStore) (network receiver arrival : ℕ) (old : Told) → AreOf store old → AreOf store (told_with_act (NetworkLast network receiver arrival) old)
+are-last store network receiver arrival old are = (
+  written-reflects store old (NetworkLast network receiver arrival) refl are,
+  fits-act (mail_of store) old (NetworkLast network receiver arrival) old.acts old.moves tt are.1,
+)
+
+pub are-local-last : (store : MailStore) (buffer arrival : ℕ) (old : Told) → AreOf store old → AreOf store (told_with_act (LocalLast buffer arrival) old)
+are-local-last store buffer arrival old are = (
+  written-reflects store old (LocalLast buffer arrival) refl are,
+  fits-act (mail_of store) old (LocalLast buffer arrival) old.acts old.moves tt are.1,
+)
+
+-- more copies may be sent after one
+own-at : (me : ℕ) (mail : Mail) (o : InboxMessage) → OwnAreBelow me mail → Contains mail.inbox o → o.message.number.sender ≡ me → o.message.number.count < mail.sent
+own-at me mail o all has = All-contains (λ (x : InboxMessage). x.message.number.sender ≡ me → x.message.number.count < mail.sent) mail.inbox o all has
+
+own-after : (me : ℕ) (mail : Mail) (mine : Bool) (m : Message) → m.number ≡ record { sender = me; count = mail.sent } → OwnAreBelow me mail
+    → All (λ (o : InboxMessage). o.message.number.sender ≡ me → o.message.number.count < mail.sent + 1) (mail_with_delivery mine mail m).inbox
+own-after me mail false m number own k d within same = let so : (get_or mail.inbox k d).message.number.count < mail.sent = own k d within same in omega arith
+own-after me mail true m number own k d within same =
+    let o = get_or (with_message mail.inbox (incoming_message m)) k d in
+    ⊎_elim
+    (λ it. let is : mail.sent ≡ o.message.number.count = ap (λ (x : MsgNo). x.count) (sym number) ∙ ap (λ (x : InboxMessage). x.message.number.count) it in omega arith)
+    (λ there. let so = own-at me mail o own there.0 same in omega arith)
+    ((with_message-contains mail.inbox (incoming_message m) o).0 (Contains-get_or (with_message mail.inbox (incoming_message m)) k d within))
+
+drawn-after : (b : Bool) (drawn most copies : ℕ) → drawn ≤ most + copies → cond b (drawn + 1) drawn ≤ most + (copies + 1)
+drawn-after true drawn most copies le = omega arith
+drawn-after false drawn most copies le = omega arith
+
+pub may-more : (me now more : ℕ) (mail : Mail) (mine drawn : Bool) (m : Message) → m.number ≡ record { sender = me; count = mail.sent } → MaySend me now (more + 1) mail → MaySend me now more (copied_mail mine drawn mail m)
+may-more me now more mail mine drawn m number may =
+    let a = may.copies_left in
+    let b = may.sent in
+    record {
+      own = own-after me mail mine m number may.own;
+      copies_left = omega arith;
+      sent = omega arith;
+      drawn = drawn-after drawn mail.drawn (4096 * now) mail.copies may.drawn;
+    }
+
+pub may-copied : (mail : Mail) (me : ℕ) (drawn : Bool) (c : Copy) (old : Told) (more : ℕ) → c.message.number ≡ record { sender = me; count = (changed_mail mail old).sent }
+    → MaySend me old.cycle (more + 1) (changed_mail mail old) → MaySend me old.cycle more (changed_mail mail (told_with_copy me drawn c old))
+may-copied mail me drawn c old more number may =
+    subst (MaySend me old.cycle more) (sym (after-copy mail me drawn c old))
+    (may-more me old.cycle more (changed_mail mail old) (eqb c.receiver me) drawn c.message number may)
+
+pub may-last : (mail : Mail) (me network receiver arrival : ℕ) (old : Told) (more : ℕ) → MaySend me old.cycle more (changed_mail mail old)
+    → MaySend me old.cycle more (changed_mail mail (told_with_act (NetworkLast network receiver arrival) old))
+may-last mail me network receiver arrival old more may =
+    subst (MaySend me old.cycle more) (sym (after-act mail (NetworkLast network receiver arrival) old))
+    (record { own = may.own; copies_left = may.copies_left; sent = may.sent; drawn = may.drawn })
+
+pub may-fewer : (me now n m : ℕ) (mail : Mail) → n ≤ m → MaySend me now m mail → MaySend me now n mail
+may-fewer me now n m mail le may = record { own = may.own; copies_left = omega (arith, may.copies_left); sent = may.sent; drawn = may.drawn }
+
+pub space-fewer : (changes : MailChanges) (acts n more m : ℕ) → acts ≤ n → more ≤ m → HasSpace changes n m → HasSpace changes acts more
+space-fewer changes acts n more m le few space = record { log = omega (arith, space.log); sent = omega (arith, space.sent); posted = omega (arith, space.posted) }
+
+pub space-as : (changes : MailChanges) (n m copies : ℕ) → n ≤ m → HasSpace changes m copies → HasSpace changes n copies
+space-as changes n m copies le space = record { log = omega (arith, space.log); sent = space.sent; posted = space.posted }
+
+-- copies one after another
+module _ (actor : Actor) (network latency : ℕ) (fields : List Value) (now : ℕ) where
+  abbrev step : Sending → ℕ → Sending
+  step s receiver = with_network_copy actor network latency fields now s receiver
+
+  more-copies : (v : MailView) (s : Sending) (receiver : ℕ)
+      → view_with_network_copy actor network latency fields now (view_with_copies actor.me v s) receiver ≡ view_with_copies actor.me v (step s receiver)
+  more-copies v s receiver =
+      let more : List Copy = (step (no_copies s.mail) receiver).copies in
+      let sent : (v.acts.sent ++ map note_of s.copies) ++ map note_of more ≡ v.acts.sent ++ map note_of (s.copies ++ more) =
+      append_assoc v.acts.sent (map note_of s.copies) (map note_of more) ∙ ap (λ ns. v.acts.sent ++ ns) (sym (map-append note_of s.copies more)) in
+      let posted : (v.acts.posted ++ for_others actor.me s.copies) ++ for_others actor.me more ≡ v.acts.posted ++ for_others actor.me (s.copies ++ more) =
+      append_assoc v.acts.posted (for_others actor.me s.copies) (for_others actor.me more) ∙ ap (λ cs. v.acts.posted ++ cs) (sym (filter-append _ s.copies more)) in
+      λ i. record { mail = (step s receiver).mail; acts = record v.acts { sent = sent i; posted = posted i } }
+
+  -- what was done leads to all copies
+  pub record Progress (mail : Mail) (first t : Told) (members left : List ℕ) : Type 0 where
+    pub done : Sending
+    pub view : changed_view mail t ≡ view_with_copies actor.me (changed_view mail first) done
+    pub leads : fold step done left ≡ copies_to_all actor network latency fields now (changed_mail mail first) members
+
+  pub no-progress : (mail : Mail) (first : Told) (members : List ℕ) → Progress mail first first members members
+  no-progress mail first members = record {
+    done = no_copies (changed_mail mail first);
+    view = λ i. record { mail = changed_mail mail first; acts = record first.acts { sent = sym (append-nil first.acts.sent) i; posted = sym (append-nil first.acts.posted) i } };
+    leads = refl;
+  }
+
+  pub more-progress : (mail : Mail) (first t new : Told) (members : List ℕ) (receiver : ℕ) (left rest : List ℕ) → left ≡ receiver ∷ rest
+      → changed_view mail new ≡ view_with_network_copy actor network latency fields now (changed_view mail t) receiver
+      → Progress mail first t members left → Progress mail first new members rest
+  more-progress mail first t new members receiver left rest is one before = record {
+    done = step before.done receiver;
+    view =
+        one ∙ (ap (λ (v : MailView). view_with_network_copy actor network latency fields now v receiver) before.view
+        ∙ more-copies (changed_view mail first) before.done receiver);
+    leads = ap (λ (xs : List ℕ). fold step before.done xs) (sym is) ∙ before.leads;
+  }
+
+  pub all-done : (mail : Mail) (first t : Told) (members left : List ℕ) → left ≡ [] → Progress mail first t members left
+      → changed_view mail t ≡ view_with_copies actor.me (changed_view mail first) (copies_to_all actor network latency fields now (changed_mail mail first) members)
+  all-done mail first t members left none before =
+      before.view ∙ ap (view_with_copies actor.me (changed_view mail first)) (ap (λ (xs : List ℕ). fold step before.done xs) (sym none) ∙ before.leads)
+
+-- a send in a buffer of the controller's own
+pub sends-local : (machine : MachineSetup) (actor : Actor) (mail : Mail) (buffer : ℕ) (latency : ℤ) (fields : List Value) (now later : ℕ) (s : BufferSetup)
+    → (is_latency latency ≡ true) × (nat_abs latency ≡ later) → slice_get machine.buffers buffer ≡ Some s → s.place ≡ place.Local
+    → send machine actor mail buffer latency fields now ≡ sending_on place.Local s.ordered actor mail buffer later fields now
+sends-local machine actor mail buffer latency fields now later s judged there is =
+    ap (λ (b : Bool). cond b (sending_from (slice_get machine.buffers buffer) actor mail buffer (nat_abs latency) fields now) (Err Latency)) judged.0
+    ∙ (ap (λ (o : Option BufferSetup). sending_from o actor mail buffer (nat_abs latency) fields now) there
+    ∙ (ap (λ n. sending_on s.place s.ordered actor mail buffer n fields now) judged.1
+    ∙ ap (λ (p : BufferPlace). sending_on p s.ordered actor mail buffer later fields now) is))

@@ -1,0 +1,27 @@
+use Rattle.std.proofs.Common.{◌≡◌, ◌<◌, length, subst, ◌∙◌, arith}
+use Rattle.std.specs.List.{All}
+use Rattle.ctl_mail.specs.Room.{HasPlaces}
+use Rattle.ctl_mail.proofs.Places.{loses-none, places-more}
+use Rattle.ctl_mail.proofs.make.reserve_places.Goals as goal
+
+pub reserve_place-requires : goal.reserve_place-requires
+reserve_place-requires c = record { mail = c.loop-i.invariant.mail }
+
+pub loop-i-preserved : goal.loop-i-preserved
+loop-i-preserved c =
+    let within : c.loop-i.i < length c.args.changes.now.log.items = omega (arith, c.loop-i-test.true, c.len-i-end.ensures, c.args.changes.now.log.ok.0) in
+    record {
+      same = c.reserve_place.ensures.same ∙ c.loop-i.invariant.same;
+      mail = c.reserve_place.ensures.mail;
+      buffers = c.reserve_place.ensures.buffers ∙ c.loop-i.invariant.buffers;
+      marks = c.reserve_place.ensures.marks ∙ c.loop-i.invariant.marks;
+      stalls = c.reserve_place.ensures.stalls ∙ c.loop-i.invariant.stalls;
+      places = loses-none c.args.store.now c.loop-i.store c.reserve_place.new.store c.loop-i.invariant.places c.reserve_place.ensures.places;
+      made = places-more c.loop-i.store c.reserve_place.new.store c.args.changes.now.log.items c.len-more.result c.loop-i.i c.index.result.now c.reserve_place.ensures.places c.in_ok-reserve_place.ensures.ok within c.index.ensures c.loop-i.invariant.made;
+    }
+
+pub returns-clause-ok : goal.returns-clause-ok
+returns-clause-ok c =
+    let same : c.len-more.result ≡ length c.args.changes.now.log.items = omega (arith, c.len-more.ensures, c.args.changes.now.log.ok.0) in
+    subst (λ n. All (HasPlaces c.loop-i.store n) c.args.changes.now.log.items) same
+    (λ k d within. c.loop-i.invariant.made k d (omega (arith, within, c.loop-i-test.false, c.len-i-end.ensures, c.args.changes.now.log.ok.0)))

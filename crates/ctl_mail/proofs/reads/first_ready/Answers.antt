@@ -1,0 +1,33 @@
+use Rattle.std.proofs.Common.{◌≡◌, ◌==◌, ◌≤◌, ◌∙◌, [], ℕ, true, length, vec_len, sym, subst, arith}
+use Rattle.std.proofs.lemmas.Bool.Decides.{nat_tests}
+use Rattle.std.specs.Option.{option_copied}
+use Rattle.ctl_mail.specs.Least.{IsBack, IsLeast, IsLeftIn}
+use Rattle.ctl_mail.specs.Queues.{Queues, queue_of}
+use Rattle.ctl_mail.specs.Told.{IsOut, told_by}
+use Rattle.ctl_mail.proofs.Acts.{none-there}
+use Rattle.ctl_mail.proofs.Firsts.{least-first, least-of-two}
+use Rattle.ctl_mail.proofs.reads.first_ready.Goals as goal
+
+zero-by : (n : ℕ) → (n == 0) ≡ true → n ≡ 0
+zero-by n is = grind (arith, nat_tests, is)
+
+pub returns-then-is_empty : goal.returns-then-is_empty
+returns-then-is_empty c =
+    let store = c.args.store.now in
+    let told = told_by c.args.changes.now in
+    let zero : vec_len c.args.changes.now.woken ≡ 0 = zero-by (vec_len c.args.changes.now.woken) (sym c.is_empty.ensures ∙ c.if-is_empty.true) in
+    let few : length told.acts.woken ≤ 0 = omega arith in
+    let none : told.acts.woken ≡ [] = none-there told.acts.woken few in
+    least-first (IsLeftIn (queue_of store.buffers.items c.args.buffer) told.cycle (IsOut told)) (IsBack store.stalls.kept told c.args.buffer) (option_copied c.first_of-queued.result)
+    (λ m back. c.requires.0.none_back none (record { line = back.line; message = m }) back.held back.now.free.back)
+    (subst (λ (xs : Queues). IsLeast (IsLeftIn (queue_of xs c.args.buffer) told.cycle (IsOut told)) (option_copied c.first_of-queued.result)) c.deref.ensures.value c.first_of-queued.ensures)
+
+pub returns : goal.returns
+returns c =
+    let store = c.args.store.now in
+    let told = told_by c.args.changes.now in
+    subst (IsLeast _) (sym c.first_of_two.ensures)
+    (least-of-two (IsLeftIn (queue_of store.buffers.items c.args.buffer) told.cycle (IsOut told)) (IsBack store.stalls.kept told c.args.buffer)
+    (option_copied c.first_of-queued.result) (option_copied c.first_back.result)
+    (subst (λ (xs : Queues). IsLeast (IsLeftIn (queue_of xs c.args.buffer) told.cycle (IsOut told)) (option_copied c.first_of-queued.result)) c.deref.ensures.value c.first_of-queued.ensures)
+    c.first_back.ensures)

@@ -1,0 +1,23 @@
+use Rattle.std.proofs.Common.{◌≡◌, Ok, Some, sym, ap, subst, ◌∙◌}
+use Rattle.std.specs.Option.{option_copied}
+use Rattle.ctl_face.specs.Front.{front}
+use Rattle.ctl_mail.specs.MailOf.{mail_of}
+use Rattle.ctl_mail.specs.Told.{AreOf, Told, changed_mail, changed_view, told_by}
+use Rattle.ctl_mail.proofs.StallActs.{are-of-stall, does-stall}
+use Rattle.ctl_mail.proofs.stalls.stall.Goals as goal
+
+pub returns-clause-does : goal.returns-clause-does
+returns-clause-does c =
+    let mail = mail_of c.args.store.now in
+    let old = told_by c.args.changes.now in
+    let m = c.in-Some.m.now in
+    let is : front (changed_mail mail old) c.args.buffer old.cycle ≡ Some m = sym c.peek.ensures ∙ ap option_copied c.in-Some.is in
+    does-stall mail old c.args.buffer c.args.line m is ∙ ap (λ (t : Told). Ok (changed_view mail t)) (sym c.in_ok-keep_stall.ensures.ok)
+
+pub returns-clause-changes : goal.returns-clause-changes
+returns-clause-changes c =
+    let mail = mail_of c.args.store.now in
+    let old = told_by c.args.changes.now in
+    let m = c.in-Some.m.now in
+    let is : front (changed_mail mail old) c.args.buffer old.cycle ≡ Some m = sym c.peek.ensures ∙ ap option_copied c.in-Some.is in
+    subst (AreOf c.args.store.now) (sym c.in_ok-keep_stall.ensures.ok) (are-of-stall c.args.store.now old c.args.buffer c.args.line m c.requires.mail.holds is c.requires.changes)

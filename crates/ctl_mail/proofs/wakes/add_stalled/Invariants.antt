@@ -1,0 +1,7 @@
+use Rattle.std.proofs.Common.{take}
+use Rattle.ctl_mail.specs.Numbers.{Adds}
+use Rattle.ctl_mail.specs.Told.{IsWokenStalled, told_by}
+use Rattle.ctl_mail.proofs.wakes.add_stalled.Given as goal
+
+abbrev pub invariant-loop-i : goal.invariant-loop-i
+invariant-loop-i l = Adds l.initial.numbers.items (IsWokenStalled (take l.i l.stalls.kept) (told_by l.changes) l.waking) l.numbers.items

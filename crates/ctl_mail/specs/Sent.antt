@@ -1,0 +1,60 @@
+-- A copy that a scan sends, as one of its changes: it is counted, comes into the controller's own mail where that is the receiver,
+-- and has a note; and which last arrivals the acts of a scan have written.
+use Rattle.std.specs.Prelude.{◌-◌, ◌+◌, ◌≤◌, ◌++◌, ◌==◌, ◌&&◌, ℕ, Bool, false, Option, Some, List, [], ◌∷◌, vec_capacity, vec_len, if◌then◌else◌}
+use Rattle.std.specs.VecDeque.{deque_capacity, deque_len}
+use Rattle.ruby_value.specs.declared.value.Value.{Value}
+use Rattle.ctl_face.specs.Acts.{Copy, note_of}
+use Rattle.ctl_face.specs.Enqueue.{for_others}
+use Rattle.ctl_mail.specs.declared.act.MailAct.{MailAct}
+use Rattle.ctl_mail.specs.declared.act.MailAct.TheVariants.{Arrive, Count, LocalLast, NetworkLast}
+use Rattle.ctl_mail.specs.declared.changes.MailChanges.{MailChanges}
+use Rattle.ctl_mail.specs.declared.sent.SendCounts.{SendCounts}
+use Rattle.ctl_mail.specs.Told.{Told}
+
+-- room for so many more acts and copies
+pub record HasSpace (changes : MailChanges) (acts copies : ℕ) : Type 0 where
+  pub log : acts ≤ deque_capacity changes.log - deque_len changes.log
+  pub sent : copies ≤ vec_capacity changes.sent - vec_len changes.sent
+  pub posted : copies ≤ vec_capacity changes.posted - vec_len changes.posted
+
+abbrev pub counts_after : Bool → SendCounts → SendCounts
+counts_after drawn counts = record {
+  sent = counts.sent + 1;
+  drawn = if drawn then counts.drawn + 1 else counts.drawn;
+  copies = counts.copies + 1;
+}
+
+abbrev pub copy_at : (me count receiver buffer arrival : ℕ) → List Value → Copy
+copy_at me count receiver buffer arrival fields = record {
+  receiver = receiver;
+  message = record {
+    number = record { sender = me; count = count };
+    buffer = buffer;
+    arrival = arrival;
+    recycled = false;
+    fields = fields;
+  };
+}
+
+-- what a copy does to the sender's mail, but for last arrivals
+abbrev pub copy_acts : ℕ → Bool → Copy → List MailAct
+copy_acts me drawn c = Count drawn ∷ (if c.receiver == me then Arrive c.message ∷ [] else [])
+
+abbrev pub told_with_copy : ℕ → Bool → Copy → Told → Told
+told_with_copy me drawn c old = record old {
+  counts = counts_after drawn old.counts;
+  log = old.log ++ copy_acts me drawn c;
+  acts = record old.acts { sent = old.acts.sent ++ note_of c ∷ []; posted = old.acts.posted ++ for_others me (c ∷ []) };
+}
+
+abbrev pub told_with_act : MailAct → Told → Told
+told_with_act act old = record old { log = old.log ++ act ∷ [] }
+
+-- a last arrival, or the one that the act writes there
+abbrev pub newer_network : (network receiver : ℕ) → Option ℕ → MailAct → Option ℕ
+newer_network network receiver found (NetworkLast other to arrival) = if other == network && to == receiver then Some arrival else found
+newer_network network receiver found _ = found
+
+abbrev pub newer_local : (buffer : ℕ) → Option ℕ → MailAct → Option ℕ
+newer_local buffer found (LocalLast other arrival) = if other == buffer then Some arrival else found
+newer_local buffer found _ = found

@@ -1,0 +1,163 @@
+// The copies that a scan sends, kept as its changes. Where there is room for a copy, it takes no memory to keep it.
+ghost use Rattle.std.specs.Prelude.{◌≡◌, ◌<◌, ◌+◌, ◌*◌, ◌^◌, ℕ, None, OnOk};
+ghost use Rattle.std.specs.List.{fold};
+ghost use Rattle.ctl_mail.specs.Sent.{HasSpace, copy_at, counts_after, newer_local, newer_network, told_with_act, told_with_copy};
+ghost use Rattle.ctl_mail.specs.Told.{told_by};
+
+use crate::{MailAct, MailChanges};
+use ruby_value::{Fields, Message, MsgNo, NoMemory};
+
+/// That a copy was sent.
+#[derive(Clone, Copy)]
+pub struct SentNote {
+    pub number: MsgNo,
+    /// The controller that gets the copy, which is the sender where the buffer is one of its own.
+    pub receiver: u32,
+    /// The number of the buffer within the receiver's machine.
+    pub buffer: u16,
+    /// The cycle from which on the copy is ready.
+    pub arrival: u64,
+}
+
+/// How many messages a controller has sent, how many words it has drawn, and how many copies it has sent in this cycle.
+#[derive(Clone, Copy)]
+pub struct SendCounts {
+    pub sent: u64,
+    pub drawn: u64,
+    pub copies: u64,
+}
+
+// The counts after one copy more.
+fn counts_after(counts: SendCounts, drawn: bool) -> SendCounts
+    requires sent { counts.sent + 1 < 2 ^ 64 }
+    requires drawn { counts.drawn + 1 < 2 ^ 64 }
+    requires copies { counts.copies + 1 < 2 ^ 64 }
+    ensures { result ≡ counts_after drawn counts }
+{
+    SendCounts {
+        sent: counts.sent + 1,
+        drawn: if drawn {
+            counts.drawn + 1
+        } else {
+            counts.drawn
+        },
+        copies: counts.copies + 1,
+    }
+}
+
+// The newer of a last arrival and one that an act writes for the receiver on the network.
+fn newer_network(found: Option<u64>, act: &MailAct, network: u16, receiver: u32) -> Option<u64>
+    ensures { result ≡ newer_network network receiver found act.now }
+{
+    match act {
+        MailAct::NetworkLast(other, to, arrival) if *other == network && *to == receiver => {
+            Some(*arrival)
+        }
+        _ => found,
+    }
+}
+
+// The newer of a last arrival and one that an act writes for the buffer.
+fn newer_local(found: Option<u64>, act: &MailAct, buffer: u16) -> Option<u64>
+    ensures { result ≡ newer_local buffer found act.now }
+{
+    match act {
+        MailAct::LocalLast(other, arrival) if *other == buffer => Some(*arrival),
+        _ => found,
+    }
+}
+
+impl MailChanges {
+    // The last arrival at the receiver on the network that this scan has written, if it has.
+    pub(crate) fn network_last(&self, network: u16, receiver: u32) -> Option<u64>
+        ensures { result ≡ fold (newer_network network receiver) None (told_by self.now).log }
+    {
+        self.log.iter().fold(
+            None,
+            |found, act| newer_network(found, act, network, receiver),
+        )
+    }
+
+    // The last arrival in the buffer that this scan has written, if it has.
+    pub(crate) fn local_last(&self, buffer: u16) -> Option<u64>
+        ensures { result ≡ fold (newer_local buffer) None (told_by self.now).log }
+    {
+        self.log
+            .iter()
+            .fold(None, |found, act| newer_local(found, act, buffer))
+    }
+
+    // Makes room for so many more copies, or answers that there is no memory for them.
+    pub(crate) fn reserve_copies(&mut self, copies: usize) -> Result<(), NoMemory>
+        ensures same { told_by self.new ≡ told_by self.old }
+        ensures ok { OnOk result (HasSpace self.new (3 * copies) copies) }
+    {
+        let Some(acts) = copies.checked_mul(3) else {
+            return Err(NoMemory);
+        };
+        self.log.reserve(acts)?;
+        self.sent.reserve(copies)?;
+        self.posted.reserve(copies)?;
+        Ok(())
+    }
+
+    // Keeps a copy with the controller's next number, where there is room. One to the controller itself comes into its mail.
+    pub(crate) fn keep_copy(
+        &mut self,
+        me: u32,
+        receiver: u32,
+        buffer: u16,
+        arrival: u64,
+        drawn: bool,
+        fields: Fields,
+    )
+        requires room { HasSpace self.old 2 1 }
+        requires sent { (told_by self.old).counts.sent + 1 < 2 ^ 64 }
+        requires drawn { (told_by self.old).counts.drawn + 1 < 2 ^ 64 }
+        requires copies { (told_by self.old).counts.copies + 1 < 2 ^ 64 }
+        ensures after { let old = told_by self.old in
+            let copy = copy_at me old.counts.sent receiver buffer arrival fields in
+            told_by self.new ≡ told_with_copy me drawn copy old }
+        ensures room { (acts copies : ℕ)
+            → HasSpace self.old (acts + 2) (copies + 1)
+            → HasSpace self.new acts copies }
+        ensures cycle { self.new.cycle ≡ self.old.cycle }
+    {
+        let number = MsgNo {
+            sender: me,
+            count: self.counts.sent,
+        };
+        self.counts = counts_after(self.counts, drawn);
+        self.sent.push_reserved(SentNote {
+            number,
+            receiver,
+            buffer,
+            arrival,
+        });
+        self.log.push_back_reserved(MailAct::Count(drawn));
+        let message = Message {
+            number,
+            buffer,
+            arrival,
+            recycled: false,
+            fields,
+        };
+        if receiver == me {
+            self.log.push_back_reserved(MailAct::Arrive(message));
+        } else {
+            self.posted.push_reserved((receiver, message));
+        }
+    }
+
+    // Keeps an act, where there is room.
+    pub(crate) fn keep_act(&mut self, act: MailAct)
+        requires { HasSpace self.old 1 0 }
+        ensures after { told_by self.new ≡ told_with_act act (told_by self.old) }
+        ensures room { (acts copies : ℕ)
+            → HasSpace self.old (acts + 1) copies
+            → HasSpace self.new acts copies }
+        ensures cycle { self.new.cycle ≡ self.old.cycle }
+    {
+        self.log.push_back_reserved(act);
+    }
+}

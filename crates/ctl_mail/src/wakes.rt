@@ -1,0 +1,158 @@
+// Messages that wait are woken: kept as a change.
+ghost use Rattle.std.specs.Prelude.{◌≡◌, ◌≤◌, ◌+◌, length, vec_len, vec_capacity, ◌++◌, [], ◌∷◌, None, Some, Ok, IfOk, OnOk, OnErr};
+ghost use Rattle.ctl_mail.specs.MailOf.{IsMail, mail_of};
+ghost use Rattle.ctl_mail.specs.MailView.{MailDoes, view_wake, view_wake_all, view_woken};
+ghost use Rattle.ctl_mail.specs.Moves.{act_of, is_woken, moves_back};
+ghost use Rattle.ctl_mail.specs.Numbers.{Adds, NumbersRise};
+ghost use Rattle.ctl_mail.specs.Told.{AreOf, IsWoken, IsWokenIn, IsWokenMoved, IsWokenStalled, changed_view, told_by};
+
+use crate::moves::{Move, Waking};
+use crate::{MailAct, MailChanges, MailStore, numbers};
+use ctl_face::Trouble;
+use ruby_value::{MsgNo, NoMemory};
+use stall_map::StallMap;
+
+impl Waking {
+    fn act(self) -> MailAct
+        ensures { result ≡ act_of self }
+    {
+        match self {
+            Waking::Line(line) => MailAct::Wake(line),
+            Waking::All => MailAct::WakeAll,
+        }
+    }
+}
+
+impl MailChanges {
+    // Keeps that the messages of these numbers wait no longer.
+    fn keep_woken(&mut self, waking: Waking, numbers: &[MsgNo]) -> Result<(), NoMemory>
+        ensures ok { OnOk result (let old = told_by self.old in told_by self.new ≡ record old {
+          log = old.log ++ act_of waking ∷ [];
+          acts = record old.acts { woken = old.acts.woken ++ numbers.now };
+          moves = old.moves ++ moves_back numbers.now;
+        }) }
+        ensures err { OnErr result (told_by self.new ≡ told_by self.old) }
+    {
+        self.moves.reserve(numbers.len())?;
+        self.log.reserve(1)?;
+        self.woken.extend_from_slice(numbers)?;
+        self.log.push_back_reserved(waking.act());
+        push_back_moves(&mut self.moves, numbers);
+        Ok(())
+    }
+}
+
+// Adds that the messages of these numbers wait no longer, where there is room for it.
+fn push_back_moves(moves: &mut Vec<Move>, numbers: &[MsgNo])
+    requires { vec_len moves.old + length numbers.now ≤ vec_capacity moves.old }
+    ensures { moves.new.items ≡ moves.old.items ++ moves_back numbers.now }
+{
+    for number in numbers {
+        moves.push_reserved(Move {
+            number: *number,
+            line: None,
+        });
+    }
+}
+
+// Adds the number of a message that waited so before the scan, if it is woken now.
+fn add_if_woken(
+    numbers: &mut Vec<MsgNo>,
+    changes: &MailChanges,
+    waking: Waking,
+    number: MsgNo,
+    before: Option<u64>,
+) -> Result<(), NoMemory>
+    requires { NumbersRise numbers.old.items }
+    ensures { OnOk result (Adds numbers.old.items
+        (λ n. IsWoken (told_by changes.now) waking number before × (number ≡ n)) numbers.new.items) }
+{
+    if changes.is_woken(waking, number, before) {
+        return numbers::add(numbers, number);
+    }
+    Ok(())
+}
+
+// Adds the numbers of the messages that are woken of those that were stalled before the scan.
+fn add_stalled(
+    numbers: &mut Vec<MsgNo>,
+    stalls: &StallMap,
+    changes: &MailChanges,
+    waking: Waking,
+) -> Result<(), NoMemory>
+    requires { NumbersRise numbers.old.items }
+    ensures { OnOk result (Adds numbers.old.items
+        (IsWokenStalled stalls.now.kept (told_by changes.now) waking) numbers.new.items) }
+{
+    for i in 0..stalls.len() {
+        let s = stalls.at(i);
+        add_if_woken(numbers, changes, waking, s.message.number, Some(s.line))?;
+    }
+    Ok(())
+}
+
+// Adds the numbers of the messages that are woken of those that the scan has stalled or woken.
+fn add_moved(
+    numbers: &mut Vec<MsgNo>,
+    moves: &[Move],
+    changes: &MailChanges,
+    waking: Waking,
+) -> Result<(), NoMemory>
+    requires { NumbersRise numbers.old.items }
+    ensures { OnOk result (Adds numbers.old.items
+        (IsWokenMoved moves.now (told_by changes.now) waking) numbers.new.items) }
+{
+    for m in moves {
+        add_if_woken(numbers, changes, waking, m.number, None)?;
+    }
+    Ok(())
+}
+
+// The numbers of the messages that are woken.
+fn woken(store: &MailStore, changes: &MailChanges, waking: Waking) -> Result<Vec<MsgNo>, NoMemory>
+    ensures { IfOk result (λ numbers. Adds []
+        (IsWokenIn store.now.stalls.kept (told_by changes.now) waking) numbers.items) }
+{
+    let mut numbers = Vec::new(changes.alloc);
+    add_stalled(&mut numbers, &store.stalls, changes, waking)?;
+    add_moved(&mut numbers, &changes.moves, changes, waking)?;
+    Ok(numbers)
+}
+
+fn wake_those(store: &MailStore, changes: &mut MailChanges, waking: Waking) -> Result<(), Trouble>
+    requires mail { IsMail store.now }
+    requires changes { AreOf store.now (told_by changes.old) }
+    ensures does { let old = changed_view (mail_of store.now) (told_by changes.old) in
+        MailDoes (Ok (view_woken old (λ o. is_woken waking o.waiting))) result old (changed_view (mail_of store.now) (told_by changes.new)) }
+    ensures changes { AreOf store.now (told_by changes.new) }
+    ensures cycle { (told_by changes.new).cycle ≡ (told_by changes.old).cycle }
+{
+    let numbers = woken(store, changes, waking)?;
+    changes.keep_woken(waking, &numbers)?;
+    Ok(())
+}
+
+/// Wakes the messages that wait under a line: they wait no longer, and their numbers, in ascending order, are among the woken
+/// ones. No fault comes. Without memory the changes are as they were.
+pub fn wake(store: &MailStore, changes: &mut MailChanges, line: u64) -> Result<(), Trouble>
+    requires mail { IsMail store.now }
+    requires changes { AreOf store.now (told_by changes.old) }
+    ensures does { let old = changed_view (mail_of store.now) (told_by changes.old) in
+        MailDoes (Ok (view_wake old line)) result old (changed_view (mail_of store.now) (told_by changes.new)) }
+    ensures changes { AreOf store.now (told_by changes.new) }
+    ensures cycle { (told_by changes.new).cycle ≡ (told_by changes.old).cycle }
+{
+    wake_those(store, changes, Waking::Line(line))
+}
+
+/// Wakes all messages that wait, as `wake` does those under a line.
+pub fn wake_all(store: &MailStore, changes: &mut MailChanges) -> Result<(), Trouble>
+    requires mail { IsMail store.now }
+    requires changes { AreOf store.now (told_by changes.old) }
+    ensures does { let old = changed_view (mail_of store.now) (told_by changes.old) in
+        MailDoes (Ok (view_wake_all old)) result old (changed_view (mail_of store.now) (told_by changes.new)) }
+    ensures changes { AreOf store.now (told_by changes.new) }
+    ensures cycle { (told_by changes.new).cycle ≡ (told_by changes.old).cycle }
+{
+    wake_those(store, changes, Waking::All)
+}

@@ -1,0 +1,23 @@
+use Rattle.std.proofs.Common.{Ok}
+use Rattle.ctl_face.specs.Wake.{wake}
+use Rattle.ctl_store.specs.Scanned.{scanned}
+use Rattle.ctl_store.proofs.MailSteps.{wake_step, with_mail_changes}
+use Rattle.ctl_store.proofs.Stays.{Steps}
+use Rattle.ctl_store.proofs.scan.Scan.wake.Goals as goal
+
+step : (c : goal.After-wake)
+    → Steps (λ v. Ok (wake v c.args.line)) (λ v. tt) c.wake.result c.args.self.now
+    (with_mail_changes (scanned c.self.inside.parts.now c.self.inside.routes.now c.self.inside.seed c.self.inside.changes) c.wake.new.changes)
+step c =
+    wake_step (scanned c.self.inside.parts.now c.self.inside.routes.now c.self.inside.seed c.self.inside.changes)
+    c.args.self.now c.wake.new.changes c.wake.result c.self.view_is c.self.invariant c.wake.ensures.cycle c.wake.ensures.changes
+    c.args.line c.wake.ensures.does
+
+pub invariant_of-self : goal.invariant_of-self
+invariant_of-self c = (step c).scan
+
+pub returns-clause-does : goal.returns-clause-does
+returns-clause-does c = (step c).does
+
+pub returns-clause-lawful : goal.returns-clause-lawful
+returns-clause-lawful c = (step c).lawful

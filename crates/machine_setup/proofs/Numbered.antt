@@ -1,0 +1,84 @@
+-- Lists whose elements are made by their numbers, one more after the others.
+use Rattle.std.proofs.Common.{◌≡◌, ◌++◌, ◌+◌, ◌<◌, ℕ, Option, None, Some, List, [], ◌∷◌, flat_map, length, map, slice_index_or, take, refl, sym, ◌∙◌, ap, arith, add-one, add-zero, append_assoc}
+use Rattle.std.specs.Prelude.{filter_map, pos}
+use Rattle.std.specs.List.{cons_option}
+use Rattle.std.proofs.Math.Seq.{take-suc}
+use Rattle.std.proofs.lemmas.List.{map-append}
+use Rattle.std.proofs.lemmas.Grind.{common_steps, flat_map-append}
+use Rattle.ruby_value.specs.declared.kind.Kind.{Kind}
+use Rattle.ruby_value.specs.declared.kind.Kind.TheVariants.{Int}
+use Rattle.ruby_value.specs.declared.value.Value.{Value}
+use Rattle.ruby_value.specs.declared.value.Value.TheVariants as value
+use Rattle.ruby_value.specs.declared.setup.Sizes.{Sizes}
+use Rattle.slicc_ast.specs.declared.tree.item.Tree.{Tree}
+use Rattle.slicc_ast.specs.declared.tree.machine.Machine.{Machine}
+use Rattle.slicc_plan.specs.Buffers.{listed}
+use Rattle.slicc_plan.specs.Setups.{TableSort, ValueParameter, parameter_value, table_setup, tables_from, values_from}
+use Rattle.machine_setup.specs.Ranges.{values_of_ranges}
+
+pub tables_more : (trees : List Tree) (m : Machine) (sizes : Sizes) (n : ℕ) (ts : List TableSort) (t : TableSort) → tables_from trees m sizes n (ts ++ t ∷ []) ≡ tables_from trees m sizes n ts ++ table_setup trees m sizes (n + length ts) t ∷ []
+tables_more trees m sizes n [] t = ap (λ k. table_setup trees m sizes k t ∷ []) (sym (add-zero n))
+tables_more trees m sizes n (u ∷ ts) t =
+    let sum : n + 1 + length ts ≡ n + length (u ∷ ts) = omega arith in
+    ap (λ xs. table_setup trees m sizes n u ∷ xs) (tables_more trees m sizes (n + 1) ts t)
+    ∙ ap (λ k. table_setup trees m sizes n u ∷ (tables_from trees m sizes (n + 1) ts ++ table_setup trees m sizes k t ∷ [])) sum
+
+pub values_more : (sizes : Sizes) (n : ℕ) (ps : List ValueParameter) (p : ValueParameter) → values_from sizes n (ps ++ p ∷ []) ≡ values_from sizes n ps ++ parameter_value sizes (n + length ps) p ∷ []
+values_more sizes n [] p = ap (λ k. parameter_value sizes k p ∷ []) (sym (add-zero n))
+values_more sizes n (q ∷ ps) p =
+    let sum : n + 1 + length ps ≡ n + length (q ∷ ps) = omega arith in
+    ap (λ xs. parameter_value sizes n q ∷ xs) (values_more sizes (n + 1) ps p)
+    ∙ ap (λ k. parameter_value sizes n q ∷ (values_from sizes (n + 1) ps ++ parameter_value sizes k p ∷ [])) sum
+
+-- one more is seen
+seen_more : {X Y : Type 0} (f : X → Y) (xs : List X) (i : ℕ) (x : X) → i < length xs → x ≡ slice_index_or xs i x → map f (take (i + 1) xs) ≡ map f (take i xs) ++ f x ∷ []
+seen_more f xs i x below is =
+    let taken : take (i + 1) xs ≡ take i xs ++ x ∷ [] = rw (add-one, take-suc xs i x below) (ap (λ y. take i xs ++ y ∷ []) (sym is)) in
+    ap (map f) taken ∙ map-append f (take i xs) (x ∷ [])
+
+counted : {X Y : Type 0} (f : X → Y) (xs : List X) (i : ℕ) → i < length xs → 0 + length (map f (take i xs)) ≡ i
+counted f xs i below = grind (arith, common_steps)
+
+-- the lists that are made of the first elements, with one more of them
+pub tables_step : {X : Type 0} (f : X → TableSort) (trees : List Tree) (m : Machine) (sizes : Sizes) (xs : List X) (i : ℕ) (x : X) → i < length xs → x ≡ slice_index_or xs i x
+    → tables_from trees m sizes 0 (map f (take (i + 1) xs)) ≡ tables_from trees m sizes 0 (map f (take i xs)) ++ table_setup trees m sizes i (f x) ∷ []
+tables_step f trees m sizes xs i x below is =
+    ap (tables_from trees m sizes 0) (seen_more f xs i x below is)
+    ∙ tables_more trees m sizes 0 (map f (take i xs)) (f x)
+    ∙ ap (λ k. tables_from trees m sizes 0 (map f (take i xs)) ++ table_setup trees m sizes k (f x) ∷ []) (counted f xs i below)
+
+pub values_step : {X : Type 0} (f : X → ValueParameter) (sizes : Sizes) (xs : List X) (i : ℕ) (x : X) → i < length xs → x ≡ slice_index_or xs i x
+    → values_from sizes 0 (map f (take (i + 1) xs)) ≡ values_from sizes 0 (map f (take i xs)) ++ parameter_value sizes i (f x) ∷ []
+values_step f sizes xs i x below is =
+    ap (values_from sizes 0) (seen_more f xs i x below is)
+    ∙ values_more sizes 0 (map f (take i xs)) (f x)
+    ∙ ap (λ k. values_from sizes 0 (map f (take i xs)) ++ parameter_value sizes k (f x) ∷ []) (counted f xs i below)
+
+-- one element is put at the end of a list
+pub pushed : {X : Type 0} (after before made : List X) (x y : X) → after ≡ before ++ x ∷ [] → before ≡ made → x ≡ y → after ≡ made ++ y ∷ []
+pushed after before made x y e g h = e ∙ ap (λ xs. xs ++ x ∷ []) g ∙ ap (λ z. made ++ z ∷ []) h
+
+cons_listed : {X : Type 0} (o : Option X) (xs : List X) → cons_option o xs ≡ listed o ++ xs
+cons_listed None xs = refl
+cons_listed (Some x) xs = refl
+
+pub filter_map_listed : {X Y : Type 0} (f : X → Option Y) (xs : List X) → filter_map f xs ≡ flat_map (λ x. listed (f x)) xs
+filter_map_listed f [] = refl
+filter_map_listed f (x ∷ xs) = cons_listed (f x) (filter_map f xs) ∙ ap (λ ys. listed (f x) ++ ys) (filter_map_listed f xs)
+
+-- the kinds of one range more
+pub ranges_step : (rs : List (ℕ × ℕ)) (i : ℕ) (ks before between after : List Kind) → i < length rs → between ≡ before ++ Int ∷ [] → after ≡ between ++ Int ∷ []
+    → before ≡ ks ++ map (λ (v : Value). Int) (values_of_ranges (take i rs)) → after ≡ ks ++ map (λ (v : Value). Int) (values_of_ranges (take (i + 1) rs))
+ranges_step rs i ks before between after below e g h =
+    let one : List Kind = Int ∷ [] in
+    let kinds = λ (vs : List Value). map (λ (v : Value). Int) vs in
+    let r : ℕ × ℕ = slice_index_or rs i (0, 0) in
+    let taken : take (i + 1) rs ≡ take i rs ++ slice_index_or rs i (0, 0) ∷ [] = rw (add-one, take-suc rs i (0, 0) below) refl in
+    let flat : values_of_ranges (take (i + 1) rs) ≡ values_of_ranges (take i rs) ++ values_of_ranges (r ∷ []) =
+    ap values_of_ranges taken ∙ flat_map-append (λ (p : ℕ × ℕ). value.Int (pos p.0) ∷ value.Int (pos p.1) ∷ []) (take i rs) (r ∷ []) in
+    let whole : kinds (values_of_ranges (take (i + 1) rs)) ≡ kinds (values_of_ranges (take i rs)) ++ (one ++ one) =
+    ap kinds flat ∙ map-append (λ (v : Value). Int) (values_of_ranges (take i rs)) (values_of_ranges (r ∷ [])) in
+    g ∙ ap (λ xs. xs ++ one) (e ∙ ap (λ xs. xs ++ one) h)
+    ∙ append_assoc (ks ++ kinds (values_of_ranges (take i rs))) one one
+    ∙ append_assoc ks (kinds (values_of_ranges (take i rs))) (one ++ one)
+    ∙ ap (λ xs. ks ++ xs) (sym whole)

@@ -1,0 +1,16 @@
+//! What a machine of a protocol is to its controllers, by the sizes that a topology sets.
+#![tactic(auto)]
+
+mod law;
+mod line_tables;
+mod machine;
+mod parameter_table;
+mod parameter_values;
+mod parameters;
+mod states;
+mod table_sizes;
+mod table_sorts;
+
+pub use law::setup_is_machine;
+pub use machine::setup;
+pub use ruby_base::NoMemory;

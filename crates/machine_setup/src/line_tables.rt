@@ -1,0 +1,141 @@
+//! The tables of lines of a machine.
+ghost use Rattle.std.specs.Prelude.{◌≡◌, IfOk, Some, map, unwrap_or};
+ghost use Rattle.std.specs.Option.{option_copied};
+ghost use Rattle.slicc_plan.specs.Declarations.{machine_declarations, within};
+ghost use Rattle.slicc_plan.specs.TypeNumbers.{no_structure, structure_number};
+ghost use Rattle.slicc_plan.specs.Types.{structured};
+ghost use Rattle.slicc_plan.specs.Setups.{table_of_lines, table_setup, tables_from, tables_of};
+ghost use Rattle.declared_types.specs.Lent.{declarations_of};
+ghost use Rattle.machine_setup.specs.Seen.{line_among, sort_seen};
+ghost use Rattle.type_numbers.specs.Numbered.{AreNumbered, trees_of};
+
+use crate::table_sizes::table_size;
+use crate::table_sorts::{TableSort, tables_of};
+use declared_types::{Declared, LineSort, Scope, first_line};
+use ruby_base::{NoMemory, Seq};
+use ruby_value::{Fields, Sizes, TableSetup, TableSize};
+use slicc_ast::tree::{Machine, Structure};
+use std::alloc::Global;
+use type_numbers::{TypeNumbers, field_kinds, initial_fields, structure_fields, structure_number};
+
+// The structure of the lines of a table of this sort, of a machine that declares this.
+fn line_structure<'a>(declarations: &[Declared<'a>], sort: TableSort) -> Option<&'a Structure>
+    ensures { option_copied result ≡ line_among (declarations_of declarations.now) (sort_seen sort) }
+{
+    match sort {
+        TableSort::Cache => first_line(LineSort::Entry, declarations),
+        TableSort::Directory => first_line(LineSort::Directory, declarations),
+        TableSort::Tbes(_) => first_line(LineSort::Tbe, declarations),
+    }
+}
+
+// The number of the structure of a table's lines; of one that has no number, one that no structure has.
+fn line_number<'a>(
+    types: &TypeNumbers<'a>,
+    m: &'a Machine,
+    s: &'a Structure,
+) -> Result<u16, NoMemory>
+    requires { AreNumbered types.now }
+    ensures { IfOk result (λ number. number ≡ unwrap_or (structure_number (trees_of types.now) (structured (within m.now) s.now)) no_structure) }
+{
+    match structure_number(types, Scope::Within(m), s)? {
+        None => Ok(65535),
+        Some(number) => Ok(number),
+    }
+}
+
+fn table_with<'a>(
+    alloc: Global,
+    types: &TypeNumbers<'a>,
+    m: &'a Machine,
+    size: TableSize,
+    s: &'a Structure,
+) -> Result<TableSetup, NoMemory>
+    requires { AreNumbered types.now }
+    ensures { IfOk result (λ table. table ≡ table_of_lines (trees_of types.now) m.now size (Some s.now)) }
+{
+    let structure = line_number(types, m, s)?;
+    let fields = structure_fields(alloc, Scope::Within(m), s)?;
+    let kinds = field_kinds(alloc, types, &fields)?;
+    let initial = initial_fields(alloc, types, &fields)?;
+    Ok(TableSetup {
+        size,
+        structure,
+        kinds,
+        initial,
+    })
+}
+
+fn table_of_lines<'a>(
+    alloc: Global,
+    types: &TypeNumbers<'a>,
+    m: &'a Machine,
+    size: TableSize,
+    s: Option<&'a Structure>,
+) -> Result<TableSetup, NoMemory>
+    requires { AreNumbered types.now }
+    ensures { IfOk result (λ table. table ≡ table_of_lines (trees_of types.now) m.now size (option_copied s.entry)) }
+{
+    match s {
+        None => Ok(TableSetup {
+            size,
+            structure: 65535,
+            kinds: Seq::new(alloc),
+            initial: Fields::of(Vec::new(alloc)),
+        }),
+        Some(s) => table_with(alloc, types, m, size, s),
+    }
+}
+
+fn table_setup<'a>(
+    alloc: Global,
+    types: &TypeNumbers<'a>,
+    m: &'a Machine,
+    declarations: &[Declared<'a>],
+    sizes: &Sizes,
+    number: usize,
+    sort: TableSort,
+) -> Result<TableSetup, NoMemory>
+    requires types { AreNumbered types.now }
+    requires declarations { declarations_of declarations.now ≡ machine_declarations m.now }
+    ensures { IfOk result (λ table. table ≡ table_setup (trees_of types.now) m.now sizes.now number (sort_seen sort)) }
+{
+    let size = table_size(sizes, number, sort)?;
+    table_of_lines(alloc, types, m, size, line_structure(declarations, sort))
+}
+
+fn tables_from<'a>(
+    alloc: Global,
+    types: &TypeNumbers<'a>,
+    m: &'a Machine,
+    declarations: &[Declared<'a>],
+    sizes: &Sizes,
+    sorts: &[TableSort],
+) -> Result<Seq<TableSetup>, NoMemory>
+    requires types { AreNumbered types.now }
+    requires declarations { declarations_of declarations.now ≡ machine_declarations m.now }
+    ensures { IfOk result (λ tables. tables ≡ tables_from (trees_of types.now) m.now sizes.now 0 (map sort_seen sorts.now)) }
+{
+    let mut tables = Seq::new(alloc);
+    for (number, sort) in sorts.iter().enumerate() {
+        let table = table_setup(alloc, types, m, declarations, sizes, number, *sort)?;
+        tables.push(table)?;
+    }
+    Ok(tables)
+}
+
+/// The tables of lines of a machine that declares this, by their numbers.
+pub fn line_tables<'a>(
+    alloc: Global,
+    types: &TypeNumbers<'a>,
+    m: &'a Machine,
+    declarations: &[Declared<'a>],
+    sizes: &Sizes,
+) -> Result<Seq<TableSetup>, NoMemory>
+    requires types { AreNumbered types.now }
+    requires declarations { declarations_of declarations.now ≡ machine_declarations m.now }
+    ensures { IfOk result (λ tables. tables ≡ tables_from (trees_of types.now) m.now sizes.now 0 (tables_of (trees_of types.now) m.now)) }
+{
+    let sorts = tables_of(alloc, types, m, declarations)?;
+    tables_from(alloc, types, m, declarations, sizes, &sorts)
+}

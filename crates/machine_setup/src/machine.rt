@@ -1,0 +1,91 @@
+//! What a machine of a protocol is to its controllers.
+ghost use Rattle.std.specs.Prelude.{◌≡◌, ◌++◌, [], ◌∷◌, IfOk};
+ghost use Rattle.slicc_plan.specs.Declarations.{machine_declarations};
+ghost use Rattle.slicc_plan.specs.Setups.{parameter_table, setup_in, setup_of, tables_from, tables_of};
+ghost use Rattle.declared_types.specs.Lent.{declarations_of};
+ghost use Rattle.type_numbers.specs.Numbered.{AreNumbered, trees_of};
+
+use crate::line_tables::line_tables;
+use crate::parameter_table::parameter_table;
+use crate::states::{default_state, has_sequencer};
+use buffer_setup::buffer_setups;
+use declared_types::Declared;
+use ruby_base::{NoMemory, Seq};
+use ruby_value::{MachineSetup, Sizes, TableSetup};
+use slicc_ast::tree::Machine;
+use slicc_plan::Plan;
+use std::alloc::Global;
+use type_numbers::{TypeNumbers, machine_list, number_types};
+
+fn all_tables<'a>(
+    alloc: Global,
+    types: &TypeNumbers<'a>,
+    number: u16,
+    m: &'a Machine,
+    declarations: &[Declared<'a>],
+    sizes: &Sizes,
+) -> Result<Seq<TableSetup>, NoMemory>
+    requires types { AreNumbered types.now }
+    requires declarations { declarations_of declarations.now ≡ machine_declarations m.now }
+    ensures { IfOk result (λ tables. tables ≡ tables_from (trees_of types.now) m.now sizes.now 0 (tables_of (trees_of types.now) m.now) ++ parameter_table (trees_of types.now) number m.now sizes.now ∷ []) }
+{
+    let mut tables = line_tables(alloc, types, m, declarations, sizes)?;
+    let parameters = parameter_table(alloc, types, number, m, sizes)?;
+    tables.push(parameters)?;
+    Ok(tables)
+}
+
+fn setup_with<'a>(
+    alloc: Global,
+    types: &TypeNumbers<'a>,
+    number: u16,
+    m: &'a Machine,
+    declarations: &[Declared<'a>],
+    sizes: &Sizes,
+) -> Result<MachineSetup, NoMemory>
+    requires types { AreNumbered types.now }
+    requires declarations { declarations_of declarations.now ≡ machine_declarations m.now }
+    ensures { IfOk result (λ setup. setup ≡ setup_in (trees_of types.now) number sizes.now m.now) }
+{
+    let default_state = default_state(m, declarations)?;
+    let has_sequencer = has_sequencer(types, m, declarations);
+    let buffers = buffer_setups(alloc, types, number, m, declarations)?;
+    let tables = all_tables(alloc, types, number, m, declarations, sizes)?;
+    Ok(MachineSetup {
+        tables,
+        buffers,
+        default_state,
+        has_sequencer,
+    })
+}
+
+fn setup_in<'a>(
+    alloc: Global,
+    types: &TypeNumbers<'a>,
+    number: u16,
+    m: &'a Machine,
+    sizes: &Sizes,
+) -> Result<MachineSetup, NoMemory>
+    requires { AreNumbered types.now }
+    ensures { IfOk result (λ setup. setup ≡ setup_in (trees_of types.now) number sizes.now m.now) }
+{
+    let declarations = machine_list(alloc, m)?;
+    setup_with(alloc, types, number, m, &declarations, sizes)
+}
+
+/// What the machine of this number is to its controllers, with the sizes that a topology sets; `None` where the protocol has
+/// fewer machines. Numbers of machines count from 0 in the order of reading and of the text.
+pub fn setup(
+    alloc: Global,
+    plan: &Plan,
+    machine: u16,
+    sizes: &Sizes,
+) -> Result<Option<MachineSetup>, NoMemory>
+    ensures { IfOk result (λ setup. setup ≡ setup_of plan.now machine sizes.now) }
+{
+    let Some(m) = plan.machine(machine) else {
+        return Ok(None);
+    };
+    let types = number_types(alloc, plan.trees())?;
+    Ok(Some(setup_in(alloc, &types, machine, m, sizes)?))
+}

@@ -1,0 +1,2 @@
+pub mod DefaultWords
+pub mod Lists

@@ -1,0 +1,57 @@
+-- Lists of what is seen, and the parts of what a machine declares.
+use Rattle.std.proofs.Common.{◌≡◌, ◌++◌, ◌+◌, Bool, not, cond, Option, List, [], ◌∷◌, filter, flat_map, map, refl, sym, ◌∙◌, ap}
+use Rattle.std.specs.Prelude.{find, position}
+use Rattle.std.specs.Option.{option_or}
+use Rattle.std.proofs.lemmas.List.Folds.{find-append}
+use Rattle.std.specs.List.{prefix_len}
+use Rattle.std.proofs.lemmas.List.Elements.{filter-append}
+use Rattle.std.proofs.lemmas.List.{length-map, map-append}
+use Rattle.slicc_ast.specs.declared.tree.machine.Machine.{Machine}
+use Rattle.slicc_ast.specs.declared.tree.machine.Parameter.{Parameter}
+use Rattle.slicc_plan.specs.Declarations.{machine, named_declarations, parameter, within}
+use Rattle.slicc_plan.specs.TypeNumbers.{made_in, made_with_its_own}
+use Rattle.type_numbers.specs.declared.numbering.TypeSort.{TypeSort}
+use Rattle.type_numbers.specs.declared.numbering.TypeSort.TheVariants.{Enumeration, Structure}
+use Rattle.type_numbers.specs.Numbered.{has_sort}
+
+prefix_len_map : {X Y : Type 0} (p : Y → Bool) (f : X → Y) (xs : List X) → prefix_len p (map f xs) ≡ prefix_len (λ x. p (f x)) xs
+prefix_len_map p f [] = refl
+prefix_len_map p f (x ∷ xs) = ap (λ n. cond (p (f x)) (1 + n) 0) (prefix_len_map p f xs)
+
+pub position_map : {X Y : Type 0} (p : Y → Bool) (f : X → Y) (xs : List X) → position p (map f xs) ≡ position (λ x. p (f x)) xs
+position_map p f xs = rw (prefix_len_map (λ y. not (p y)) f xs, length-map xs f) refl
+
+-- what is found of each list apart
+pub filter_flat_map : {X Y : Type 0} (p : Y → Bool) (f : X → List Y) (xs : List X) → filter p (flat_map f xs) ≡ flat_map (λ x. filter p (f x)) xs
+filter_flat_map p f [] = refl
+filter_flat_map p f (x ∷ xs) = filter-append p (f x) (flat_map f xs) ∙ ap (λ ys. filter p (f x) ++ ys) (filter_flat_map p f xs)
+
+-- no parameter declares a type
+no_parameter : (sort : TypeSort) (m : Machine) (ps : List Parameter) → filter (has_sort sort) (map (made_in (within m)) (map parameter ps)) ≡ []
+no_parameter sort m [] = refl
+no_parameter Enumeration m (p ∷ ps) = no_parameter Enumeration m ps
+no_parameter Structure m (p ∷ ps) = no_parameter Structure m ps
+
+map_flat_map : {X Y Z : Type 0} (g : Y → Z) (f : X → List Y) (xs : List X) → map g (flat_map f xs) ≡ flat_map (λ x. map g (f x)) xs
+map_flat_map g f [] = refl
+map_flat_map g f (x ∷ xs) = map-append g (f x) (flat_map f xs) ∙ ap (λ ys. map g (f x) ++ ys) (map_flat_map g f xs)
+
+its_own : (sort : TypeSort) (m : Machine) → filter (has_sort sort) (map (made_in (within m)) (map parameter m.parameters.items ++ flat_map named_declarations m.declarations.items)) ≡ flat_map (λ d. filter (has_sort sort) (map (made_in (within m)) (named_declarations d))) m.declarations.items
+its_own sort m =
+    ap (filter (has_sort sort)) (map-append (made_in (within m)) (map parameter m.parameters.items) (flat_map named_declarations m.declarations.items))
+    ∙ filter-append (has_sort sort) (map (made_in (within m)) (map parameter m.parameters.items)) (map (made_in (within m)) (flat_map named_declarations m.declarations.items))
+    ∙ ap (λ ys. ys ++ filter (has_sort sort) (map (made_in (within m)) (flat_map named_declarations m.declarations.items))) (no_parameter sort m m.parameters.items)
+    ∙ ap (filter (has_sort sort)) (map_flat_map (made_in (within m)) named_declarations m.declarations.items)
+    ∙ filter_flat_map (has_sort sort) (λ d. map (made_in (within m)) (named_declarations d)) m.declarations.items
+
+-- of what a machine declares only its declarations behind the parameters may be types
+pub machine_types : (sort : TypeSort) (m : Machine) → filter (has_sort sort) (made_with_its_own (machine m)) ≡ flat_map (λ d. filter (has_sort sort) (map (made_in (within m)) (named_declarations d))) m.declarations.items
+machine_types Enumeration m = its_own Enumeration m
+machine_types Structure m = its_own Structure m
+
+-- what is put into an empty list
+pub from_nothing : {X Y : Type 0} (f : X → Y) (new : List Y) (old : List X) (more : List Y) → old ≡ [] → new ≡ map f old ++ more → new ≡ more
+from_nothing f new old more e g = g ∙ ap (λ xs. map f xs ++ more) e
+
+pub found_first : {X : Type 0} (p : X → Bool) (xs ys : List X) (o : Option X) → o ≡ find p xs → option_or o (find p ys) ≡ find p (xs ++ ys)
+found_first p xs ys o e = ap (λ q. option_or q (find p ys)) e ∙ sym (find-append p xs ys)

@@ -1,0 +1,16 @@
+use Rattle.std.proofs.Common.{ap, sym, ◌∙◌}
+use Rattle.slicc_plan.specs.InitialFields.{member_written}
+use Rattle.declared_types.specs.declared.lent.KnownType.{KnownType}
+use Rattle.declared_types.specs.Lent.{type_of}
+use Rattle.type_numbers.specs.Numbered.{trees_of}
+use Rattle.type_numbers.proofs.members.member_written.Goals as goal
+
+pub returns-in-Enumeration : goal.returns-in-Enumeration
+returns-in-Enumeration c =
+    c.symbol_number.ensures
+    ∙ ap (λ (t : KnownType). member_written (trees_of c.args.types.now) c.args.text.now (type_of t) c.args.value.now) (sym c.in-Enumeration.is)
+
+pub returns-in-States : goal.returns-in-States
+returns-in-States c =
+    c.state_number.ensures
+    ∙ ap (λ (t : KnownType). member_written (trees_of c.args.types.now) c.args.text.now (type_of t) c.args.value.now) (sym c.in-States.is)

@@ -1,0 +1,30 @@
+-- Declarations of types, as the definitions of a protocol's meaning see them, and the lists by which types are numbered.
+use Rattle.std.specs.Prelude.{◌≡◌, Bool, List, map}
+use Rattle.slicc_ast.specs.declared.tree.item.Tree.{Tree}
+use Rattle.slicc_plan.specs.Declarations.{Declaration, machines_of}
+use Rattle.slicc_plan.specs.Limits.{is_counted_structure, is_enumeration}
+use Rattle.slicc_plan.specs.TypeNumbers.{ScopedDeclaration, declared_enumerations, declared_structures}
+use Rattle.declared_types.specs.Lent.{declaration_of, scope_of}
+use Rattle.type_numbers.specs.declared.numbering.Scoped.{Scoped}
+use Rattle.type_numbers.specs.declared.numbering.TypeNumbers.{TypeNumbers}
+use Rattle.type_numbers.specs.declared.numbering.TypeSort.{TypeSort}
+use Rattle.type_numbers.specs.declared.numbering.TypeSort.TheVariants.{Enumeration, Structure}
+
+abbrev pub scoped_of : Scoped → ScopedDeclaration
+scoped_of s = record { scope = scope_of s.scope; declaration = declaration_of s.declaration }
+
+abbrev pub is_of_sort : TypeSort → Declaration → Bool
+is_of_sort Enumeration d = is_enumeration d
+is_of_sort Structure d = is_counted_structure d
+
+abbrev pub has_sort : TypeSort → ScopedDeclaration → Bool
+has_sort sort d = is_of_sort sort d.declaration
+
+-- the trees that the types are of
+abbrev pub trees_of : TypeNumbers → List Tree
+trees_of types = types.scopes.trees.now
+
+pub record AreNumbered (types : TypeNumbers) : Type 0 where
+  pub machines : map (λ m. m.now) types.machines ≡ machines_of (trees_of types)
+  pub enumerations : map scoped_of types.enumerations ≡ declared_enumerations (trees_of types)
+  pub structures : map scoped_of types.structures ≡ declared_structures (trees_of types)

@@ -1,0 +1,167 @@
+//! The enumerations and structures of a protocol, in the order of their numbers.
+ghost use Rattle.std.specs.Prelude.{◌≡◌, ◌++◌, [], ◌∷◌, IfOk, OnOk, filter, flat_map, map};
+ghost use Rattle.slicc_plan.specs.Declarations.{machine, named_declarations, within};
+ghost use Rattle.slicc_plan.specs.TypeNumbers.{made_in, made_with_its_own, scoped_declarations};
+ghost use Rattle.declared_types.specs.Lent.{declaration_of, declarations_of, scope_of};
+ghost use Rattle.type_numbers.specs.Numbered.{AreNumbered, has_sort, is_of_sort, scoped_of, trees_of};
+
+use crate::declarations::declared;
+use declared_types::{Declared, Scope, Scopes, is_external};
+use machine_table::machines;
+use ruby_base::{NoMemory, Seq};
+use slicc_ast::tree::{Decl, Machine, Tree};
+use std::alloc::Global;
+
+/// The sorts of types that are numbered. State declarations are enumerations too.
+#[derive(Clone, Copy)]
+pub enum TypeSort {
+    Enumeration,
+    Structure,
+}
+
+/// A declaration, and where it is made.
+#[derive(Clone, Copy)]
+pub struct Scoped<'a> {
+    pub scope: Scope<'a>,
+    pub declaration: Declared<'a>,
+}
+
+/// The types of a protocol, in the order of their numbers.
+#[derive(Drop)]
+pub struct TypeNumbers<'a> {
+    pub scopes: Scopes<'a>,
+    /// The machines, in their order.
+    pub machines: Seq<&'a Machine>,
+    /// The enumerations and state declarations.
+    pub enumerations: Seq<Scoped<'a>>,
+    /// The structures that aren't external.
+    pub structures: Seq<Scoped<'a>>,
+}
+
+fn is_of_sort(sort: TypeSort, d: Declared<'_>) -> bool
+    ensures { result ≡ is_of_sort sort (declaration_of d.entry) }
+{
+    match sort {
+        TypeSort::Enumeration => matches!(d, Declared::Enumeration(_) | Declared::States(_)),
+        TypeSort::Structure => match d {
+            Declared::Structure(s) => !is_external(s),
+            _ => false,
+        },
+    }
+}
+
+fn add_if<'a>(
+    list: &mut Seq<Scoped<'a>>,
+    sort: TypeSort,
+    scope: Scope<'a>,
+    declaration: Declared<'a>,
+) -> Result<(), NoMemory>
+    ensures { OnOk result (map scoped_of list.new ≡ map scoped_of list.old ++ filter (has_sort sort) (made_in (scope_of scope.entry) (declaration_of declaration.entry) ∷ [])) }
+{
+    if is_of_sort(sort, declaration) {
+        return list.push(Scoped { scope, declaration });
+    }
+    Ok(())
+}
+
+fn add_named<'a>(
+    list: &mut Seq<Scoped<'a>>,
+    sort: TypeSort,
+    m: &'a Machine,
+    d: &'a Decl,
+) -> Result<(), NoMemory>
+    ensures { OnOk result (map scoped_of list.new ≡ map scoped_of list.old ++ filter (has_sort sort) (map (made_in (within m.now)) (named_declarations d.now))) }
+{
+    match declared(d) {
+        None => Ok(()),
+        Some(found) => add_if(list, sort, Scope::Within(m), found),
+    }
+}
+
+fn add_all_named<'a>(
+    list: &mut Seq<Scoped<'a>>,
+    sort: TypeSort,
+    m: &'a Machine,
+    declarations: &'a [Decl],
+) -> Result<(), NoMemory>
+    ensures { OnOk result (map scoped_of list.new ≡ map scoped_of list.old ++ flat_map (λ d. filter (has_sort sort) (map (made_in (within m.now)) (named_declarations d))) declarations.now) }
+{
+    for d in declarations {
+        add_named(list, sort, m, d)?;
+    }
+    Ok(())
+}
+
+fn add_machine<'a>(
+    list: &mut Seq<Scoped<'a>>,
+    sort: TypeSort,
+    m: &'a Machine,
+) -> Result<(), NoMemory>
+    ensures { OnOk result (map scoped_of list.new ≡ map scoped_of list.old ++ filter (has_sort sort) (made_with_its_own (machine m.now))) }
+{
+    add_all_named(list, sort, m, &m.declarations)
+}
+
+fn add_with_its_own<'a>(
+    list: &mut Seq<Scoped<'a>>,
+    sort: TypeSort,
+    d: Declared<'a>,
+) -> Result<(), NoMemory>
+    ensures { OnOk result (map scoped_of list.new ≡ map scoped_of list.old ++ filter (has_sort sort) (made_with_its_own (declaration_of d.entry))) }
+{
+    match d {
+        Declared::Machine(m) => add_machine(list, sort, m),
+        Declared::Enumeration(_)
+        | Declared::Structure(_)
+        | Declared::States(_)
+        | Declared::Parameter(_)
+        | Declared::Object(_)
+        | Declared::OutPort(_)
+        | Declared::InPort(_)
+        | Declared::Action(_)
+        | Declared::Function(_) => add_if(list, sort, Scope::Everywhere, d),
+    }
+}
+
+fn add_all<'a>(
+    list: &mut Seq<Scoped<'a>>,
+    sort: TypeSort,
+    declarations: &[Declared<'a>],
+) -> Result<(), NoMemory>
+    ensures { OnOk result (map scoped_of list.new ≡ map scoped_of list.old ++ flat_map (λ d. filter (has_sort sort) (made_with_its_own d)) (declarations_of declarations.now)) }
+{
+    for d in declarations {
+        add_with_its_own(list, sort, *d)?;
+    }
+    Ok(())
+}
+
+// The declarations of types of a sort, in the order of their numbers.
+fn types_of_sort<'a>(
+    alloc: Global,
+    scopes: &Scopes<'a>,
+    sort: TypeSort,
+) -> Result<Seq<Scoped<'a>>, NoMemory>
+    ensures { IfOk result (λ list. map scoped_of list ≡ filter (has_sort sort) (scoped_declarations scopes.now.trees.now)) }
+{
+    let mut list = Seq::new(alloc);
+    add_all(&mut list, sort, scopes.declarations(0))?;
+    Ok(list)
+}
+
+/// The types of the protocol with these trees.
+pub fn number_types<'a>(alloc: Global, trees: &'a [Tree]) -> Result<TypeNumbers<'a>, NoMemory>
+    ensures trees { IfOk result (λ types. trees_of types ≡ trees.now) }
+    ensures numbered { IfOk result (λ types. AreNumbered types) }
+{
+    let scopes = Scopes::new(alloc, trees)?;
+    let enumerations = types_of_sort(alloc, &scopes, TypeSort::Enumeration)?;
+    let structures = types_of_sort(alloc, &scopes, TypeSort::Structure)?;
+    let machines = machines(alloc, trees)?;
+    Ok(TypeNumbers {
+        scopes,
+        machines,
+        enumerations,
+        structures,
+    })
+}
