@@ -1,6 +1,6 @@
 ghost use Rattle.std.specs.Prelude.{◌≡◌, is_some};
 ghost use Rattle.std.specs.Borrow.{sem};
-ghost use Rattle.std.specs.Option.{option_copied};
+ghost use Rattle.std.specs.Option.{option_copied, option_copied_mut};
 ghost use Rattle.ctl_store.specs.Kept.{ctl_of, requests_of};
 ghost use Rattle.ctl_store.specs.Lending.{LendsSequencer};
 
@@ -12,6 +12,7 @@ impl Store {
     pub fn sequencer(&mut self) -> Option<&mut Sequencer>
         ensures* lends { sem 𝓛 (LendsSequencer self.entry result) }
         ensures there { is_some result ≡ is_some (ctl_of self.old).sequencer }
+        ensures value { requests_of (option_copied_mut result) ≡ (ctl_of self.old).sequencer }
     {
         self.parts.sequencer.as_mut()
     }
