@@ -6,23 +6,23 @@ use ruby_value::{Block, Fields, Kind, NetDest, Value};
 use std::alloc::Global;
 
 /// The controller's actor number, which has no other beside it.
-pub const ME: u32 = 0;
+pub(crate) const ME: u32 = 0;
 
 /// The buffers from the network, and to it.
-pub const INCOMING: u16 = 0;
+pub(crate) const INCOMING: u16 = 0;
 
-pub const OUTGOING: u16 = 1;
+pub(crate) const OUTGOING: u16 = 1;
 
 /// The table of lines.
-pub const LINES: u16 = 0;
+pub(crate) const LINES: u16 = 0;
 
 /// The fields of a line that a scan writes.
-pub const REQUESTOR: u16 = 2;
+pub(crate) const REQUESTOR: u16 = 2;
 
-pub const PENDING: u16 = 3;
+pub(crate) const PENDING: u16 = 3;
 
 /// The fields of a message: a byte address, what it is, who asks, for whom it is, and a block.
-pub fn message(alloc: Global, line: u64, requestor: u32) -> Result<Fields, NoMemory> {
+pub(crate) fn message(alloc: Global, line: u64, requestor: u32) -> Result<Fields, NoMemory> {
     let mut named = NetDest::new(alloc);
     named.add(ME)?;
     let mut values = Vec::with_capacity(alloc, 5)?;
@@ -79,7 +79,7 @@ fn parameters(alloc: Global) -> Result<TableSetup, NoMemory> {
 }
 
 /// The directory's machine.
-pub fn directory(alloc: Global) -> Result<MachineSetup, NoMemory> {
+pub(crate) fn directory(alloc: Global) -> Result<MachineSetup, NoMemory> {
     let mut tables = Seq::new(alloc);
     tables.push(lines(alloc)?)?;
     tables.push(parameters(alloc)?)?;
@@ -120,7 +120,7 @@ fn ordered(alloc: Global) -> Result<Seq<bool>, NoMemory> {
 }
 
 /// The routes: what the controller sends on network 1, which is ordered, comes to itself.
-pub fn routes(alloc: Global) -> Result<Routes, NoMemory> {
+pub(crate) fn routes(alloc: Global) -> Result<Routes, NoMemory> {
     let mut paths = Seq::new(alloc);
     paths.push(Seq::copied(alloc, &[0])?)?;
     Ok(Routes {

@@ -130,7 +130,7 @@ fn scan(alloc: Global, store: &mut Store, routes: &Routes, now: u64) -> Result<(
 
 /// Makes so many scans, and answers how many it made.
 #[tactic(auto, using(crate::proofs::Going::opened))]
-pub fn run(
+pub(crate) fn run(
     alloc: Global,
     machine: MachineSetup,
     routes: &Routes,
