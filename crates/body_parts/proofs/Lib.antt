@@ -1,2 +1,3 @@
 pub mod FirstNames
 pub mod PartLists
+pub mod PartsOfBoxes

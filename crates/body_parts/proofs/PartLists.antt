@@ -47,15 +47,15 @@ abbrev pub optional_block_parts : Names → Option Block → List Part
 optional_block_parts names None = []
 optional_block_parts names (Some b) = block_parts names b
 
-pub if_rows : (names : Names) (i : If) → if_parts names i ≡ expr_parts names (out-If i).condition ++ (block_parts names (out-If i).then ++ (flat_map (else_if_parts names) (out-If i).others.items ++ optional_block_parts names (out-If i).otherwise))
+pub if_rows : (names : Names) (i : If) → if_parts names i ≡ expr_parts names (out-If i).condition ++ (block_parts names (out-If i).then ++ (flat_map (else_if_parts names) (out-If i).others ++ optional_block_parts names (out-If i).otherwise))
 if_rows names (If' condition shape row block n others None' span) = search (rules, the_lemmas, stmt_rows, others_rows, append-nil)
 if_rows names (If' condition shape row block n others (Some' s r b) span) = search (rules, the_lemmas, stmt_rows, others_rows, append-nil)
 
-pub if_some : (names : Names) (i : If) (b : Block) → (out-If i).otherwise ≡ Some b → if_parts names i ≡ expr_parts names (out-If i).condition ++ (block_parts names (out-If i).then ++ (flat_map (else_if_parts names) (out-If i).others.items ++ block_parts names b))
-if_some names i b is = if_rows names i ∙ ap (λ o. expr_parts names (out-If i).condition ++ (block_parts names (out-If i).then ++ (flat_map (else_if_parts names) (out-If i).others.items ++ optional_block_parts names o))) is
+pub if_some : (names : Names) (i : If) (b : Block) → (out-If i).otherwise ≡ Some b → if_parts names i ≡ expr_parts names (out-If i).condition ++ (block_parts names (out-If i).then ++ (flat_map (else_if_parts names) (out-If i).others ++ block_parts names b))
+if_some names i b is = if_rows names i ∙ ap (λ o. expr_parts names (out-If i).condition ++ (block_parts names (out-If i).then ++ (flat_map (else_if_parts names) (out-If i).others ++ optional_block_parts names o))) is
 
-pub if_none : (names : Names) (i : If) → (out-If i).otherwise ≡ None → if_parts names i ≡ expr_parts names (out-If i).condition ++ (block_parts names (out-If i).then ++ (flat_map (else_if_parts names) (out-If i).others.items ++ []))
-if_none names i is = if_rows names i ∙ ap (λ o. expr_parts names (out-If i).condition ++ (block_parts names (out-If i).then ++ (flat_map (else_if_parts names) (out-If i).others.items ++ optional_block_parts names o))) is
+pub if_none : (names : Names) (i : If) → (out-If i).otherwise ≡ None → if_parts names i ≡ expr_parts names (out-If i).condition ++ (block_parts names (out-If i).then ++ (flat_map (else_if_parts names) (out-If i).others ++ []))
+if_none names i is = if_rows names i ∙ ap (λ o. expr_parts names (out-If i).condition ++ (block_parts names (out-If i).then ++ (flat_map (else_if_parts names) (out-If i).others ++ optional_block_parts names o))) is
 
 -- parts that were added one after another
 pub added_both : {X : Type 0} (old a b one two : List X) → one ≡ old ++ a → two ≡ one ++ b → two ≡ old ++ (a ++ b)

@@ -37,7 +37,7 @@ pub fn name_in(e: &Expr) -> Option<&[u8]>
 {
     match e {
         Expr::Variable(name) => Some(name.text.as_slice()),
-        Expr::Group(inner, _) => name_in(inner),
+        Expr::Group(inner, _) => name_in(inner.get()),
         _ => None,
     }
 }
@@ -49,7 +49,7 @@ pub fn add_expr(parts: &mut Seq<Part>, names: &Names, e: &Expr) -> Result<(), No
 {
     match e {
         Expr::Operation { first, others, .. } => {
-            add_expr(parts, names, first)?;
+            add_expr(parts, names, first.get())?;
             add_operands(parts, names, others)
         }
         Expr::Not(inner, _)
@@ -57,15 +57,15 @@ pub fn add_expr(parts: &mut Seq<Part>, names: &Names, e: &Expr) -> Result<(), No
         | Expr::IsValid(inner, _)
         | Expr::IsInvalid(inner, _) => {
             parts.push(Part::Plain)?;
-            add_expr(parts, names, inner)
+            add_expr(parts, names, inner.get())
         }
         Expr::Postfix {
             value,
             suffixes,
             span,
         } => {
-            add_expr(parts, names, value)?;
-            add_suffixes(parts, names, name_in(value), *span, suffixes)
+            add_expr(parts, names, value.get())?;
+            add_suffixes(parts, names, name_in(value.get()), *span, suffixes)
         }
         Expr::Call {
             name,
@@ -77,9 +77,9 @@ pub fn add_expr(parts: &mut Seq<Part>, names: &Names, e: &Expr) -> Result<(), No
         }
         Expr::Cast { value, .. } => {
             parts.push(Part::Plain)?;
-            add_expr(parts, names, value)
+            add_expr(parts, names, value.get())
         }
-        Expr::Group(inner, _) => add_expr(parts, names, inner),
+        Expr::Group(inner, _) => add_expr(parts, names, inner.get()),
         Expr::Number(..)
         | Expr::True(_)
         | Expr::False(_)
@@ -157,9 +157,9 @@ fn add_suffix(
 
 #[cycle(expression_parts)]
 fn add_args(parts: &mut Seq<Part>, names: &Names, a: &Args) -> Result<(), NoMemory>
-    ensures { OnOk result (parts.new ≡ parts.old ++ flat_map (expr_parts names.now) a.now.items.items) }
+    ensures { OnOk result (parts.new ≡ parts.old ++ flat_map (expr_parts names.now) a.now.items) }
 {
-    for item in &a.items {
+    for item in a.items.as_slice() {
         add_expr(parts, names, item)?;
     }
     Ok(())

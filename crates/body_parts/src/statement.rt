@@ -39,7 +39,7 @@ fn check_of(names: &Names, table: &[u8]) -> Part
 pub fn add_block(parts: &mut Seq<Part>, names: &Names, b: &Block) -> Result<(), NoMemory>
     ensures { OnOk result (parts.new ≡ parts.old ++ block_parts names.now b.now) }
 {
-    for statement in &b.statements {
+    for statement in b.statements.as_slice() {
         add_stmt(parts, names, statement)?;
     }
     Ok(())

@@ -91,7 +91,7 @@ pub fn functions<'a>(alloc: Global, m: &'a Machine) -> Result<(NameIndex, Seq<Le
 {
     let mut names = NameIndex::new(alloc);
     let mut list = Seq::new(alloc);
-    for d in &m.declarations {
+    for d in m.declarations.as_slice() {
         add_first(&mut names, &mut list, function_in(d))?;
     }
     Ok((names, list))
@@ -104,7 +104,7 @@ pub fn actions<'a>(alloc: Global, m: &'a Machine) -> Result<(NameIndex, Seq<Lent
 {
     let mut names = NameIndex::new(alloc);
     let mut list = Seq::new(alloc);
-    for d in &m.declarations {
+    for d in m.declarations.as_slice() {
         add_first(&mut names, &mut list, action_in(d))?;
     }
     Ok((names, list))
@@ -115,7 +115,7 @@ pub fn ports<'a>(alloc: Global, m: &'a Machine) -> Result<Seq<Lent<'a>>, NoMemor
     ensures { IfOk result (λ r. written_list r ≡ written_ports m.now) }
 {
     let mut list = Seq::new(alloc);
-    for d in &m.declarations {
+    for d in m.declarations.as_slice() {
         if let Some(w) = port_in(d) {
             list.push(w)?;
         }

@@ -15,10 +15,10 @@ events_behind : (ps : List Parameter) (ds : List Declaration) → find is_events
 events_behind [] ds = refl
 events_behind (p ∷ ps) ds = events_behind ps ds
 
-pub states_known : (m : Machine) (o : Option Declaration) → o ≡ find is_states (flat_map named_declarations m.declarations.items) → own_type m o ≡ states_type m
+pub states_known : (m : Machine) (o : Option Declaration) → o ≡ find is_states (flat_map named_declarations m.declarations) → own_type m o ≡ states_type m
 states_known m o e =
-    ap (own_type m) (e ∙ sym (states_behind m.parameters.items (flat_map named_declarations m.declarations.items)))
+    ap (own_type m) (e ∙ sym (states_behind m.parameters (flat_map named_declarations m.declarations)))
 
-pub events_known : (m : Machine) (o : Option Declaration) → o ≡ find is_events (flat_map named_declarations m.declarations.items) → own_type m o ≡ events_type m
+pub events_known : (m : Machine) (o : Option Declaration) → o ≡ find is_events (flat_map named_declarations m.declarations) → own_type m o ≡ events_type m
 events_known m o e =
-    ap (own_type m) (e ∙ sym (events_behind m.parameters.items (flat_map named_declarations m.declarations.items)))
+    ap (own_type m) (e ∙ sym (events_behind m.parameters (flat_map named_declarations m.declarations)))

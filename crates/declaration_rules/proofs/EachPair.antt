@@ -27,5 +27,5 @@ pub each_pair : (key : List ℕ) (is_right : PairValue → Bool) (ps : List Pair
 each_pair key is_right [] = refl
 each_pair key is_right (p ∷ ps) = pair_step is_right (attribute_in key p) (filter_map (attribute_in key) ps) (flat_map (bad_pair key is_right) ps) (each_pair key is_right ps)
 
-pub by_each_pair : (key : List ℕ) (is_right : PairValue → Bool) (ps : List Pair) (pairs : Pairs) → ps ≡ pairs.items.items → flat_map (bad_pair key is_right) ps ≡ bad_attributes key is_right pairs
-by_each_pair key is_right ps pairs e = ap (flat_map (bad_pair key is_right)) e ∙ sym (each_pair key is_right pairs.items.items)
+pub by_each_pair : (key : List ℕ) (is_right : PairValue → Bool) (ps : List Pair) (pairs : Pairs) → ps ≡ pairs.items → flat_map (bad_pair key is_right) ps ≡ bad_attributes key is_right pairs
+by_each_pair key is_right ps pairs e = ap (flat_map (bad_pair key is_right)) e ∙ sym (each_pair key is_right pairs.items)

@@ -62,7 +62,7 @@ pub fn first_in_fields<R: FieldRule>(
     number: usize,
     s: &Structure,
 ) -> Option<Broken>
-    ensures { result ≡ first_after first (flat_map (R.broken_at scopes.now.trees.now) (cond (is_external s.now) [] (flat_map (field_of (scope_at scopes.now.trees.now number)) s.now.members.items))) }
+    ensures { result ≡ first_after first (flat_map (R.broken_at scopes.now.trees.now) (cond (is_external s.now) [] (flat_map (field_of (scope_at scopes.now.trees.now number)) s.now.members))) }
 {
     if is_external(s) {
         first

@@ -140,7 +140,7 @@ fn judge_structure(
     number: usize,
     s: &Structure,
 ) -> Option<Broken>
-    ensures { result ≡ first_after first (unknown_uses scopes.now.trees.now (scope_at scopes.now.trees.now number) (cond (is_external s.now) [] (flat_map member_uses s.now.members.items))) }
+    ensures { result ≡ first_after first (unknown_uses scopes.now.trees.now (scope_at scopes.now.trees.now number) (cond (is_external s.now) [] (flat_map member_uses s.now.members))) }
 {
     if is_external(s) {
         first

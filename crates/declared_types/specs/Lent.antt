@@ -33,9 +33,9 @@ scope_of (Within m) = plan.within m.now
 abbrev pub type_of : KnownType → types.KnownType
 type_of (BuiltIn b) = types.built_in b
 type_of (EnumerationType scope e) =
-    types.enumerated (scope_of scope) e.now.name.text (map (λ (s : Symbol). s.name.text) e.now.members.items)
+    types.enumerated (scope_of scope) e.now.name.text (map (λ (s : Symbol). s.name.text) e.now.members)
 type_of (StatesType scope d) =
-    types.enumerated (scope_of scope) d.now.name.text (map (λ (s : State). s.name.text) d.now.members.items)
+    types.enumerated (scope_of scope) d.now.name.text (map (λ (s : State). s.name.text) d.now.members)
 type_of (StructureType scope s) = types.structured (scope_of scope) s.now
 
 -- the name that is declared

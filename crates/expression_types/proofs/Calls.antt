@@ -123,7 +123,7 @@ named_known_call env at n (Some c) gs = built_in_known env at (plain nothing [])
 declared_known : (env : Environment) (at : Span) (n : Name) (d : Option Declaration) (gs : List Given) → found_of (declared_call env at n d gs) ≡ found_of (declared_call env at n d (all_known gs))
 declared_known env at n None gs = named_known_call env at n (plain_call env.trees n.text) gs
 declared_known env at n (Some (function (Plain kind name formals attributes (Some body) span))) gs =
-    function_known env at kind.text formals.items.items gs
+    function_known env at kind.text formals.items gs
 declared_known env at n (Some (function (Plain kind name formals attributes None span))) gs =
     named_known_call env at n (plain_call env.trees n.text) gs
 declared_known env at n (Some (function (Skipped s))) gs = not_called_known [] n gs

@@ -92,3 +92,7 @@ cast_found env n v w g k f t same is_v is_k is_g is_t =
     is_t ∙ ap (λ h. found_of (cast_to env n h (type_named env n.text))) is_g
     ∙ by_known (λ x. found_of (cast_to env n (given_at (span_of w) x) (type_named env n.text))) (cast_known env n (type_named env n.text) (span_of w)) k (typed env w) is_k
     ∙ ap (λ x. found_of (cast_to env n (given_at (span_of x) (typed env x)) (type_named env n.text))) is_v ∙ ap found_of (sym same)
+
+pub group_found : (env : Environment) (e v w : Expr) (t : call.Typed) → typed env e ≡ typed env v → w ≡ v → found_of t ≡ found_of (typed env w) → found_of t ≡ found_of (typed env e)
+group_found env e v w t same is_v is_t =
+    is_t ∙ ap (λ x. found_of (typed env x)) is_v ∙ ap found_of (sym same)

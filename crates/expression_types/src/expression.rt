@@ -62,10 +62,12 @@ pub fn typed<'a>(
 {
     match e {
         Expr::Operation { first, others, .. } => {
+            let first = first.get();
             let left = typed(alloc, env, first)?;
             operands(alloc, env, left, others, first)
         }
         Expr::Not(operand, _) => {
+            let operand = operand.get();
             let t = typed(alloc, env, operand)?;
             Ok(alone(
                 env,
@@ -76,6 +78,7 @@ pub fn typed<'a>(
             ))
         }
         Expr::Negate(operand, _) => {
+            let operand = operand.get();
             let t = typed(alloc, env, operand)?;
             Ok(alone(
                 env,
@@ -90,7 +93,7 @@ pub fn typed<'a>(
             suffixes,
             span,
         } => {
-            let left = typed(alloc, env, value)?;
+            let left = typed(alloc, env, value.get())?;
             with_suffixes(alloc, env, *span, left, suffixes)
         }
         Expr::Number(..) => Ok(value_of(BuiltInType::Int)),
@@ -113,14 +116,16 @@ pub fn typed<'a>(
             ))
         }
         Expr::IsValid(operand, _) | Expr::IsInvalid(operand, _) => {
+            let operand = operand.get();
             let t = typed(alloc, env, operand)?;
             Ok(alone(env, Wanted::AnyLine, BuiltInType::Bool, operand, t))
         }
         Expr::Cast { target, value, .. } => {
+            let value = value.get();
             let t = typed(alloc, env, value)?;
             Ok(cast_to(env, target, given_at(span_of(value), t)))
         }
-        Expr::Group(inner, _) => typed(alloc, env, inner),
+        Expr::Group(inner, _) => typed(alloc, env, inner.get()),
     }
 }
 

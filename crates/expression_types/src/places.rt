@@ -5,6 +5,7 @@ ghost use Rattle.slicc_plan.specs.ExpressionTypes.{span_of as span_in};
 use slicc_ast::tree::{Expr, Span};
 
 /// The place of an expression.
+#[tactic(auto, using(crate::proofs::Boxes::span_of_boxes))]
 pub fn span_of(e: &Expr) -> Span
     ensures { result ≡ span_in e.now }
 {
@@ -12,8 +13,8 @@ pub fn span_of(e: &Expr) -> Span
         Expr::Operation { span, .. }
         | Expr::Postfix { span, .. }
         | Expr::Member { span, .. }
-        | Expr::Call { span, .. }
-        | Expr::Cast { span, .. } => *span,
+        | Expr::Call { span, .. } => *span,
+        Expr::Cast { span, .. } => *span,
         Expr::Not(_, span)
         | Expr::Negate(_, span)
         | Expr::IsValid(_, span)

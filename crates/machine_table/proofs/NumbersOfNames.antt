@@ -139,6 +139,6 @@ written_same parts m states events actions = λ i. map (λ t. one t i) (transiti
       states = each_once (filter_map (λ (n : Name). states n.text i) (names_in t.states));
       events = each_once (filter_map (λ (n : Name). events n.text i) (names_in t.events));
       next = next_same (found_by parts.states) m states t.next i;
-      actions = filter_map (λ (n : Name). actions n.text i) t.actions.items;
+      actions = filter_map (λ (n : Name). actions n.text i) t.actions;
       span = t.span;
     }

@@ -54,7 +54,7 @@ written_by states events actions t =
       states = each_once (filter_map (found_name states) (names_in t.states));
       events = each_once (filter_map (found_name events) (names_in t.events));
       next = found_next states t.next;
-      actions = filter_map (found_name actions) t.actions.items;
+      actions = filter_map (found_name actions) t.actions;
       span = t.span;
     }
 

@@ -27,7 +27,7 @@ AreTablesOf trees tables =
 
 -- the machines of a file
 abbrev pub machines_in : Tree → List Machine
-machines_in t = flat_map machine_in (flat_map item_declarations t.items.items)
+machines_in t = flat_map machine_in (flat_map item_declarations t.items)
 
 -- A table has a place for each pair of its machine, with a row there or none.
 

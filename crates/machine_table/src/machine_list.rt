@@ -11,7 +11,7 @@ use std::alloc::Global;
 fn add_machines<'a>(found: &mut Seq<&'a Machine>, t: &'a Tree) -> Result<(), NoMemory>
     ensures { OnOk result (map (λ m. m.now) found.new ≡ map (λ m. m.now) found.old ++ machines_in t.now) }
 {
-    for item in &t.items {
+    for item in t.items.as_slice() {
         if let Item::Machine(m) = item {
             found.push(m)?;
         }

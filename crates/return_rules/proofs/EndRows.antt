@@ -22,9 +22,9 @@ ending_others n (more_of-ElseIf condition shape inner block more) =
 
 abbrev pub else_ends : Option Block → Bool
 else_ends None = false
-else_ends (Some b) = list_any ends b.statements.items
+else_ends (Some b) = list_any ends b.statements
 
-pub ending_if : (i : If) → if_ends i ≡ (list_any ends (out-If i).then.statements.items && (list_all arm_ends (out-If i).others.items && else_ends (out-If i).otherwise))
+pub ending_if : (i : If) → if_ends i ≡ (list_any ends (out-If i).then.statements && (list_all arm_ends (out-If i).others && else_ends (out-If i).otherwise))
 ending_if (If' condition shape row block n others None' span) = search (rules, the_lemmas, ending_row, ending_others)
 ending_if (If' condition shape row block n others (Some' s r b) span) = search (rules, the_lemmas, ending_row, ending_others)
 

@@ -27,17 +27,17 @@ returning_others n (more_of-ElseIf condition shape inner block more) =
 
 abbrev pub else_returns : Option Block → List ReturnAt
 else_returns None = []
-else_returns (Some b) = flat_map returns_in b.statements.items
+else_returns (Some b) = flat_map returns_in b.statements
 
-pub returning_if : (i : If) → if_returns i ≡ (flat_map returns_in (out-If i).then.statements.items ++ flat_map arm_returns (out-If i).others.items) ++ else_returns (out-If i).otherwise
+pub returning_if : (i : If) → if_returns i ≡ (flat_map returns_in (out-If i).then.statements ++ flat_map arm_returns (out-If i).others) ++ else_returns (out-If i).otherwise
 returning_if (If' condition shape row block n others None' span) =
     let i : If = If' condition shape row block n others None' span in
     let held = returning_row _ row in
     let more = returning_others _ others in
-    let one : flat_map returns_in (out-If i).then.statements.items ≡ row_returns row = search (rules, the_lemmas, held) in
-    let two : flat_map arm_returns (out-If i).others.items ≡ others_returns others = search (rules, the_lemmas, more) in
+    let one : flat_map returns_in (out-If i).then.statements ≡ row_returns row = search (rules, the_lemmas, held) in
+    let two : flat_map arm_returns (out-If i).others ≡ others_returns others = search (rules, the_lemmas, more) in
     let three : else_returns (out-If i).otherwise ≡ [] = search (rules, the_lemmas) in
-    sym (ap (λ rs. (rs ++ flat_map arm_returns (out-If i).others.items) ++ else_returns (out-If i).otherwise) one
+    sym (ap (λ rs. (rs ++ flat_map arm_returns (out-If i).others) ++ else_returns (out-If i).otherwise) one
     ∙ ap (λ rs. (row_returns row ++ rs) ++ else_returns (out-If i).otherwise) two
     ∙ ap (λ rs. (row_returns row ++ others_returns others) ++ rs) three)
 returning_if (If' condition shape row block n others (Some' s r b) span) =
@@ -45,10 +45,10 @@ returning_if (If' condition shape row block n others (Some' s r b) span) =
     let held = returning_row _ row in
     let more = returning_others _ others in
     let last = returning_row _ r in
-    let one : flat_map returns_in (out-If i).then.statements.items ≡ row_returns row = search (rules, the_lemmas, held) in
-    let two : flat_map arm_returns (out-If i).others.items ≡ others_returns others = search (rules, the_lemmas, more) in
+    let one : flat_map returns_in (out-If i).then.statements ≡ row_returns row = search (rules, the_lemmas, held) in
+    let two : flat_map arm_returns (out-If i).others ≡ others_returns others = search (rules, the_lemmas, more) in
     let three : else_returns (out-If i).otherwise ≡ row_returns r = search (rules, the_lemmas, last) in
-    sym (ap (λ rs. (rs ++ flat_map arm_returns (out-If i).others.items) ++ else_returns (out-If i).otherwise) one
+    sym (ap (λ rs. (rs ++ flat_map arm_returns (out-If i).others) ++ else_returns (out-If i).otherwise) one
     ∙ ap (λ rs. (row_returns row ++ rs) ++ else_returns (out-If i).otherwise) two
     ∙ ap (λ rs. (row_returns row ++ others_returns others) ++ rs) three)
 

@@ -52,8 +52,8 @@ none_of_item trees (MachineItem m) = refl
 
 ways_everywhere : (trees : List Tree) → ways_in trees everywhere ≡ []
 ways_everywhere trees =
-    none_nested (ways_of trees everywhere) (λ (t : Tree). flat_map item_declarations t.items.items)
-    (λ t. none_nested (ways_of trees everywhere) item_declarations (none_of_item trees) t.items.items) trees
+    none_nested (ways_of trees everywhere) (λ (t : Tree). flat_map item_declarations t.items)
+    (λ t. none_nested (ways_of trees everywhere) item_declarations (none_of_item trees) t.items) trees
 
 pub ways_by_each : (trees : List Tree) → flat_map (ways_in trees) (wide_scopes trees) ≡ missing_returns trees
 ways_by_each trees =

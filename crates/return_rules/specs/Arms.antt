@@ -7,10 +7,10 @@ use Rattle.slicc_plan.specs.declared.broken.Broken.{Broken}
 use Rattle.slicc_plan.specs.Returns.{ReturnAt, ends, no_return, returns_in}
 
 abbrev pub arm_ends : ElseIf → Bool
-arm_ends e = list_any ends e.then.statements.items
+arm_ends e = list_any ends e.then.statements
 
 abbrev pub arm_returns : ElseIf → List ReturnAt
-arm_returns e = flat_map returns_in e.then.statements.items
+arm_returns e = flat_map returns_in e.then.statements
 
 abbrev pub return_at : Bool → Span → ReturnAt
 return_at has_value place = record { has_value = has_value; place = place }

@@ -1,5 +1,5 @@
 -- What a call did with the library and the sink, from the files that it read and the answer that it found.
-use Rattle.std.proofs.Common.{◌≡◌, ◌⊎◌, inl, inr, ℕ, Bool, Result, Ok, Err, Some, List, [], ◌∷◌, refl, subst, IfOk}
+use Rattle.std.proofs.Common.{◌≡◌, inl, inr, ℕ, Bool, Result, Ok, Err, Some, List, [], ◌∷◌, refl, subst, IfOk}
 use Rattle.ruby_outside.specs.declared.library.Got.{Got}
 use Rattle.ruby_outside.specs.declared.sink.Wrote.{Wrote}
 use Rattle.slicc_files.specs.Gathering.{IsGatheredBy, IsGatheredFrom}

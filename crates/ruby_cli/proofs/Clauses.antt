@@ -1,5 +1,5 @@
 -- The theorem about a call of the program, from what the call does.
-use Rattle.std.proofs.Common.{◌≡◌, ◌≢◌, ◌<◌, ◌⊎◌, inl, inr, ℕ, Bool, true, false, Option, None, Some, List, [], ◌∷◌, ◌++◌, if◌then◌else◌, refl, sym, ap, subst, arith, IfSome, IsSome, IsSomeAnd}
+use Rattle.std.proofs.Common.{◌≡◌, ◌<◌, ◌⊎◌, inl, inr, ℕ, Bool, true, false, Option, None, Some, List, [], ◌∷◌, if◌then◌else◌, refl, sym, ap, subst, arith, IfSome, IsSome}
 use Rattle.ruby_outside.specs.Faults.{Rose}
 use Rattle.ruby_outside.specs.Files.{Files, IsLawfulRead}
 use Rattle.ruby_outside.specs.Sink.{IsLawfulWrite, IsWritten}
@@ -11,8 +11,8 @@ use Rattle.slicc_front.specs.declared.answer.Front.TheVariants as front
 use Rattle.slicc_front.specs.Fronts.{IsFrontFor, IsFrontOf}
 use Rattle.slicc_front.specs.Fronts.IsFrontFor.{keeps_all, breaks_one}
 use Rattle.slicc_front.proofs.OneFront.{one_front}
-use Rattle.slicc_files.specs.Gathering.{IsGatheredFrom}
-use Rattle.slicc_files.specs.Reads.{Read, MayBeGiven}
+use Rattle.slicc_files.specs.Gathering.{IsGatheredFrom, IsGatheredOver}
+use Rattle.slicc_files.specs.Reads.{Read, AreGiven, MayBeGiven}
 use Rattle.slicc_files.specs.declared.gathered.Gathered.{Gathered}
 use Rattle.slicc_files.specs.declared.gathered.Gathered.TheVariants as gathered
 use Rattle.slicc_files.specs.declared.gathered.Source.{Source}
@@ -36,9 +36,10 @@ use Rattle.ruby_cli.specs.declared.options.Options.{Options}
 use Rattle.ruby_cli.specs.Answer.{text_of, status_of, kept_of, done_of, out_of_memory, verdict_status}
 use Rattle.ruby_cli.specs.Asked.{setting_of}
 use Rattle.ruby_cli.specs.Call.{IsAnswered}
-use Rattle.ruby_cli.specs.Headline.{IsWokenOnce, IsMessageAccount, IsInvalidExactly, IsTallied, IsAsAsked, IsAskedFor, IsOneOf, IsVerdictStatus, statuses_of, IsStatusOf, IsStatusBy, IsCaused, IsMade, IsComplete, IsTheorem}
-use Rattle.ruby_cli.specs.Right.{IsToRun, IsRightFor, IsRightOf, IsRightTo, IsRight, IsAnswer, IsReading, IsRunOf, IsRunOver, IsSame}
-use Rattle.ruby_cli.proofs.OneAnswer.{not_both, not_other, same_of, was_memory, whole_right}
+use Rattle.ruby_cli.specs.Headline.{IsWokenOnce, IsMessageAccount, IsInvalidExactly, IsTallied, IsAsAsked, IsAskedFor, IsOneOf, IsVerdictStatus, statuses_of, IsCaused, IsMade, IsComplete, IsTheorem}
+use Rattle.ruby_cli.specs.Right.{IsToRun, IsRightFor, IsRightOf, IsRightTo, IsRight, IsRightRun, IsAnswer, IsRunOf, IsRunOver, IsSame}
+use Rattle.ruby_cli.proofs.OneAnswer.{not_both, not_other, was_memory, whole_right}
+use Rattle.ruby_cli.proofs.OverFiles.{run_read, same_over, was_read}
 use Rattle.ruby_cli.proofs.Runs.{for_kept, invalid_whole, woken_whole, tallied_whole, accounted_whole, plain_seats}
 
 -- a read failed
@@ -253,18 +254,13 @@ only_of told (Some o) made a allow is =
       | inr are ↦ inr (made, are, is)
     ]
 
--- a fault or the status of what was read
-always_of : (told : Files) (asked : Option Options) (made : List Read) (a : Answer) → MayBeGiven told made → IsRight asked made a → IsOneOf (5 ∷ 7 ∷ 8 ∷ []) (status_of a) ⊎ IsStatusBy told asked (status_of a)
-always_of told None made a allow is = inr tt
-always_of told (Some o) made a allow is =
-    elim (given_or_failed told is.by_reads (was_memory o is.files a is.right) allow) [
-      | inl last ↦ inl (inl (fault_status o is.files last.name a last.answer is.right))
-      | inr are ↦ inr (record {
-        read_as = is.files;
-        is_read = was_memory o is.files a is.right;
-        over_files = (made, are, is.by_reads);
-        so = record { some = (a, is.right); each = λ b also. same_status b a (same_of o made is.files b a is.by_reads also is.right) };
-      })
+-- a fault or a status of each answer over the files
+always_of : (told : Files) (asked : Option Options) (made : List Read) (a : Answer) → MayBeGiven told made → IsRight asked made a
+    → IsOneOf (5 ∷ 7 ∷ 8 ∷ []) (status_of a) ⊎ ((b : Answer) → IsAnswer told asked b → IsOneOf (statuses_of b) (status_of a))
+always_of told asked made a allow is =
+    elim (only_of told asked made a allow is) [
+      | inl five ↦ inl (inl five)
+      | inr over ↦ inr (λ b also. same_status b a (same_over told asked b a also over))
     ]
 
 -- where a run is to be made of what was read, a run is right
@@ -292,69 +288,68 @@ low_status o g setting a run is =
     let ran = ran_of o g setting a run is in
     subst (λ (x : Answer). IsOneOf (0 ∷ 1 ∷ []) (status_of x)) (sym ran.1) (verdict_low ran.0.verdict)
 
--- where a protocol that keeps all rules is to be checked, its counts are right
-counted_for : (o : Options) (ts : List Tree) (a : Answer) → o.command ≡ Check → IsRightFor ts o a → status_of a ≡ 0
-counted_for o ts (Ran r) check is = absurd (not_both o check is.1.plain)
-counted_for o ts (Accepted counts) check is = refl
-counted_for o ts (Refused refusal) check is = absurd (not_both o check is.0)
-counted_for o ts Usage check is = absurd is
-counted_for o ts (Absent name) check is = absurd is
-counted_for o ts (TooLarge name) check is = absurd is
-counted_for o ts (ReadFault name) check is = absurd is
+-- an answer that is the same as counts is counts
+counted : (counts : Counts) (a : Answer) → IsSame (Accepted counts) a → status_of a ≡ 0
+counted counts a same = ap status_of (sym same)
 
-counted_of : (o : Options) (g : Gathered) (ts : List Tree) (a : Answer) → o.command ≡ Check → IsFrontOf g (front.Plan ts) → IsRightOf o g a → status_of a ≡ 0
-counted_of o g ts a check accepted is =
-    let same : is.front ≡ front.Plan ts = one_front g is.front (front.Plan ts) is.is_front accepted in
-    counted_for o ts a check (subst (λ (x : Front). IsRightTo o x a) same is.right)
+-- what was made of the files
+module _ (told : Files) (o : Options) (write_rose : Type 0) (made : List Read) (a : Answer) (is : IsRightRun o made a) (are : AreGiven told made) where
+  over : IsGatheredOver told o.protocol is.files
+  over = (made, are, is.by_reads)
 
-made_of : (o : Options) (write_rose : Type 0) (g : Gathered) (a : Answer) (whole : Bool) → (whole ≡ false → write_rose) → IsRightOf o g a → IsMade o write_rose (done_of a whole) g
-made_of o write_rose g a true cause is =
+  run_here : (setting : Setting) → IsRunOver told (Some o) setting → IsRunOf o is.files setting
+  run_here setting run = run_read told o is.files (Some o) setting refl over (was_memory o is.files a is.right) run
+
+  made_whole : (whole : Bool) → (whole ≡ false → write_rose) → IsMade told (Some o) write_rose (done_of a whole)
+  made_whole true cause =
+      record {
+        keeps_run = λ setting run. kept_some o is.files setting a (run_here setting run) is.right;
+        runs = λ setting run well. low_status o is.files setting a (run_here setting run) is.right;
+        checks = λ counts also well. counted counts a (same_over told (Some o) (Accepted counts) a also (made, are, is));
+      }
+  made_whole false cause =
+      record {
+        keeps_run = λ setting run. kept_some o is.files setting a (run_here setting run) is.right;
+        runs = λ setting run well. absurd (well (cause refl));
+        checks = λ counts also well. absurd (well (cause refl));
+      }
+
+-- nothing is to be made where nothing was asked for
+no_counts : (reads : List Read) (counts : Counts) → IsRight None reads (Accepted counts) → ⊥
+no_counts [] counts is = absurd (cc is)
+no_counts (r ∷ rs) counts is = is
+
+none_over : (told : Files) (write_rose : Type 0) (done : Done) → IsMade told None write_rose done
+none_over told write_rose done =
     record {
-      keeps_run = λ setting run. kept_some o g setting a run is;
-      runs = λ setting run well. low_status o g setting a run is;
-      checks = λ trees check accepted well. counted_of o g trees a check accepted is;
-    }
-made_of o write_rose g a false cause is =
-    record {
-      keeps_run = λ setting run. kept_some o g setting a run is;
-      runs = λ setting run well. absurd (well (cause refl));
-      checks = λ trees check accepted well. absurd (well (cause refl));
+      keeps_run = λ setting run. absurd (cc run.asked_is);
+      runs = λ setting run well. absurd (cc run.asked_is);
+      checks = λ counts also well. absurd (no_counts also.0 counts also.2);
     }
 
 made_over : (told : Files) (asked : Option Options) (write_rose : Type 0) (made : List Read) (a : Answer) (whole : Bool) → (whole ≡ false → write_rose)
-    → MayBeGiven told made → (HasFailed made → ⊥) → IsRight asked made a → IfSome asked (λ o. IsReading told o (IsMade o write_rose (done_of a whole)))
-made_over told None write_rose made a whole cause allow still is = tt
+    → MayBeGiven told made → (HasFailed made → ⊥) → IsRight asked made a → IsMade told asked write_rose (done_of a whole)
+made_over told None write_rose made a whole cause allow still is = none_over told write_rose (done_of a whole)
 made_over told (Some o) write_rose made a whole cause allow still is =
     elim (given_or_failed told is.by_reads (was_memory o is.files a is.right) allow) [
       | inl last ↦ absurd (still last.read_failed)
-      | inr are ↦ record {
-        read_as = is.files;
-        is_read = was_memory o is.files a is.right;
-        over_files = (made, are, is.by_reads);
-        so = made_of o write_rose is.files a whole cause is.right;
-      }
+      | inr are ↦ made_whole told o write_rose made a is are whole cause
     ]
 
--- the files were read as they are, where a run is right
-gathered_files : (o : Options) (g : Gathered) (setting : Setting) → IsRunOf o g setting → g ≢ gathered.NoMemory
-gathered_files o g setting run none = subst (λ (x : Gathered). IsFrontOf x (front.Plan run.trees)) none run.accepted
-
+-- no read failed where a run is right
 run_faultless : (o : Options) (g : Gathered) (setting : Setting) (name : List ℕ) → IsRunOf o g setting → g ≡ gathered.ReadFault name → ⊥
 run_faultless o g setting name run same = cc (fault_of g (front.Plan run.trees) name same run.accepted)
 
 run_given : (told : Files) (asked : Option Options) (made : List Read) (r : RunRecord) → MayBeGiven told made → IsRunAsked asked made r → IsRunOver told asked r.setting
 run_given told asked made r allow of =
-    elim (given_or_failed told of.by_reads (gathered_files of.options of.files r.setting of.run_of) allow) [
+    elim (given_or_failed told of.by_reads (was_read of.options of.files r.setting of.run_of) allow) [
       | inl last ↦ absurd (run_faultless of.options of.files r.setting last.name of.run_of last.answer)
       | inr are ↦ record {
         options = of.options;
         asked_is = of.asked_is;
-        reading = record {
-          read_as = of.files;
-          is_read = gathered_files of.options of.files r.setting of.run_of;
-          over_files = (made, are, of.by_reads);
-          so = of.run_of;
-        };
+        read_as = of.files;
+        over_files = (made, are, of.by_reads);
+        run = of.run_of;
       }
     ]
 

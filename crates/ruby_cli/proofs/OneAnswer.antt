@@ -97,7 +97,7 @@ allowed_for : (sources : List Source) (trees : List Tree) (f : Front) → IsFron
 allowed_for sources trees f (keeps_all accepted) allowed = allowed
 allowed_for sources trees f (breaks_one told) allowed = tt
 
-allowed_front : (g : Gathered) (f : Front) → IsFrontOf g f → AreAllowed g → IsFrontAllowed f
+pub allowed_front : (g : Gathered) (f : Front) → IsFrontOf g f → AreAllowed g → IsFrontAllowed f
 allowed_front (gathered.Files sources trees) f is allowed = allowed_for sources trees f is allowed
 allowed_front (gathered.Refused r) f is allowed = subst IsFrontAllowed (sym is) tt
 allowed_front (gathered.Absent n) f is allowed = subst IsFrontAllowed (sym is) tt

@@ -1,18 +1,15 @@
--- The theorem about a call of the program. Each definition is one clause of the top calls, beside that a record is of a whole
--- run (`IsWholeRun`). All but the last follow from what the call does (`IsAnswered`). `asked` is what was asked for, if
--- anything; `files` are those of the library, where it tells them; a call ends with `done`, its status and the record that it
--- kept. That a library's or a sink's count of faults rose in the call is `read_rose` and `write_rose`; `before` and `after`
--- are what the sink tells as the call begins and ends.
-use Rattle.std.specs.Prelude.{◌≡◌, ◌+◌, ◌≢◌, ◌⊎◌, ℕ, Bool, Option, None, Some, List, [], ◌∷◌, ◌++◌, IfSome, IsSome, IsSomeAnd}
+-- The theorem about a call of the program: what each clause of the top calls says, but that a record is of a whole run
+-- (`IsWholeRun`) and that no file is read twice (`IsReadOnce`). All but `IsByOneWorker` follow from what the call does
+-- (`IsAnswered`). `asked` is what was asked for, if anything; `files` are those of the library, where it tells them; a call ends
+-- with `done`, its status and the record that it kept. That a library's or a sink's count of faults rose in the call is
+-- `read_rose` and `write_rose`; `before` and `after` are what the sink tells as the call begins and ends.
+use Rattle.std.specs.Prelude.{◌≡◌, ◌+◌, ◌≢◌, ◌⊎◌, ℕ, Bool, Option, None, Some, List, [], ◌∷◌, IfSome, IsSome, IsSomeAnd}
 use Rattle.std.specs.Bool.{OnTrue, OnFalse}
 use Rattle.std.specs.Option.{ForSome}
 use Rattle.ruby_outside.specs.Files.{Files}
 use Rattle.ruby_outside.specs.Sink.{grown, IsCutOff}
 use Rattle.slicc_files.specs.Reads.{Read, MayBeGiven}
-use Rattle.slicc_ast.specs.declared.tree.item.Tree.{Tree}
-use Rattle.slicc_files.specs.declared.gathered.Gathered.{Gathered}
-use Rattle.slicc_front.specs.declared.answer.Front.TheVariants.{Plan}
-use Rattle.slicc_front.specs.Fronts.{IsFrontOf}
+use Rattle.slicc_plan.specs.declared.row.Counts.{Counts}
 use Rattle.run_journal.specs.Tally.{tally}
 use Rattle.ruby_runs.specs.Account.{IsAccounted}
 use Rattle.ruby_runs.specs.Alone.{IsAlone}
@@ -26,14 +23,14 @@ use Rattle.slicc_meaning.specs.declared.setting.Setting.{Setting}
 use Rattle.slicc_meaning.specs.Record.{IsRecordOf, IsWholeRun}
 use Rattle.slicc_meaning.specs.Rules.{rules}
 use Rattle.ruby_cli.specs.declared.answer.Answer.{Answer}
-use Rattle.ruby_cli.specs.declared.answer.Answer.TheVariants.{Ran, ReadFault}
+use Rattle.ruby_cli.specs.declared.answer.Answer.TheVariants.{Ran, Accepted, ReadFault}
 use Rattle.ruby_cli.specs.declared.done.Done.{Done}
 use Rattle.ruby_cli.specs.declared.options.Command.{Command}
 use Rattle.ruby_cli.specs.declared.options.Command.TheVariants.{Check, Plain}
 use Rattle.ruby_cli.specs.declared.options.Options.{Options}
 use Rattle.ruby_cli.specs.Answer.{text_of, status_of, done_of, out_of_memory, verdict_status}
 use Rattle.ruby_cli.specs.Asked.{setting_of}
-use Rattle.ruby_cli.specs.Right.{IsRight, IsRightOf, IsAnswer, IsReading, IsRunOf, IsRunOver}
+use Rattle.ruby_cli.specs.Right.{IsRight, IsAnswer, IsRunOver}
 
 -- each controller that must wake at a cycle of the record's run wakes in it once, and no other does
 abbrev pub IsWokenOnce : RunRecord → Type 0
@@ -99,36 +96,27 @@ abbrev pub statuses_of : Answer → List ℕ
 statuses_of (Ran r) = 0 ∷ 1 ∷ []
 statuses_of a = status_of a ∷ []
 
--- the status is one of those of each answer that is right to this reading, and there is such an answer
-pub record IsStatusOf (o : Options) (status : ℕ) (g : Gathered) : Type 0 where
-  pub some : (a : Answer) × IsRightOf o g a
-  pub each : (a : Answer) → IsRightOf o g a → IsOneOf (statuses_of a) status
-
--- the status is that of what these files were read as
-abbrev pub IsStatusBy : Files → Option Options → ℕ → Type 0
-IsStatusBy known asked status = IfSome asked (λ o. IsReading known o (IsStatusOf o status))
-
--- When each status comes. Where files are known, a status comes exactly where the answers that are right to them, as they were
--- read, have it, but that 5, 7 and 8 may come in its place; of these 5 and 7 have a cause.
+-- When each status comes. Where files are known, a status comes exactly where the answers that are right to them have it, but that
+-- 5, 7 and 8 may come in its place; of these 5 and 7 have a cause.
 pub record IsCaused (files : Option Files) (asked : Option Options) (read_rose write_rose : Type 0) (done : Done) : Type 0 where
   pub verdict : IsVerdictStatus asked done.kept done.status
   pub usage : done.status ≡ 2 → asked ≡ None
   pub no_usage : asked ≡ None → (done.kept ≡ None) × IsOneOf (2 ∷ 7 ∷ 8 ∷ []) done.status
   pub only : ForSome files (λ known. IsOneOf (5 ∷ 7 ∷ 8 ∷ []) done.status ⊎ ((a : Answer) × IsAnswer known asked a × (done.status ≡ status_of a)))
-  pub always : ForSome files (λ known. IsOneOf (5 ∷ 7 ∷ 8 ∷ []) done.status ⊎ IsStatusBy known asked done.status)
+  pub always : ForSome files (λ known. IsOneOf (5 ∷ 7 ∷ 8 ∷ []) done.status ⊎ ((a : Answer) → IsAnswer known asked a → IsOneOf (statuses_of a) done.status))
   pub read_fault : done.status ≡ 5 → read_rose
   pub write_fault : done.status ≡ 7 → write_rose
 
--- where a run of this reading is to be made, there is a record, and where no write failed the status is 0 or 1; where it is to be
--- checked and keeps all rules, and no write failed, the status is 0
-pub record IsMade (o : Options) (write_rose : Type 0) (done : Done) (g : Gathered) : Type 0 where
-  pub keeps_run : (setting : Setting) → IsRunOf o g setting → IsSome done.kept
-  pub runs : (setting : Setting) → IsRunOf o g setting → (write_rose → ⊥) → IsOneOf (0 ∷ 1 ∷ []) done.status
-  pub checks : (trees : List Tree) → o.command ≡ Check → IsFrontOf g (Plan trees) → (write_rose → ⊥) → done.status ≡ 0
+-- where over these files a run is to be made, there is a record, and where no write failed the status is 0 or 1; where their protocol
+-- is to be checked and keeps all rules, and no write failed, the status is 0
+pub record IsMade (files : Files) (asked : Option Options) (write_rose : Type 0) (done : Done) : Type 0 where
+  pub keeps_run : (setting : Setting) → IsRunOver files asked setting → IsSome done.kept
+  pub runs : (setting : Setting) → IsRunOver files asked setting → (write_rose → ⊥) → IsOneOf (0 ∷ 1 ∷ []) done.status
+  pub checks : (counts : Counts) → IsAnswer files asked (Accepted counts) → (write_rose → ⊥) → done.status ≡ 0
 
--- Where files are known and no read failed, memory ran out, or what is to be made of what was read was made.
+-- Where files are known and no read failed, memory ran out, or what is to be made of them was made.
 pub record IsComplete (files : Option Files) (asked : Option Options) (read_rose write_rose : Type 0) (done : Done) : Type 0 where
-  pub made : ForSome files (λ known. (read_rose → ⊥) → (done.status ≡ 8) ⊎ IfSome asked (λ o. IsReading known o (IsMade o write_rose done)))
+  pub made : ForSome files (λ known. (read_rose → ⊥) → (done.status ≡ 8) ⊎ IsMade known asked write_rose done)
 
 -- one worker made the run, and took the controllers in the order of their numbers; this is so of a run on one thread
 abbrev pub IsByOneWorker : RunRecord → Type 0

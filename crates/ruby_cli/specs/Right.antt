@@ -1,16 +1,14 @@
 -- What is right to answer, by what was asked and what the reads gave, in their order. Words that ask for nothing read nothing
 -- and are answered by the usage line. A check and a run read the files that the protocol is made of, and no other; what they
 -- are decides the rest: where the protocol keeps all rules, a check tells how much there is in it, and a run is made, or is
--- refused where the protocol isn't of the small form. To what the files were read as one answer at most is right, but that one
--- run may go another way than another of the same beginning. All this is this project's own.
-use Rattle.std.specs.Prelude.{◌≡◌, ◌≢◌, ℕ, Option, None, Some, List, [], ◌∷◌, codes}
+-- refused where the protocol isn't of the small form. Over files one answer at most is right, but that one run may go another way
+-- than another of the same beginning. All this is this project's own.
+use Rattle.std.specs.Prelude.{◌≡◌, ℕ, Option, None, Some, List, [], ◌∷◌, codes}
 use Rattle.ruby_outside.specs.Files.{Files}
 use Rattle.slicc_ast.specs.declared.tree.item.Tree.{Tree}
-use Rattle.slicc_files.specs.Gathering.{IsGatheredFrom}
+use Rattle.slicc_files.specs.Gathering.{IsGatheredFrom, IsGatheredOver}
 use Rattle.slicc_files.specs.Reads.{Read, AreGiven}
-use Rattle.slicc_files.specs.Same.{IsGatheredOver}
 use Rattle.slicc_files.specs.declared.gathered.Gathered.{Gathered}
-use Rattle.slicc_files.specs.declared.gathered.Gathered.TheVariants.{NoMemory}
 use Rattle.slicc_files.specs.declared.gathered.Refused.{Refused as Refusal}
 use Rattle.slicc_front.specs.declared.answer.Front.{Front}
 use Rattle.slicc_front.specs.declared.answer.Front.TheVariants as front
@@ -86,15 +84,6 @@ IsRight (Some o) reads a = IsRightRun o reads a
 abbrev pub IsAnswer : Files → Option Options → Answer → Type 0
 IsAnswer files asked a = (reads : List Read) × AreGiven files reads × IsRight asked reads a
 
--- Over these files, where no read fails, the protocol's files were read so, up to an answer. Two readings of the same files have
--- the same nodes at the same places. Where in memory the lists and boxes of a tree are no file tells; the definitions of the rules
--- name no such place.
-pub record IsReading (files : Files) (o : Options) (P : Gathered → Type 0) : Type 0 where
-  pub read_as : Gathered
-  pub is_read : read_as ≢ NoMemory
-  pub over_files : IsGatheredOver files o.protocol read_as
-  pub so : P read_as
-
 -- what was read is to be run, and the run begins with this setting
 pub record IsRunOf (o : Options) (g : Gathered) (setting : Setting) : Type 0 where
   pub trees : List Tree
@@ -105,7 +94,9 @@ pub record IsRunOf (o : Options) (g : Gathered) (setting : Setting) : Type 0 whe
 pub record IsRunOver (files : Files) (asked : Option Options) (setting : Setting) : Type 0 where
   pub options : Options
   pub asked_is : asked ≡ Some options
-  pub reading : IsReading files options (λ g. IsRunOf options g setting)
+  pub read_as : Gathered
+  pub over_files : IsGatheredOver files options.protocol read_as
+  pub run : IsRunOf options read_as setting
 
 -- the same answer, but that runs are only the same in what they begin with
 abbrev pub IsSame : Answer → Answer → Type 0

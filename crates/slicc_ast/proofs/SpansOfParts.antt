@@ -10,6 +10,7 @@ use Rattle.slicc_ast.specs.declared.tree.declaration.State.{State}
 use Rattle.slicc_ast.specs.declared.tree.declaration.Symbol.{Symbol}
 use Rattle.slicc_ast.specs.declared.tree.item.Item.{Item}
 use Rattle.slicc_ast.specs.declared.tree.machine.Decl.{Decl}
+use Rattle.slicc_ast.specs.declared.tree.machine.Literal.{Literal}
 use Rattle.slicc_ast.specs.declared.tree.machine.Parameter.{Parameter}
 use Rattle.slicc_ast.specs.declared.tree.name.Name.{Name}
 use Rattle.slicc_ast.specs.declared.tree.machine.Names.{Names}
@@ -18,9 +19,9 @@ use Rattle.slicc_ast.specs.declared.tree.token.Sign.TheVariants.{CloseBrace}
 use Rattle.slicc_ast.specs.declared.tree.span.Span.{Span}
 use Rattle.slicc_ast.specs.Outline.{Parts, none, spans_of, spans_in}
 use Rattle.slicc_ast.specs.Spans.{symbol_spans, state_spans}
-use Rattle.slicc_ast.specs.Names.{sign, balanced_part, balanced_row, balanced_list}
+use Rattle.slicc_ast.specs.Names.{sign, star, balanced_part, balanced_row, balanced_list}
 use Rattle.slicc_ast.specs.Declarations.{pair, pair_list, formal, more_formals, formal_list, symbol_list, state_list, member, member_list}
-use Rattle.slicc_ast.specs.Machines.{parameter, parameter_list, decl, decl_list, more_names, name_list, action_list, names, next_parts, type_parts}
+use Rattle.slicc_ast.specs.Machines.{literal, literal_parts, parameter, parameter_list, decl, decl_list, more_names, name_list, action_list, names, next_parts, type_parts}
 use Rattle.slicc_ast.specs.Trees.{item, item_list}
 
 pub pair_list_spans : (ps : List Pair) → spans_in (pair_list ps) ≡ flat_map (λ p. spans_of (pair p)) ps
@@ -38,7 +39,7 @@ formal_list_spans (first ∷ others) = ap (λ spans. spans_of (formal first) ++ 
 pub symbol_list_spans : (ss : List Symbol) (parts : Parts) → spans_in (symbol_list ss parts) ≡ flat_map symbol_spans ss ++ spans_in parts
 symbol_list_spans [] parts = refl
 symbol_list_spans (first ∷ others) parts =
-    ap (λ spans. first.name.span ∷ first.pairs.span ∷ spans_in (pair_list first.pairs.items.items) ++ spans) (symbol_list_spans others parts)
+    ap (λ spans. first.name.span ∷ first.pairs.span ∷ spans_in (pair_list first.pairs.items) ++ spans) (symbol_list_spans others parts)
     ∙ sym (append_assoc (symbol_spans first) (flat_map symbol_spans others) (spans_in parts))
 
 pub state_list_spans : (ss : List State) (parts : Parts) → spans_in (state_list ss parts) ≡ flat_map state_spans ss ++ spans_in parts
@@ -104,11 +105,19 @@ balanced_row_spans n (more_of-Part first row) =
 -- parts behind others
 pub names_behind : (n : Names) (parts : Parts) → spans_in (names n parts) ≡ spans_in (names n none) ++ spans_in parts
 names_behind (One n) parts = refl
-names_behind (Several ns span) parts = ap (λ xs. xs ++ spans_in parts) (sym (append-nil (span ∷ spans_in (name_list ns.items (sign CloseBrace none)))))
+names_behind (Several ns span) parts = ap (λ xs. xs ++ spans_in parts) (sym (append-nil (span ∷ spans_in (name_list ns (sign CloseBrace none)))))
 
 pub next_behind : (n : Option Name) (parts : Parts) → spans_in (next_parts n parts) ≡ spans_in (next_parts n none) ++ spans_in parts
 next_behind None parts = refl
 next_behind (Some n) parts = refl
+
+pub star_spans : (b : Bool) (parts : Parts) → spans_in (star b parts) ≡ spans_in parts
+star_spans true parts = refl
+star_spans false parts = refl
+
+pub literal_behind : (l : Option Literal) (parts : Parts) → spans_in (literal_parts l parts) ≡ spans_in (literal_parts l none) ++ spans_in parts
+literal_behind None parts = refl
+literal_behind (Some l) parts = ap (λ xs. xs ++ spans_in parts) (sym (append-nil (spans_of (literal l))))
 
 pub type_spans : (typed : Bool) (parts : Parts) → spans_in (type_parts typed parts) ≡ spans_in parts
 type_spans true parts = refl

@@ -35,7 +35,7 @@ abbrev pub optional_spans : Option Block → List Span
 optional_spans None = []
 optional_spans (Some b) = spans_of (block_outline b)
 
-pub if_spans : (i : If) → spans_of (if_outline i) ≡ (out-If i).span ∷ (spans_of (expr (out-If i).condition) ++ (spans_of (block_outline (out-If i).then) ++ (flat_map else_if_spans (out-If i).others.items ++ optional_spans (out-If i).otherwise)))
+pub if_spans : (i : If) → spans_of (if_outline i) ≡ (out-If i).span ∷ (spans_of (expr (out-If i).condition) ++ (spans_of (block_outline (out-If i).then) ++ (flat_map else_if_spans (out-If i).others ++ optional_spans (out-If i).otherwise)))
 if_spans (If' condition shape row block n others None' span) = search (rules, the_lemmas, stmt_row_spans, others_spans, append-nil)
 if_spans (If' condition shape row block n others (Some' s r b) span) = search (rules, the_lemmas, stmt_row_spans, others_spans, append-nil)
 
@@ -45,11 +45,11 @@ added_four old a c b f s one two three four new all p q r u n i =
     (added_both old (((a ∷ []) ++ c) ++ b) f three four (added_both old ((a ∷ []) ++ c) b two three (added_both old (a ∷ []) c one two p q) r) u) n
     ∙ ap (λ xs. old ++ xs) (sym (regrouped (a ∷ c) b f s) ∙ sym i)
 
-pub if_some : (i : If) (b : Block) → (out-If i).otherwise ≡ Some b → spans_of (if_outline i) ≡ (out-If i).span ∷ (spans_of (expr (out-If i).condition) ++ (spans_of (block_outline (out-If i).then) ++ (flat_map else_if_spans (out-If i).others.items ++ spans_of (block_outline b))))
-if_some i b is = if_spans i ∙ ap (λ o. (out-If i).span ∷ (spans_of (expr (out-If i).condition) ++ (spans_of (block_outline (out-If i).then) ++ (flat_map else_if_spans (out-If i).others.items ++ optional_spans o)))) is
+pub if_some : (i : If) (b : Block) → (out-If i).otherwise ≡ Some b → spans_of (if_outline i) ≡ (out-If i).span ∷ (spans_of (expr (out-If i).condition) ++ (spans_of (block_outline (out-If i).then) ++ (flat_map else_if_spans (out-If i).others ++ spans_of (block_outline b))))
+if_some i b is = if_spans i ∙ ap (λ o. (out-If i).span ∷ (spans_of (expr (out-If i).condition) ++ (spans_of (block_outline (out-If i).then) ++ (flat_map else_if_spans (out-If i).others ++ optional_spans o)))) is
 
-pub if_none : (i : If) → (out-If i).otherwise ≡ None → spans_of (if_outline i) ≡ (out-If i).span ∷ (spans_of (expr (out-If i).condition) ++ (spans_of (block_outline (out-If i).then) ++ (flat_map else_if_spans (out-If i).others.items ++ [])))
-if_none i is = if_spans i ∙ ap (λ o. (out-If i).span ∷ (spans_of (expr (out-If i).condition) ++ (spans_of (block_outline (out-If i).then) ++ (flat_map else_if_spans (out-If i).others.items ++ optional_spans o)))) is
+pub if_none : (i : If) → (out-If i).otherwise ≡ None → spans_of (if_outline i) ≡ (out-If i).span ∷ (spans_of (expr (out-If i).condition) ++ (spans_of (block_outline (out-If i).then) ++ (flat_map else_if_spans (out-If i).others ++ [])))
+if_none i is = if_spans i ∙ ap (λ o. (out-If i).span ∷ (spans_of (expr (out-If i).condition) ++ (spans_of (block_outline (out-If i).then) ++ (flat_map else_if_spans (out-If i).others ++ optional_spans o)))) is
 
 pub latency_behind : (latency : Option Expr) (parts : Parts) → spans_in (latency_parts latency parts) ≡ spans_in (latency_parts latency none) ++ spans_in parts
 latency_behind None parts = refl

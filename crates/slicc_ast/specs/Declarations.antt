@@ -40,7 +40,7 @@ pair_list (first ∷ others) = sign Comma (part (pair first) (pair_list others))
 
 -- pairs := { , pair }
 abbrev pub pairs : Pairs → Parts → Parts
-pairs p parts = part (node p.span (pair_list p.items.items)) parts
+pairs p parts = part (node p.span (pair_list p.items)) parts
 
 abbrev pub optional_name : Option Name → Parts → Parts
 optional_name None parts = parts
@@ -60,7 +60,7 @@ formal_list (first ∷ others) = part (formal first) (more_formals others)
 
 -- ( [ formals ] )
 abbrev pub formals : Formals → Parts → Parts
-formals f parts = sign OpenParenthesis (part (node f.span (formal_list f.items.items)) (sign CloseParenthesis parts))
+formals f parts = sign OpenParenthesis (part (node f.span (formal_list f.items)) (sign CloseParenthesis parts))
 
 -- the names of functions that are read and not looked at
 abbrev pub is_skipped : Name → Bool
@@ -82,7 +82,7 @@ symbol_list (first ∷ others) parts = name first.name (pairs first.pairs (sign 
 abbrev pub enumeration : Enumeration → Outline
 enumeration e =
     node e.span (word EnumerationWord (sign OpenParenthesis (name e.name (pairs e.pairs (sign CloseParenthesis
-    (sign OpenBrace (symbol_list e.members.items (sign CloseBrace none))))))))
+    (sign OpenBrace (symbol_list e.members (sign CloseBrace none))))))))
 
 -- NAME , NAME : NAME pairs ;
 abbrev pub state_list : List State → Parts → Parts
@@ -95,7 +95,7 @@ state_list (first ∷ others) parts =
 abbrev pub states : States → Outline
 states s =
     node s.span (word StateDeclaration (sign OpenParenthesis (name s.name (pairs s.pairs (sign CloseParenthesis
-    (sign OpenBrace (state_list s.members.items (sign CloseBrace none))))))))
+    (sign OpenBrace (state_list s.members (sign CloseBrace none))))))))
 
 -- member := type NAME pairs ; | type NAME ( [ formals ] ) pairs ; | skipped
 abbrev pub member : Member → Outline
@@ -113,4 +113,4 @@ member_list (first ∷ others) parts = part (member first) (member_list others p
 abbrev pub structure : Structure → Outline
 structure s =
     node s.span (word StructureWord (sign OpenParenthesis (name s.name (pairs s.pairs (sign CloseParenthesis
-    (sign OpenBrace (member_list s.members.items (sign CloseBrace none))))))))
+    (sign OpenBrace (member_list s.members (sign CloseBrace none))))))))

@@ -10,7 +10,8 @@ use Rattle.slicc_ast.specs.declared.tree.expression.Operator.TheVariants.{Or, An
 use Rattle.slicc_ast.specs.declared.tree.expression.Args.{Args}
 use Rattle.slicc_ast.specs.declared.tree.expression.Operand.{Operand}
 use Rattle.slicc_ast.specs.declared.tree.expression.Suffix.{Suffix, Field, Method', Index}
-use Rattle.slicc_ast.specs.declared.tree.expression.Expr.{Expr, Operation', Not', Negate', Postfix', Number, True, False, Nothing, Variable, Member, Call', New, IsValid', IsInvalid', Cast', Group', Row_of-Expr, end_of-Expr, more_of-Expr, Row_of-Operand, end_of-Operand, more_of-Operand, Row_of-Suffix, end_of-Suffix, more_of-Suffix}
+use Rattle.slicc_ast.specs.declared.tree.expression.Expr.{Expr, Number, True, False, Nothing, Variable, Member, Call', New, Row_of-Expr, end_of-Expr, more_of-Expr, Row_of-Operand, end_of-Operand, more_of-Operand, Row_of-Suffix, end_of-Suffix, more_of-Suffix}
+use Rattle.slicc_ast.specs.Boxes.{Operation', Not', Negate', Postfix', IsValid', IsInvalid', Cast', Group'}
 use Rattle.slicc_ast.specs.Outline.{Outline, node, Parts, none, token, part, provided}
 use Rattle.slicc_ast.specs.Names.{word, sign, name, type_name}
 
@@ -52,10 +53,10 @@ list_level (first ∷ others) = operator_level first.operator
 
 -- the level of an expression: that of its operators, then unary operators, then suffixes, then primary expressions
 abbrev pub level_of : Expr → ℕ
-level_of (Operation' p first n others span) = row_level others
-level_of (Not' p operand span) = 7
-level_of (Negate' p operand span) = 7
-level_of (Postfix' p value n suffixes span) = 8
+level_of (Operation' first n others span) = row_level others
+level_of (Not' operand span) = 7
+level_of (Negate' operand span) = 7
+level_of (Postfix' value n suffixes span) = 8
 level_of _ = 9
 
 -- there is a suffix
@@ -70,12 +71,12 @@ mode_parts (Some text) parts = token (Quoted text) (sign Comma parts)
 
 abbrev mutual
   pub expr : Expr → Outline
-  expr (Operation' p first n others span) =
+  expr (Operation' first n others span) =
       node span (provided (nat_lt 0 (row_level others)) (provided (nat_lt (row_level others) (level_of first))
       (part (expr first) (operand_row (row_level others) others))))
-  expr (Not' p operand span) = node span (provided (nat_le 7 (level_of operand)) (sign NotSign (part (expr operand) none)))
-  expr (Negate' p operand span) = node span (provided (nat_le 7 (level_of operand)) (sign MinusSign (part (expr operand) none)))
-  expr (Postfix' p value n suffixes span) =
+  expr (Not' operand span) = node span (provided (nat_le 7 (level_of operand)) (sign NotSign (part (expr operand) none)))
+  expr (Negate' operand span) = node span (provided (nat_le 7 (level_of operand)) (sign MinusSign (part (expr operand) none)))
+  expr (Postfix' value n suffixes span) =
       node span (provided (has_suffix suffixes) (provided (nat_le 9 (level_of value))
       (part (expr value) (suffix_row suffixes))))
   expr (Number n span) = node span (token (Numeral n) none)
@@ -87,14 +88,14 @@ abbrev mutual
   expr (Call' function shape row arguments span) =
       node span (name function (sign OpenParenthesis (part (node arguments (args_row row)) (sign CloseParenthesis none))))
   expr (New made span) = node span (word NewWord (name made none))
-  expr (IsValid' p value span) =
+  expr (IsValid' value span) =
       node span (word IsValidWord (sign OpenParenthesis (part (expr value) (sign CloseParenthesis none))))
-  expr (IsInvalid' p value span) =
+  expr (IsInvalid' value span) =
       node span (word IsInvalidWord (sign OpenParenthesis (part (expr value) (sign CloseParenthesis none))))
-  expr (Cast' target mode p value span) =
+  expr (Cast' target mode value span) =
       node span (word StaticCast (sign OpenParenthesis (type_name target (sign Comma
       (mode_parts mode (part (expr value) (sign CloseParenthesis none)))))))
-  expr (Group' p inner span) = node span (sign OpenParenthesis (part (expr inner) (sign CloseParenthesis none)))
+  expr (Group' inner span) = node span (sign OpenParenthesis (part (expr inner) (sign CloseParenthesis none)))
 
   -- operators of the level, each with its operand behind it
   pub operand_row : {m : _} → ℕ → Row_of-Operand m → Parts
@@ -142,4 +143,4 @@ args_list [] = none
 args_list (first ∷ others) = part (expr first) (more_args others)
 
 abbrev pub args : Args → Outline
-args a = node a.span (args_list a.items.items)
+args a = node a.span (args_list a.items)

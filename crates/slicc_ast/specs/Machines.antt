@@ -55,7 +55,7 @@ name_list (first ∷ others) parts = name first (more_names others parts)
 abbrev pub names : Names → Parts → Parts
 names (One n) parts = name n parts
 names (Several ns span) parts =
-    part (node span (provided (not (length ns.items == 0)) (sign OpenBrace (name_list ns.items (sign CloseBrace none))))) parts
+    part (node span (provided (not (length ns == 0)) (sign OpenBrace (name_list ns (sign CloseBrace none))))) parts
 
 -- [ , NAME ]
 abbrev pub next_parts : Option Name → Parts → Parts
@@ -72,7 +72,7 @@ abbrev pub transition : Transition → Outline
 transition t =
     node t.span (word TransitionWord (sign OpenParenthesis (names t.states (sign Comma (names t.events
     (next_parts t.next (pairs t.pairs (sign CloseParenthesis
-    (sign OpenBrace (action_list t.actions.items (sign CloseBrace none)))))))))))
+    (sign OpenBrace (action_list t.actions (sign CloseBrace none)))))))))))
 
 -- ( block | ; )
 abbrev pub function_body : Option Block → Parts
@@ -139,4 +139,4 @@ abbrev pub machine : Machine → Outline
 machine m =
     node m.span (word MachineWord (sign OpenParenthesis (type_parts m.has_type (name m.name (sign Comma
     (token (Quoted m.title) (pairs m.pairs (sign CloseParenthesis (sign Colon
-    (parameter_list m.parameters.items (sign OpenBrace (decl_list m.declarations.items (sign CloseBrace none)))))))))))))
+    (parameter_list m.parameters (sign OpenBrace (decl_list m.declarations (sign CloseBrace none)))))))))))))

@@ -67,4 +67,4 @@ balanced_list [] = none
 balanced_list (first ∷ others) = balanced_part first (balanced_list others)
 
 abbrev pub balanced : Balanced → Parts → Parts
-balanced b parts = part (node b.span (balanced_list b.parts.items)) parts
+balanced b parts = part (node b.span (balanced_list b.parts)) parts

@@ -53,7 +53,7 @@ abbrev mutual
 abbrev pub no_span : Span
 no_span = record { file = 0; start = 0; end = 0 }
 
--- the same with no spans and no conditions: two trees are equal, spans aside, where these are
+-- the same with no spans and no conditions: two trees that keep the conditions are equal, spans aside, where these are
 abbrev mutual
   pub shape_of : Outline → Outline
   shape_of (node span parts) = node no_span (shape_in parts)

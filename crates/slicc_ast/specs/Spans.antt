@@ -24,9 +24,9 @@ else_if_spans e = spans_of (expr e.condition) ++ spans_of (block_outline e.then)
 
 -- NAME pairs ;
 abbrev pub symbol_spans : Symbol → List Span
-symbol_spans s = s.name.span ∷ s.pairs.span ∷ spans_in (pair_list s.pairs.items.items)
+symbol_spans s = s.name.span ∷ s.pairs.span ∷ spans_in (pair_list s.pairs.items)
 
 -- NAME , NAME : NAME pairs ;
 abbrev pub state_spans : State → List Span
 state_spans s =
-    s.name.span ∷ s.owner.span ∷ s.permission.span ∷ s.pairs.span ∷ spans_in (pair_list s.pairs.items.items)
+    s.name.span ∷ s.owner.span ∷ s.permission.span ∷ s.pairs.span ∷ spans_in (pair_list s.pairs.items)

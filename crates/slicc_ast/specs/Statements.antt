@@ -89,7 +89,7 @@ stmt_list [] parts = parts
 stmt_list (first ∷ others) parts = part (stmt first) (stmt_list others parts)
 
 abbrev pub block_outline : Block → Outline
-block_outline b = node b.span (sign OpenBrace (stmt_list b.statements.items block_end))
+block_outline b = node b.span (sign OpenBrace (stmt_list b.statements block_end))
 
 abbrev pub block : Block → Parts → Parts
 block b parts = part (block_outline b) parts

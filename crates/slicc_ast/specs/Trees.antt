@@ -29,7 +29,7 @@ protocol_parts (Some name) parts = word Protocol (token (Quoted name) (sign Semi
 
 -- file := [ protocol STRING ; ] item { item }
 abbrev pub tree_parts : Tree → Parts
-tree_parts t = provided (not (length t.items.items == 0)) (protocol_parts t.protocol (item_list t.items.items))
+tree_parts t = provided (not (length t.items == 0)) (protocol_parts t.protocol (item_list t.items))
 
 abbrev pub tree : Tree → Outline
 tree t = node t.span (tree_parts t)

@@ -9,6 +9,7 @@ ghost use Rattle.slicc_reading.specs.Reading.{AreRead, IsRead, Refuses};
 ghost use Rattle.slicc_decl.specs.Members.{state_parts, state_row, symbol_row};
 
 use crate::heads::{ended_by, ended_name, head};
+use slicc_ast::Seq;
 use slicc_ast::tree::{Enumeration, Sign, State, States, Symbol, Word};
 use slicc_lex::Token;
 use slicc_reading::{Fault, is_name, is_word, open, refuse, sign, span, word};
@@ -71,6 +72,7 @@ pub fn enumeration(
             Ok((name, pairs, behind)) => match symbol_block(alloc, room, behind) {
                 Ok((members, left)) => {
                     let span = span(tokens, left);
+                    let members = Seq::of(members);
                     Ok((
                         Enumeration {
                             name,
@@ -169,6 +171,7 @@ pub fn states(alloc: Global, room: u32, tokens: &[Token]) -> Result<(States, &[T
             Ok((name, pairs, behind)) => match state_block(alloc, room, behind) {
                 Ok((members, left)) => {
                     let span = span(tokens, left);
+                    let members = Seq::of(members);
                     Ok((
                         States {
                             name,

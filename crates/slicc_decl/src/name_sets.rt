@@ -7,6 +7,7 @@ ghost use Rattle.slicc_grammar.specs.Form.Form.{names as names_form};
 ghost use Rattle.slicc_grammar.specs.Parts.{◌▸◌, braces, comma, name as name_part, of, repeated, sign as sign_part};
 ghost use Rattle.slicc_reading.specs.Reading.{AreRead, Refuses};
 
+use slicc_ast::Seq;
 use slicc_ast::tree::{Name, Names, Sign};
 use slicc_lex::Token;
 use slicc_reading::{Fault, is_name, is_sign, name, open, refuse, sign, span};
@@ -84,7 +85,10 @@ pub fn names(alloc: Global, room: u32, tokens: &[Token]) -> Result<(Names, &[Tok
         return Err(refuse(room, tokens));
     }
     match name_block(alloc, room, tokens) {
-        Ok((several, left)) => Ok((Names::Several(several, span(tokens, left)), left)),
+        Ok((several, left)) => {
+            let span = span(tokens, left);
+            Ok((Names::Several(Seq::of(several), span), left))
+        }
         Err(fault) => Err(fault),
     }
 }

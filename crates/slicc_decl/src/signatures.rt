@@ -8,6 +8,7 @@ ghost use Rattle.slicc_grammar.specs.Form.Form.{formal as formal_form, formals a
 ghost use Rattle.slicc_grammar.specs.Parts.{◌▸◌, comma, name as name_part, of, optional, parentheses, repeated, sign as sign_part, star, type as type_part};
 ghost use Rattle.slicc_reading.specs.Reading.{AreRead, IsRead, Refuses};
 
+use slicc_ast::Seq;
 use slicc_ast::tree::{Formal, Formals, Name, Sign, TypeName};
 use slicc_lex::Token;
 use slicc_reading::{Fault, is_name, is_sign, name, open, refuse, sign, span, type_name};
@@ -113,7 +114,7 @@ fn next_formal(alloc: Global, room: u32, tokens: &[Token]) -> Result<(Formal, &[
 /// Formals, separated by commas.
 fn several_formals(alloc: Global, room: u32, tokens: &[Token]) -> Result<(Formals, &[Token]), Fault>
     ensures { MatchResult result
-        (λ read. IsRead room (of formal_form ▸ repeated (comma ▸ of formal_form)) (node read.0.span (formal_list read.0.items.items)) tokens.now tokens.now read.1.now)
+        (λ read. IsRead room (of formal_form ▸ repeated (comma ▸ of formal_form)) (node read.0.span (formal_list read.0.items)) tokens.now tokens.now read.1.now)
         (Refuses room (of formal_form ▸ repeated (comma ▸ of formal_form)) tokens.now) }
 {
     let mut items = Vec::new(alloc);
@@ -134,6 +135,7 @@ fn several_formals(alloc: Global, room: u32, tokens: &[Token]) -> Result<(Formal
         }
     }
     let span = span(tokens, left);
+    let items = Seq::of(items);
     Ok((Formals { items, span }, left))
 }
 
@@ -144,13 +146,13 @@ fn optional_formals(
     tokens: &[Token],
 ) -> Result<(Formals, &[Token]), Fault>
     ensures { MatchResult result
-        (λ read. IsRead room (optional (of formals_form)) (node read.0.span (formal_list read.0.items.items)) tokens.now tokens.now read.1.now)
+        (λ read. IsRead room (optional (of formals_form)) (node read.0.span (formal_list read.0.items)) tokens.now tokens.now read.1.now)
         (Refuses room (optional (of formals_form)) tokens.now) }
 {
     if is_name(tokens) {
         return several_formals(alloc, room, tokens);
     }
-    let items = Vec::new(alloc);
+    let items = Seq::new(alloc);
     let span = span(tokens, tokens);
     Ok((Formals { items, span }, tokens))
 }
@@ -158,7 +160,7 @@ fn optional_formals(
 /// Formals where there are some, and `)`.
 fn closed_formals(alloc: Global, room: u32, tokens: &[Token]) -> Result<(Formals, &[Token]), Fault>
     ensures { MatchResult result
-        (λ read. AreRead room (optional (of formals_form) ▸ sign_part CloseParenthesis) (λ others. part (node read.0.span (formal_list read.0.items.items)) (sign_of CloseParenthesis others)) tokens.now read.1.now)
+        (λ read. AreRead room (optional (of formals_form) ▸ sign_part CloseParenthesis) (λ others. part (node read.0.span (formal_list read.0.items)) (sign_of CloseParenthesis others)) tokens.now read.1.now)
         (Refuses room (optional (of formals_form) ▸ sign_part CloseParenthesis) tokens.now) }
 {
     match optional_formals(alloc, room, tokens) {

@@ -15,6 +15,7 @@ use crate::fields::plain_member;
 use crate::heads::{begins_ended_pairs, ended_pairs, head};
 use crate::name_kinds::is_skipped_name;
 use crate::skipped_functions::skipped;
+use slicc_ast::Seq;
 use slicc_ast::tree::{Member, Name, Sign, Structure, TypeName, Word};
 use slicc_lex::Token;
 use slicc_reading::{
@@ -184,6 +185,7 @@ pub fn structure(alloc: Global, room: u32, tokens: &[Token]) -> Result<(Structur
             Ok((name, pairs, behind)) => match member_block(alloc, room, behind) {
                 Ok((members, left)) => {
                     let span = span(tokens, left);
+                    let members = Seq::of(members);
                     Ok((
                         Structure {
                             name,

@@ -17,6 +17,7 @@ ghost use Rattle.slicc_decl.specs.Members.{action_row, pair_parts, transition_in
 
 use crate::heads::ended_by;
 use crate::name_sets::names;
+use slicc_ast::Seq;
 use slicc_ast::tree::{Name, Names, Pair, Pairs, Sign, Transition, Word};
 use slicc_lex::Token;
 use slicc_reading::{
@@ -35,7 +36,7 @@ fn further_pairs<'t>(
 ) -> Result<(Pairs, &'t [Token]), Fault>
     requires { IsSpelledBefore (pair_parts first) start.now tokens.now }
     ensures { MatchResult result
-        (λ read. IsRead room pairs_part (node read.0.span (pair_list read.0.items.items)) start.now tokens.now read.1.now)
+        (λ read. IsRead room pairs_part (node read.0.span (pair_list read.0.items)) start.now tokens.now read.1.now)
         (Refuses room pairs_part tokens.now) }
 {
     let mut items = Vec::new(alloc);
@@ -53,6 +54,7 @@ fn further_pairs<'t>(
         }
     }
     let span = span(start, left);
+    let items = Seq::of(items);
     Ok((Pairs { items, span }, left))
 }
 
@@ -65,7 +67,7 @@ fn bare_end<'t>(
 ) -> Result<(Pairs, &'t [Token]), Fault>
     requires { AreRead room comma (sign_of Comma) start.now tokens.now }
     ensures { MatchResult result
-        (λ read. IsRead room (string_part ▸ pairs_part) (node read.0.span (pair_list read.0.items.items)) start.now tokens.now read.1.now)
+        (λ read. IsRead room (string_part ▸ pairs_part) (node read.0.span (pair_list read.0.items)) start.now tokens.now read.1.now)
         (Refuses room (string_part ▸ pairs_part) tokens.now) }
 {
     match string(alloc, room, tokens) {
@@ -90,7 +92,7 @@ fn valued_end<'t>(
     requires name { IsRead room name_part (node name.span (token (Named name.text) none)) tokens.now tokens.now behind.now }
     requires ahead { is_ahead (sign_kind Equals ∷ []) (symbols behind.now) ≡ true }
     ensures { MatchResult result
-        (λ read. IsRead room (optional (sign_part Equals ▸ value_part) ▸ pairs_part) (node read.0.span (pair_list read.0.items.items)) start.now behind.now read.1.now)
+        (λ read. IsRead room (optional (sign_part Equals ▸ value_part) ▸ pairs_part) (node read.0.span (pair_list read.0.items)) start.now behind.now read.1.now)
         (Refuses room (optional (sign_part Equals ▸ value_part) ▸ pairs_part) behind.now) }
 {
     match assigned(alloc, room, behind) {
@@ -152,7 +154,7 @@ fn optional_end(
         (Refuses room (optional (comma ▸ of transition_end_form)) tokens.now) }
 {
     if !is_sign(Sign::Comma, tokens) {
-        let items = Vec::new(alloc);
+        let items = Seq::new(alloc);
         let span = span(tokens, tokens);
         return Ok((None, Pairs { items, span }, tokens));
     }
@@ -310,6 +312,7 @@ pub fn transition(
                         pairs,
                     } = head;
                     let span = span(tokens, left);
+                    let actions = Seq::of(actions);
                     Ok((
                         Transition {
                             states,

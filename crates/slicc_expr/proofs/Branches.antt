@@ -72,7 +72,7 @@ else_ifs_of_row n (more_of-ElseIf condition shape inner span more) others =
 
 abbrev pub branches_of : If → Parts
 branches_of i =
-    branch_parts (out-If i).condition (out-If i).then (other_branches_parts (out-If i).others.items (out-If i).otherwise none)
+    branch_parts (out-If i).condition (out-If i).then (other_branches_parts (out-If i).others (out-If i).otherwise none)
 
 pub if_is : (i : If) → if_outline i ≡ node (out-If i).span (branches_of i)
 if_is (If' condition shape row block n others None' span) = search (rules, the_lemmas, list_of_row, else_ifs_of_row)

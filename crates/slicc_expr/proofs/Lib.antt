@@ -1,4 +1,5 @@
 pub mod Rows
+pub mod MadeNodes
 pub mod Ahead
 pub mod Loops
 pub mod StatementForms

@@ -18,6 +18,7 @@ use crate::port_heads::{enqueue_head, peek_head};
 use crate::statement_ahead::{begins_else_if, begins_nesting, begins_statement};
 use crate::statement_values::condition;
 use crate::values::begins_opening;
+use slicc_ast::Seq;
 use slicc_ast::tree::{Block, ElseIf, Expr, If, Sign, Stmt, Word};
 use slicc_lex::Token;
 use slicc_reading::{Fault, is_name, is_sign, is_word, open, refuse, sign, span, word};
@@ -53,13 +54,13 @@ pub fn statement_block(
 
 /// Statements and `}`.
 #[cycle(block)]
-fn statements(alloc: Global, room: u32, tokens: &[Token]) -> Result<(Vec<Stmt>, &[Token]), Fault>
+fn statements(alloc: Global, room: u32, tokens: &[Token]) -> Result<(Seq<Stmt>, &[Token]), Fault>
     ensures { MatchResult result
         (λ read. AreRead room statements_end
-        (statements_parts read.0.items) tokens.now read.1.now)
+        (statements_parts read.0) tokens.now read.1.now)
         (Refuses room statements_end tokens.now) }
 {
-    let mut items = Vec::new(alloc);
+    let mut items = Seq::new(alloc);
     let mut left = tokens;
     'more: while begins_statement(left) {
         match statement(alloc, room, left) {
@@ -190,6 +191,7 @@ fn conditional(alloc: Global, room: u32, tokens: &[Token]) -> Result<(If, &[Toke
         Ok((condition, then, behind)) => match other_branches(alloc, room, behind) {
             Ok((others, otherwise, left)) => {
                 let span = span(tokens, left);
+                let others = Seq::of(others);
                 Ok((
                     If {
                         condition,

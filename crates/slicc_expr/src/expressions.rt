@@ -22,8 +22,8 @@ use crate::cast::cast_head;
 use crate::nodes;
 use crate::operator_signs::operator;
 use crate::values::{begins_expression, begins_simple, new_entry, simple};
-use slicc_ast::Text;
 use slicc_ast::tree::{Args, Expr, Name, Operand, Sign, Suffix, TypeName, Word};
+use slicc_ast::{Seq, Text};
 use slicc_lex::Token;
 use slicc_reading::{Fault, is_name, is_sign, is_word, name, open, refuse, sign, span, word};
 use std::alloc::Global;
@@ -319,6 +319,7 @@ fn argument_list(alloc: Global, room: u32, tokens: &[Token]) -> Result<(Args, &[
     let mut items = Vec::new(alloc);
     if !begins_expression(tokens) {
         let span = span(tokens, tokens);
+        let items = Seq::of(items);
         return Ok((Args { items, span }, tokens));
     }
     let mut left = match level(alloc, room, LEVELS, tokens) {
@@ -338,6 +339,7 @@ fn argument_list(alloc: Global, room: u32, tokens: &[Token]) -> Result<(Args, &[
         }
     }
     let span = span(tokens, left);
+    let items = Seq::of(items);
     Ok((Args { items, span }, left))
 }
 

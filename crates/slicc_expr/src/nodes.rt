@@ -7,10 +7,12 @@ ghost use Rattle.slicc_ast.specs.Names.{name as name_of, sign, type_name, word};
 ghost use Rattle.slicc_ast.specs.Outline.{node, none, part, provided};
 ghost use Rattle.slicc_expr.specs.Nodes.{operation_node, postfix_node};
 
+use ruby_base::{Boxed, Seq};
 use slicc_ast::tree::{Args, Expr, Name, Operand, Span, Suffix, TypeName};
 use slicc_ast::{NoMemory, Text};
 use std::alloc::Global;
 
+#[tactic(auto, using(crate::proofs::MadeNodes::made_of_boxes))]
 pub fn operation(
     alloc: Global,
     first: Expr,
@@ -20,7 +22,8 @@ pub fn operation(
     ensures spells { IfOk result (λ e. expr e ≡ operation_node span first others.items) }
     ensures level { IfOk result (λ e. level_of e ≡ list_level others.items) }
 {
-    let first = Box::new(alloc, first)?;
+    let first = Boxed::new(alloc, first)?;
+    let others = Seq::of(others);
     Ok(Expr::Operation {
         first,
         others,
@@ -28,20 +31,22 @@ pub fn operation(
     })
 }
 
+#[tactic(auto, using(crate::proofs::MadeNodes::made_of_boxes))]
 pub fn not(alloc: Global, operand: Expr, span: Span) -> Result<Expr, NoMemory>
     ensures spells { IfOk result (λ e. expr e ≡ node span
         (provided (nat_le 7 (level_of operand)) (sign NotSign (part (expr operand) none)))) }
     ensures level { IfOk result (λ e. level_of e ≡ 7) }
 {
-    Ok(Expr::Not(Box::new(alloc, operand)?, span))
+    Ok(Expr::Not(Boxed::new(alloc, operand)?, span))
 }
 
+#[tactic(auto, using(crate::proofs::MadeNodes::made_of_boxes))]
 pub fn negate(alloc: Global, operand: Expr, span: Span) -> Result<Expr, NoMemory>
     ensures spells { IfOk result (λ e. expr e ≡ node span
         (provided (nat_le 7 (level_of operand)) (sign MinusSign (part (expr operand) none)))) }
     ensures level { IfOk result (λ e. level_of e ≡ 7) }
 {
-    Ok(Expr::Negate(Box::new(alloc, operand)?, span))
+    Ok(Expr::Negate(Boxed::new(alloc, operand)?, span))
 }
 
 pub fn field(name: Name, span: Span) -> Suffix
@@ -66,6 +71,7 @@ pub fn index(key: Expr, span: Span) -> Suffix
     Suffix::Index(key, span)
 }
 
+#[tactic(auto, using(crate::proofs::MadeNodes::made_of_boxes))]
 pub fn postfix(
     alloc: Global,
     value: Expr,
@@ -75,7 +81,8 @@ pub fn postfix(
     ensures spells { IfOk result (λ e. expr e ≡ postfix_node span value suffixes.items) }
     ensures level { IfOk result (λ e. level_of e ≡ 8) }
 {
-    let value = Box::new(alloc, value)?;
+    let value = Boxed::new(alloc, value)?;
+    let suffixes = Seq::of(suffixes);
     Ok(Expr::Postfix {
         value,
         suffixes,
@@ -94,22 +101,25 @@ pub fn call(name: Name, arguments: Args, span: Span) -> Expr
     }
 }
 
+#[tactic(auto, using(crate::proofs::MadeNodes::made_of_boxes))]
 pub fn is_valid(alloc: Global, value: Expr, span: Span) -> Result<Expr, NoMemory>
     ensures spells { IfOk result (λ e. expr e ≡ node span
         (word IsValidWord (sign OpenParenthesis (part (expr value) (sign CloseParenthesis none))))) }
     ensures level { IfOk result (λ e. level_of e ≡ 9) }
 {
-    Ok(Expr::IsValid(Box::new(alloc, value)?, span))
+    Ok(Expr::IsValid(Boxed::new(alloc, value)?, span))
 }
 
+#[tactic(auto, using(crate::proofs::MadeNodes::made_of_boxes))]
 pub fn is_invalid(alloc: Global, value: Expr, span: Span) -> Result<Expr, NoMemory>
     ensures spells { IfOk result (λ e. expr e ≡ node span
         (word IsInvalidWord (sign OpenParenthesis (part (expr value) (sign CloseParenthesis none))))) }
     ensures level { IfOk result (λ e. level_of e ≡ 9) }
 {
-    Ok(Expr::IsInvalid(Box::new(alloc, value)?, span))
+    Ok(Expr::IsInvalid(Boxed::new(alloc, value)?, span))
 }
 
+#[tactic(auto, using(crate::proofs::MadeNodes::made_of_boxes))]
 pub fn cast(
     alloc: Global,
     target: TypeName,
@@ -124,15 +134,16 @@ pub fn cast(
     Ok(Expr::Cast {
         target,
         mode,
-        value: Box::new(alloc, value)?,
+        value: Boxed::new(alloc, value)?,
         span,
     })
 }
 
+#[tactic(auto, using(crate::proofs::MadeNodes::made_of_boxes))]
 pub fn group(alloc: Global, inner: Expr, span: Span) -> Result<Expr, NoMemory>
     ensures spells { IfOk result (λ e. expr e ≡ node span
         (sign OpenParenthesis (part (expr inner) (sign CloseParenthesis none)))) }
     ensures level { IfOk result (λ e. level_of e ≡ 9) }
 {
-    Ok(Expr::Group(Box::new(alloc, inner)?, span))
+    Ok(Expr::Group(Boxed::new(alloc, inner)?, span))
 }

@@ -188,8 +188,8 @@ fn last_suffix(suffixes: &[Suffix]) -> (&'static str, u32) {
 fn root(e: &Expr) -> (&'static str, u32) {
     match e {
         Expr::Operation { others, .. } => last_operand(others),
-        Expr::Not(operand, _) => ("!", span_of(operand).start),
-        Expr::Negate(operand, _) => ("negate", span_of(operand).start),
+        Expr::Not(operand, _) => ("!", span_of(operand.get()).start),
+        Expr::Negate(operand, _) => ("negate", span_of(operand.get()).start),
         Expr::Postfix { suffixes, .. } => last_suffix(suffixes),
         Expr::Number(_, span) => ("number", span.start),
         Expr::True(span) => ("true", span.start),
@@ -199,10 +199,10 @@ fn root(e: &Expr) -> (&'static str, u32) {
         Expr::Member { member, .. } => ("member", member.span.start),
         Expr::Call { arguments, .. } => ("call", arguments.span.start),
         Expr::New(name, _) => ("new", name.span.start),
-        Expr::IsValid(value, _) => ("is_valid", span_of(value).start),
-        Expr::IsInvalid(value, _) => ("is_invalid", span_of(value).start),
-        Expr::Cast { value, .. } => ("static_cast", span_of(value).start),
-        Expr::Group(inner, _) => ("()", span_of(inner).start),
+        Expr::IsValid(value, _) => ("is_valid", span_of(value.get()).start),
+        Expr::IsInvalid(value, _) => ("is_invalid", span_of(value.get()).start),
+        Expr::Cast { value, .. } => ("static_cast", span_of(value.get()).start),
+        Expr::Group(inner, _) => ("()", span_of(inner.get()).start),
     }
 }
 

@@ -5,7 +5,6 @@ mod ReadTexts
 mod WantedItems
 mod TreeTexts
 mod Stepping
-pub mod SameWants
 pub mod OneText
 pub mod OneGathering
 pub mod OneNameEach

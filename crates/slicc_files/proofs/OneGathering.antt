@@ -12,12 +12,11 @@ use Rattle.slicc_files.specs.declared.gathered.Gathered.TheVariants.{Files, Refu
 use Rattle.slicc_files.specs.declared.gathered.Source.{Source}
 use Rattle.slicc_files.specs.declared.reading.Broken.{Broken}
 use Rattle.slicc_files.specs.declared.state.Wanted.{Wanted}
-use Rattle.slicc_files.specs.Gathering.{IsGathered, IsGatheredFrom, IsNext, is_seen, most_files, read_of, refusal, source_of, wanted_of}
+use Rattle.slicc_files.specs.Gathering.{IsGathered, IsGatheredFrom, IsGatheredOver, IsNext, is_seen, most_files, read_of, refusal, source_of, wanted_of}
 use Rattle.slicc_files.specs.Gathering.IsGathered.{finished, passed_by, one_too_many, went_on, refused, absent, too_large, too_long, failed, no_memory, no_memory_for}
 use Rattle.slicc_files.specs.Reads.{Read, AreGiven, file_limit, given}
-use Rattle.slicc_files.specs.Same.{AreAlike, IsAlike, IsGatheredOver, IsSameTree}
 use Rattle.slicc_files.specs.Texts.{IsReadText, code_of}
-use Rattle.slicc_files.proofs.OneText.{IsOneAnswer, one_text}
+use Rattle.slicc_files.proofs.OneText.{one_text}
 
 -- reads agree: one by one, as long as the names are the same, they gave the same
 abbrev pub DoAgree : List Read → List Read → Type 0
@@ -123,74 +122,53 @@ same_read {folder = folder} {seen = seen} {trees = trees} {w = w} {left = left} 
     let agreed = subst P r.reads_are agree refl in
     record { more = r.more; leads = subst (λ x. ReadLeads folder seen trees w left x r.more g) (sym agreed.0) r.leads; agree = agreed.1 }
 
-alike_push : (ts us : List Tree) (t u : Tree) → AreAlike ts us → IsSameTree t u → AreAlike (ts ++ t ∷ []) (us ++ u ∷ [])
-alike_push [] [] t u alike same = (same, tt)
-alike_push [] (y ∷ us) t u alike same = absurd alike
-alike_push (x ∷ ts) [] t u alike same = absurd alike
-alike_push (x ∷ ts) (y ∷ us) t u alike same = (alike.0, alike_push ts us t u alike.1 same)
-
 at_end : {folder : List ℕ} {seen : List Source} {trees : List Tree} {reads : List Read} {g : Gathered} → IsGathered folder seen trees [] reads g → g ≢ NoMemory → g ≡ Files seen trees
 at_end finished some = refl
 at_end no_memory some = absurd (some refl)
 
 -- a second way from a file that is there: the same text, or more bytes than there may be
-module _ (folder : List ℕ) (seen : List Source) (others : List Tree) (w : Wanted) (left : List Wanted) (bytes : List ℕ) (more : List Read) (h : Gathered) where
-  again_ok : (t : Tree) → length bytes ≤ file_limit → IsReadText (length seen) bytes (Ok t) → ReadLeads folder seen others w left (got.Bytes bytes) more h
-      → (u : Tree) × IsSameTree t u × IsGathered folder (seen ++ source_of w bytes ∷ []) (others ++ u ∷ []) (wanted_of folder (length seen) t ++ left) more h
-  again_ok t short read (inl on) = ok_of on.answer (one_text (length seen) bytes (Ok t) on.answer read on.read) on.leads where
-    ok_of : (answer : Result Tree Broken) → IsOneAnswer (Ok t) answer → TextLeads folder seen others w left bytes more h answer
-        → (u : Tree) × IsSameTree t u × IsGathered folder (seen ++ source_of w bytes ∷ []) (others ++ u ∷ []) (wanted_of folder (length seen) t ++ left) more h
-    ok_of (Ok u) one leads =
-        (u, one.same, subst (λ ws. IsGathered folder (seen ++ source_of w bytes ∷ []) (others ++ u ∷ []) (ws ++ left) more h) (sym (one.wants folder (length seen))) leads)
-    ok_of (Err c) one leads = absurd one
-  again_ok t short read (inr (long, is)) = absurd (omega (arith, short, long))
+module _ (folder : List ℕ) (seen : List Source) (trees : List Tree) (w : Wanted) (left : List Wanted) (bytes : List ℕ) (more : List Read) (h : Gathered) where
+  again : (answer : Result Tree Broken) → length bytes ≤ file_limit → IsReadText (length seen) bytes answer → ReadLeads folder seen trees w left (got.Bytes bytes) more h
+      → TextLeads folder seen trees w left bytes more h answer
+  again answer short read (inl on) =
+      subst (TextLeads folder seen trees w left bytes more h) (one_text (length seen) bytes on.answer answer on.read read) on.leads
+  again answer short read (inr (long, is)) = absurd (omega (arith, short, long))
 
-  again_err : (b : Broken) → length bytes ≤ file_limit → IsReadText (length seen) bytes (Err b) → ReadLeads folder seen others w left (got.Bytes bytes) more h
-      → Refused (refusal (source_of w bytes) b.offset (code_of b.rule)) ≡ h
-  again_err b short read (inl on) = err_of on.answer (one_text (length seen) bytes (Err b) on.answer read on.read) on.leads where
-    err_of : (answer : Result Tree Broken) → IsOneAnswer (Err b) answer → TextLeads folder seen others w left bytes more h answer
-        → Refused (refusal (source_of w bytes) b.offset (code_of b.rule)) ≡ h
-    err_of (Ok u) one leads = absurd one
-    err_of (Err c) one leads = ap (λ (x : Broken). Refused (refusal (source_of w bytes) x.offset (code_of x.rule))) one ∙ sym leads
-  again_err b short read (inr (long, is)) = absurd (omega (arith, short, long))
-
-  again_long : file_limit < length bytes → ReadLeads folder seen others w left (got.Bytes bytes) more h → TooLarge w.name ≡ h
+  again_long : file_limit < length bytes → ReadLeads folder seen trees w left (got.Bytes bytes) more h → TooLarge w.name ≡ h
   again_long long (inl on) = absurd (omega (arith, on.short, long))
   again_long long (inr (also, is)) = sym is
 
 pub one_gathering : {folder : List ℕ} {seen : List Source} {trees : List Tree} {left : List Wanted} {reads : List Read} {g : Gathered}
-    → IsGathered folder seen trees left reads g → (others : List Tree) (reads' : List Read) (h : Gathered)
-    → IsGathered folder seen others left reads' h → AreAlike trees others → DoAgree reads reads' → g ≢ NoMemory → h ≢ NoMemory → IsAlike g h
-one_gathering (finished {seen = seen} {trees = trees}) others reads' h also alike agree some any =
-    subst (IsAlike (Files seen trees)) (sym (at_end also any)) (refl, alike)
-one_gathering (passed_by is leads) others reads' h also alike agree some any =
-    one_gathering leads others reads' h (only_passed is (fate also any)) alike agree some any
-one_gathering (one_too_many {seen = seen} {w = w} {s = s} unseen many at) others reads' h also alike agree some any =
+    → IsGathered folder seen trees left reads g → (reads' : List Read) (h : Gathered)
+    → IsGathered folder seen trees left reads' h → DoAgree reads reads' → g ≢ NoMemory → h ≢ NoMemory → g ≡ h
+one_gathering finished reads' h also agree some any = sym (at_end also any)
+one_gathering (passed_by is leads) reads' h also agree some any =
+    one_gathering leads reads' h (only_passed is (fate also any)) agree some any
+one_gathering (one_too_many {seen = seen} {w = w} {s = s} unseen many at) reads' h also agree some any =
     let beyond = only_beyond unseen many (fate also any) in
     let same : s ≡ beyond.source = same_Some s beyond.source (sym at ∙ beyond.at) in
     ap (λ (x : Source). Refused (refusal x w.offset (codes "R3"))) same ∙ sym beyond.refused_is
-one_gathering {folder = folder} (went_on {seen = seen} {trees = trees} {w = w} {left = left} {bytes = bytes} {t = t} {reads = more} next short read leads) others reads' h also alike agree some any =
+one_gathering {folder = folder} (went_on {seen = seen} {trees = trees} {w = w} {left = left} {bytes = bytes} {t = t} {reads = more} next short read leads) reads' h also agree some any =
     let second = same_read (got.Bytes bytes) more (only_read next (fate also any)) agree in
-    let on = again_ok folder seen others w left bytes second.more h t short read second.leads in
-    one_gathering leads (others ++ on.0 ∷ []) second.more h on.2 (alike_push trees others t on.0 alike on.1) second.agree some any
-one_gathering {folder = folder} (refused {seen = seen} {w = w} {left = left} {bytes = bytes} {b = b} next short read) others reads' h also alike agree some any =
+    one_gathering leads second.more h (again folder seen trees w left bytes second.more h (Ok t) short read second.leads) second.agree some any
+one_gathering {folder = folder} (refused {seen = seen} {trees = trees} {w = w} {left = left} {bytes = bytes} {b = b} next short read) reads' h also agree some any =
     let second = same_read (got.Bytes bytes) [] (only_read next (fate also any)) agree in
-    again_err folder seen others w left bytes second.more h b short read second.leads
-one_gathering (absent {w = w} next) others reads' h also alike agree some any =
+    sym (again folder seen trees w left bytes second.more h (Err b) short read second.leads)
+one_gathering (absent {w = w} next) reads' h also agree some any =
     sym (same_read got.Absent [] (only_read next (fate also any)) agree).leads
-one_gathering (too_large {w = w} next) others reads' h also alike agree some any =
+one_gathering (too_large {w = w} next) reads' h also agree some any =
     sym (same_read got.TooLarge [] (only_read next (fate also any)) agree).leads
-one_gathering {folder = folder} (too_long {seen = seen} {w = w} {left = left} {bytes = bytes} next long) others reads' h also alike agree some any =
+one_gathering {folder = folder} (too_long {seen = seen} {trees = trees} {w = w} {left = left} {bytes = bytes} next long) reads' h also agree some any =
     let second = same_read (got.Bytes bytes) [] (only_read next (fate also any)) agree in
-    again_long folder seen others w left bytes second.more h long second.leads
-one_gathering (failed {w = w} next) others reads' h also alike agree some any =
+    again_long folder seen trees w left bytes second.more h long second.leads
+one_gathering (failed {w = w} next) reads' h also agree some any =
     sym (same_read got.Failed [] (only_read next (fate also any)) agree).leads
-one_gathering no_memory others reads' h also alike agree some any = absurd (some refl)
-one_gathering (no_memory_for next) others reads' h also alike agree some any = absurd (some refl)
+one_gathering no_memory reads' h also agree some any = absurd (some refl)
+one_gathering (no_memory_for next) reads' h also agree some any = absurd (some refl)
 
-pub one_by_reads : (name : List ℕ) (reads : List Read) (g h : Gathered) → IsGatheredFrom name reads g → IsGatheredFrom name reads h → g ≢ NoMemory → h ≢ NoMemory → IsAlike g h
-one_by_reads name reads g h is also some any = one_gathering is [] reads h also tt (agree_self reads) some any
+pub one_by_reads : (name : List ℕ) (reads : List Read) (g h : Gathered) → IsGatheredFrom name reads g → IsGatheredFrom name reads h → g ≢ NoMemory → h ≢ NoMemory → g ≡ h
+one_by_reads name reads g h is also some any = one_gathering is reads h also (agree_self reads) some any
 
-pub one_over_files : (files : LibraryFiles) (name : List ℕ) (g h : Gathered) → IsGatheredOver files name g → IsGatheredOver files name h → g ≢ NoMemory → h ≢ NoMemory → IsAlike g h
+pub one_over_files : (files : LibraryFiles) (name : List ℕ) (g h : Gathered) → IsGatheredOver files name g → IsGatheredOver files name h → g ≢ NoMemory → h ≢ NoMemory → g ≡ h
 one_over_files files name g h (reads, given_are, is) (others, also_given, also) some any =
-    one_gathering is [] others h also tt (agree_given files reads others given_are also_given) some any
+    one_gathering is others h also (agree_given files reads others given_are also_given) some any

@@ -1,5 +1,4 @@
--- A text is read in one way: two trees of it are the same and want the same files, and what is broken in it is one rule at
--- one place.
+-- A text is read in one way: it has one tree, or what is broken in it is one rule at one place.
 use Rattle.std.proofs.Common.{◌≡◌, ◌+◌, ◌-◌, ◌++◌, ℕ, Some, Result, Ok, Err, List, [], length, refl, sym, subst, ap, ◌∙◌, arith, length-append}
 use Rattle.std.proofs.lemmas.List.{length-map}
 use Rattle.std.proofs.lemmas.Option.{same_Some}
@@ -21,23 +20,9 @@ use Rattle.slicc_files.proofs.OneSpelling.{one_spelling}
 use Rattle.slicc_files.specs.declared.reading.Broken.{Broken}
 use Rattle.slicc_files.specs.declared.reading.TextRule.{TextRule}
 use Rattle.slicc_files.specs.declared.reading.TextRule.TheVariants.{BadToken, DeepNesting}
-use Rattle.slicc_files.specs.Gathering.{wanted_of}
-use Rattle.slicc_files.specs.Same.{IsOneReading, IsSameTree}
 use Rattle.slicc_files.specs.Texts.{IsReadText, IsReadTokens, broken_at, broken_by}
 use Rattle.slicc_files.specs.Texts.IsReadText.{has_no_tokens, has_tokens}
 use Rattle.slicc_files.specs.Texts.IsReadTokens.{spells_a_tree, has_a_bad_token, nests_too_deep}
-use Rattle.slicc_files.proofs.SameWants.{same_wants}
-
--- two trees of one text
-pub record IsOneTree (t u : Tree) : Type 0 where
-  pub same : IsSameTree t u
-  pub wants : (folder : List ℕ) (file : ℕ) → wanted_of folder file t ≡ wanted_of folder file u
-
-abbrev pub IsOneAnswer : Result Tree Broken → Result Tree Broken → Type 0
-IsOneAnswer (Ok t) (Ok u) = IsOneTree t u
-IsOneAnswer (Ok t) (Err c) = ⊥
-IsOneAnswer (Err b) (Ok u) = ⊥
-IsOneAnswer (Err b) (Err c) = b ≡ c
 
 -- a rule is broken at the token that so many are left from on
 abbrev IsBrokenBefore : List Token → TextRule → ℕ → Broken → Type 0
@@ -79,30 +64,30 @@ one_broken tokens rule left b c (t, at, is) (u, also, same) =
     let token : t ≡ u = same_Some t u (sym at ∙ also) in
     is ∙ ap (λ (x : Token). broken_at rule x.span.start) token ∙ sym same
 
-one_answer_to : (tokens : List Token) (stop : Stop) (a b : Result Tree Broken) → IsAnswerTo tokens stop a → IsAnswerTo tokens stop b → IsOneAnswer a b
-one_answer_to tokens (Passed rest) (Ok t) (Ok u) is also = record { same = one_spelling tokens t u is also; wants = same_wants tokens t u is also }
+one_answer_to : (tokens : List Token) (stop : Stop) (a b : Result Tree Broken) → IsAnswerTo tokens stop a → IsAnswerTo tokens stop b → a ≡ b
+one_answer_to tokens (Passed rest) (Ok t) (Ok u) is also = ap Ok (one_spelling tokens t u is also)
 one_answer_to tokens (Passed rest) (Ok t) (Err c) is also = absurd also
 one_answer_to tokens (Passed rest) (Err b) answer is also = absurd is
 one_answer_to tokens (Bad rest) (Ok t) answer is also = absurd is
 one_answer_to tokens (Bad rest) (Err b) (Ok u) is also = absurd also
-one_answer_to tokens (Bad rest) (Err b) (Err c) is also = one_broken tokens BadToken (length rest) b c is also
+one_answer_to tokens (Bad rest) (Err b) (Err c) is also = ap Err (one_broken tokens BadToken (length rest) b c is also)
 one_answer_to tokens (Deep rest) (Ok t) answer is also = absurd is
 one_answer_to tokens (Deep rest) (Err b) (Ok u) is also = absurd also
-one_answer_to tokens (Deep rest) (Err b) (Err c) is also = one_broken tokens DeepNesting (length rest) b c is also
+one_answer_to tokens (Deep rest) (Err b) (Err c) is also = ap Err (one_broken tokens DeepNesting (length rest) b c is also)
 one_answer_to tokens Short answer other is also = absurd is
 
-one_of_tokens : (tokens : List Token) (a b : Result Tree Broken) → IsReadTokens tokens a → IsReadTokens tokens b → IsOneAnswer a b
+one_of_tokens : (tokens : List Token) (a b : Result Tree Broken) → IsReadTokens tokens a → IsReadTokens tokens b → a ≡ b
 one_of_tokens tokens a b is also =
     let first = stopped_tokens tokens a is in
     let other = stopped_tokens tokens b also in
     let same : other.stop ≡ first.stop = one_stop written 64 (form Form.file done) end (symbols tokens) other.stop first.stop other.stopped first.stopped in
     one_answer_to tokens first.stop a b first.answered (subst (λ s. IsAnswerTo tokens s b) same other.answered)
 
-pub one_text : (file : ℕ) (bytes : List ℕ) (a b : Result Tree Broken) → IsReadText file bytes a → IsReadText file bytes b → IsOneAnswer a b
+pub one_text : (file : ℕ) (bytes : List ℕ) (a b : Result Tree Broken) → IsReadText file bytes a → IsReadText file bytes b → a ≡ b
 one_text file bytes a b (has_no_tokens {why = why} {broken = first} reads is) (has_no_tokens {why = other} {broken = second} also same) =
     let one : Err why ≡ Err other = one_reading reads also in
     let fault : why ≡ other = cc one in
-    same_Some first second (sym is ∙ ap broken_by fault ∙ same)
+    ap Err (same_Some first second (sym is ∙ ap broken_by fault ∙ same))
 one_text file bytes a b (has_no_tokens {why = why} reads is) (has_tokens {tokens = tokens} also of) =
     let one : Err why ≡ Ok tokens = one_reading reads also in
     absurd (cc one)
@@ -113,12 +98,3 @@ one_text file bytes a b (has_tokens {tokens = tokens} {answer = first} reads is)
     let one : Ok tokens ≡ Ok others = one_reading reads also in
     let same : tokens ≡ others = cc one in
     one_of_tokens tokens first second is (subst (λ ts. IsReadTokens ts second) (sym same) of)
-
-reading_of : (a b : Result Tree Broken) → IsOneAnswer a b → IsOneReading a b
-reading_of (Ok t) (Ok u) one = one.same
-reading_of (Ok t) (Err c) one = one
-reading_of (Err b) (Ok u) one = one
-reading_of (Err b) (Err c) one = one
-
-pub one_way : (file : ℕ) (bytes : List ℕ) (a b : Result Tree Broken) → IsReadText file bytes a → IsReadText file bytes b → IsOneReading a b
-one_way file bytes a b is also = reading_of a b (one_text file bytes a b is also)

@@ -1,5 +1,5 @@
 -- What a library that tells its files has given, read by read, and whether a read failed.
-use Rattle.std.proofs.Common.{◌≡◌, ◌≢◌, ◌≤◌, ◌⊎◌, inl, inr, ℕ, if◌then◌else◌, Bool, Option, Some, Result, Ok, Err, List, [], ◌∷◌, length, refl, sym, ◌∙◌, ap, subst, arith}
+use Rattle.std.proofs.Common.{◌≡◌, ◌≢◌, ◌≤◌, ◌⊎◌, inl, inr, ℕ, if◌then◌else◌, Bool, Option, Some, List, [], ◌∷◌, length, refl, sym, ◌∙◌, ap, subst, arith}
 use Rattle.std.proofs.lemmas.Bool.{le-ltb, lt-ltb}
 use Rattle.ruby_outside.specs.Faults.{Rose}
 use Rattle.ruby_outside.specs.Files.{Files, Reads, IsLawfulRead}

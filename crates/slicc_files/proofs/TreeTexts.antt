@@ -43,10 +43,10 @@ few_behind : (name : Option (List ℕ)) (items : List Item) → length items ≤
 few_behind None items = few_items items
 few_behind (Some name) items = omega (arith, few_items items)
 
-few_spelled : (t : Tree) (tokens : List Token) → Spells t tokens → length t.items.items ≤ length tokens
+few_spelled : (t : Tree) (tokens : List Token) → Spells t tokens → length t.items ≤ length tokens
 few_spelled t tokens s =
     let kinds : length (kinds_in (tree_parts t)) ≡ length s.written = sym (ap length s.kinds) ∙ length-map s.written (λ (token : Token). token.kind) in
-    omega (arith, few_behind t.protocol t.items.items, kinds, ap length s.split, length-append s.written (s.end ∷ []))
+    omega (arith, few_behind t.protocol t.items, kinds, ap length s.split, length-append s.written (s.end ∷ []))
 
 -- the kinds of tokens are within their limits
 abbrev AreKindsWithin : List TokenKind → Type 0
@@ -103,16 +103,16 @@ printable_behind : (name : Option (List ℕ)) (items : List Item) → AreKindsWi
 printable_behind None items all = all_printable items all
 printable_behind (Some name) items all = all_printable items all.1.1.1
 
-printable_spelled : (t : Tree) (tokens : List Token) → Spells t tokens → AreKindsWithin (token_kinds tokens) → AreQuotesPrintable t.items.items
+printable_spelled : (t : Tree) (tokens : List Token) → Spells t tokens → AreKindsWithin (token_kinds tokens) → AreQuotesPrintable t.items
 printable_spelled t tokens s all =
     let split : token_kinds tokens ≡ token_kinds s.written ++ token_kinds (s.end ∷ []) =
     ap token_kinds s.split ∙ map-append (λ (token : Token). token.kind) s.written (s.end ∷ []) in
     let written : AreKindsWithin (token_kinds s.written) = within_front (token_kinds s.written) (token_kinds (s.end ∷ [])) (subst AreKindsWithin split all) in
-    printable_behind t.protocol t.items.items (subst AreKindsWithin s.kinds written)
+    printable_behind t.protocol t.items (subst AreKindsWithin s.kinds written)
 
 -- both of a text that is read
 abbrev IsTame : List ℕ → Result Tree Broken → Type 0
-IsTame bytes (Ok t) = (length t.items.items ≤ length bytes + 1) × AreQuotesPrintable t.items.items
+IsTame bytes (Ok t) = (length t.items ≤ length bytes + 1) × AreQuotesPrintable t.items
 IsTame bytes (Err b) = Unit {0}
 
 tame_tokens : (file : ℕ) (bytes : List ℕ) (tokens : List Token) (answer : Result Tree Broken) → Reads file 0 bytes (Ok tokens) → IsReadTokens tokens answer → IsTame bytes answer
@@ -141,7 +141,7 @@ few_of_items folder file (i ∷ items) =
     omega (arith, few_by folder file i, few_of_items folder file items, length-append (wanted_by folder file i) (flat_map (wanted_by folder file) items))
 
 pub few_wanted : (folder : List ℕ) (number file : ℕ) (bytes : List ℕ) (t : Tree) → IsReadText number bytes (Ok t) → length (wanted_of folder file t) ≤ length bytes + 1
-few_wanted folder number file bytes t read = omega (arith, few_of_items folder file t.items.items, (tame number bytes (Ok t) read).0)
+few_wanted folder number file bytes t read = omega (arith, few_of_items folder file t.items, (tame number bytes (Ok t) read).0)
 
 -- and their names are texts
 printable_ascii : (c : ℕ) → is_printable c ≡ true → c < 128
@@ -171,4 +171,4 @@ sound_items folder file files (i ∷ items) text_is low all =
     (sound_by folder file files i text_is low all.0) (sound_items folder file files items text_is low all.1)
 
 pub sound_wanted : (folder : List ℕ) (number file files : ℕ) (bytes : List ℕ) (t : Tree) → IsUtf8 folder → file ≤ files - 1 → IsReadText number bytes (Ok t) → All (IsSound files) (wanted_of folder file t)
-sound_wanted folder number file files bytes t text_is low read = sound_items folder file files t.items.items text_is low (tame number bytes (Ok t) read).1
+sound_wanted folder number file files bytes t text_is low read = sound_items folder file files t.items text_is low (tame number bytes (Ok t) read).1

@@ -1,21 +1,18 @@
 -- What else is known of the reads that lead to an answer.
-use Rattle.std.proofs.Common.{◌≡◌, ◌≢◌, ◌<◌, ◌≤◌, ◌++◌, ◌⊎◌, inl, inr, ℕ, true, false, IsTrue, Result, Ok, Err, List, [], ◌∷◌, length, refl, sym, ◌∙◌, ap, subst, All}
+use Rattle.std.proofs.Common.{◌≡◌, ◌≢◌, ◌≤◌, ◌⊎◌, inl, inr, ℕ, Result, Ok, Err, List, [], length, refl, All}
 use Rattle.std.proofs.lemmas.List.Elements.{All-nil, All-push}
-use Rattle.ruby_outside.specs.Files.{Files as LibraryFiles, Reads}
-use Rattle.ruby_outside.specs.declared.library.Got.{Got}
+use Rattle.ruby_outside.specs.Files.{Files as LibraryFiles}
 use Rattle.ruby_outside.specs.declared.library.Got.TheVariants as got
-use Rattle.slicc_ast.specs.Outline.{is_allowed}
-use Rattle.slicc_ast.specs.Trees.{tree}
 use Rattle.slicc_ast.specs.declared.tree.item.Tree.{Tree}
 use Rattle.slicc_files.specs.declared.gathered.Gathered.{Gathered}
-use Rattle.slicc_files.specs.declared.gathered.Gathered.TheVariants.{Files, Refused, Absent, TooLarge, ReadFault, NoMemory}
+use Rattle.slicc_files.specs.declared.gathered.Gathered.TheVariants.{Absent, TooLarge, ReadFault, NoMemory}
 use Rattle.slicc_files.specs.declared.gathered.Source.{Source}
 use Rattle.slicc_files.specs.declared.reading.Broken.{Broken}
 use Rattle.slicc_files.specs.declared.state.Wanted.{Wanted}
 use Rattle.slicc_files.specs.Gathering.{AreAllowed, AreShort, IsAllowed, IsGathered, IsGatheredFrom, source_of}
 use Rattle.slicc_files.specs.Gathering.IsGathered.{finished, passed_by, one_too_many, went_on, refused, absent, too_large, too_long, failed, no_memory, no_memory_for}
-use Rattle.slicc_files.specs.Reads.{Read, AreGiven, MayBeGiven, file_limit, given}
-use Rattle.slicc_files.specs.Texts.{IsReadText, IsReadTokens}
+use Rattle.slicc_files.specs.Reads.{Read, AreGiven, MayBeGiven, file_limit}
+use Rattle.slicc_files.specs.Texts.{IsReadText}
 use Rattle.slicc_files.specs.Texts.IsReadText.{has_no_tokens, has_tokens}
 use Rattle.slicc_files.specs.Texts.IsReadTokens.{spells_a_tree, has_a_bad_token, nests_too_deep}
 use Rattle.slicc_files.proofs.Told.{HasFailed, given_right}

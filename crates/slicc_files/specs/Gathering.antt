@@ -6,6 +6,7 @@
 use Rattle.std.specs.Prelude.{◌≡◌, ◌<◌, ◌≤◌, ◌++◌, ℕ, All, Bool, true, false, IsTrue, None, Some, Ok, Err, List, [], ◌∷◌, length, codes, if◌then◌else◌}
 use Rattle.std.specs.List.{flat_map, list_any, slice_get}
 use Rattle.std.specs.Str.{bytes_eq}
+use Rattle.ruby_outside.specs.Files.{Files as LibraryFiles}
 use Rattle.ruby_outside.specs.declared.library.Got.{Got}
 use Rattle.ruby_outside.specs.declared.library.Got.TheVariants as got
 use Rattle.slicc_ast.specs.Outline.{is_allowed}
@@ -15,7 +16,7 @@ use Rattle.slicc_ast.specs.declared.tree.item.Item.TheVariants.{Include, Enumera
 use Rattle.slicc_ast.specs.declared.tree.item.Tree.{Tree}
 use Rattle.slicc_lex.specs.Places.{line_of, column_of}
 use Rattle.slicc_files.specs.Names.{folder_of, interfaces}
-use Rattle.slicc_files.specs.Reads.{Read, AreMade, file_limit}
+use Rattle.slicc_files.specs.Reads.{Read, AreGiven, AreMade, file_limit}
 use Rattle.slicc_files.specs.Texts.{IsReadText, code_of}
 use Rattle.slicc_files.specs.declared.gathered.Gathered.{Gathered}
 use Rattle.slicc_files.specs.declared.gathered.Gathered.TheVariants.{Files, Refused, Absent, TooLarge, ReadFault, NoMemory}
@@ -37,7 +38,7 @@ wanted_by folder file (Structure s) = []
 wanted_by folder file (Machine m) = []
 
 abbrev pub wanted_of : List ℕ → ℕ → Tree → List Wanted
-wanted_of folder file t = flat_map (wanted_by folder file) t.items.items
+wanted_of folder file t = flat_map (wanted_by folder file) t.items
 
 -- a file of this name was read
 abbrev pub is_seen : List ℕ → List Source → Bool
@@ -104,6 +105,10 @@ protocol_file name = record { name = name; file = 0; offset = 0 }
 -- from the protocol of this name these reads lead to the answer
 abbrev pub IsGatheredFrom : List ℕ → List Read → Gathered → Type 0
 IsGatheredFrom name reads g = IsGathered (folder_of name) [] [] (protocol_file name ∷ []) reads g
+
+-- these files, where no read fails, lead to the answer
+abbrev pub IsGatheredOver : LibraryFiles → List ℕ → Gathered → Type 0
+IsGatheredOver files name g = (reads : List Read) × AreGiven files reads × IsGatheredFrom name reads g
 
 -- reads of a library were made that lead to the answer, and no others
 abbrev pub IsGatheredBy : {L : Type 0} (reads : L → List ℕ → ℕ → Got → L → Type 0) → List ℕ → L → L → Gathered → Type 0

@@ -15,7 +15,7 @@ use Rattle.slicc_plan.specs.TableNeeds.{checks_at, checks_of}
 -- those of a transition, where the actions of these names have these bodies
 abbrev pub transition_checks : List (List ℕ) → List Body → Transition → List ℕ
 transition_checks names actions t =
-    flat_map (λ (action : Name). checks_at actions (number_in names action.text)) t.actions.items
+    flat_map (λ (action : Name). checks_at actions (number_in names action.text)) t.actions
 
 abbrev pub decl_checks : List (List ℕ) → List Body → Decl → List (List ℕ)
 decl_checks names actions d = map (transition_checks names actions) (transition_in d)

@@ -34,7 +34,7 @@ fn transition_checks(
     ensures { IfOk result (λ r. r ≡ transition_checks names.now actions.now t.now) }
 {
     let mut checks = Seq::new(alloc);
-    for action in &t.actions {
+    for action in t.actions.as_slice() {
         checks.append(checks_at(names, actions, action.text.as_slice()))?;
     }
     Ok(checks)
@@ -66,7 +66,7 @@ pub fn machine_checks(
     ensures { IfOk result (λ r. r ≡ map (transition_checks names.now actions.now) (transitions_of m.now)) }
 {
     let mut list = Seq::new(alloc);
-    for d in &m.declarations {
+    for d in m.declarations.as_slice() {
         add_checks(alloc, &mut list, names, actions, d)?;
     }
     Ok(list)

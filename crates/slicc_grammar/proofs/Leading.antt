@@ -6,7 +6,8 @@ use Rattle.std.proofs.lemmas.Bool.{and_parts, eqb-true, leb-true, ltb-true, cond
 use Rattle.slicc_ast.specs.declared.tree.token.Sign.TheVariants.{CloseParenthesis, Star, Plus as PlusSign, Minus as MinusSign, Less as LessSign, Greater as GreaterSign, LessOrEqual as LessOrEqualSign, GreaterOrEqual as GreaterOrEqualSign, Equal as EqualSign, Unequal as UnequalSign, And as AndSign, Or as OrSign}
 use Rattle.slicc_ast.specs.declared.tree.expression.Operator.{Operator}
 use Rattle.slicc_ast.specs.declared.tree.expression.Operator.TheVariants.{Or, And, Equal, Unequal, Less, Greater, LessOrEqual, GreaterOrEqual, Plus, Minus, Times}
-use Rattle.slicc_ast.specs.declared.tree.expression.Expr.{Expr, Operation', Not', Negate', Postfix', Number, True, False, Nothing, Variable, Member, Call', New, IsValid', IsInvalid', Cast', Group', Row_of-Expr, end_of-Expr, more_of-Expr, Row_of-Operand, end_of-Operand, more_of-Operand, Row_of-Suffix, end_of-Suffix, more_of-Suffix}
+use Rattle.slicc_ast.specs.declared.tree.expression.Expr.{Expr, Number, True, False, Nothing, Variable, Member, Call', New, Row_of-Expr, end_of-Expr, more_of-Expr, Row_of-Operand, end_of-Operand, more_of-Operand, Row_of-Suffix, end_of-Suffix, more_of-Suffix}
+use Rattle.slicc_ast.specs.Boxes.{Operation', Not', Negate', Postfix', IsValid', IsInvalid', Cast', Group'}
 use Rattle.slicc_ast.specs.declared.tree.expression.Suffix.{Suffix, Field, Method', Index}
 use Rattle.slicc_ast.specs.Outline.{is_allowed, are_allowed}
 use Rattle.slicc_ast.specs.Expressions.{expr, suffix, level_of, row_level, has_suffix, operator_sign, operator_level, operand_row, suffix_row, args_row, more_args_row}
@@ -187,36 +188,36 @@ of_constant place chosen tokens at leads r S rest o m =
 
 mutual
   pub expr_leads : (e : Expr) → is_allowed (expr e) ≡ true → Leading (level_of e) (follow (expr e))
-  expr_leads (Operation' p first n others span) allowed =
+  expr_leads (Operation' first n others span) allowed =
       let some = and_parts (nat_lt 0 (row_level others)) _ allowed in
       let low = and_parts (nat_lt (row_level others) (level_of first)) _ some.1 in
       let both = and_parts (is_allowed (expr first)) _ low.1 in
       let inner = expr_leads first both.0 in
       let tighter = ltb-true (row_level others) (level_of first) low.0 in
-      of_operation (row_level others) (follow (expr (Operation' p first n others span)))
+      of_operation (row_level others) (follow (expr (Operation' first n others span)))
       (ltb-true 0 (row_level others) some.0) (most_level others)
       (λ d sums r S rest o m. inner.up_from d (omega arith) (omega arith) (many (operand_at d) r) S _ o
       (operands_lead others (row_level others) d sums both.1 r S rest o m))
-  expr_leads (Not' p operand span) allowed =
+  expr_leads (Not' operand span) allowed =
       let wide = and_parts (nat_le 7 (level_of operand)) _ allowed in
       let inner = expr_leads operand (and_parts (is_allowed (expr operand)) true wide.1).0 in
       let le = leb-true 7 (level_of operand) wide.0 in
-      of_unary 7 (follow (expr (Not' p operand span))) (omega arith)
-      (λ r S rest o m. fold_to written unary 0 refl Whole (follow (expr (Not' p operand span)) rest) o (inside refl (inner.up_from 0 (omega arith) (omega arith) done (up r S) rest o (outside m))))
+      of_unary 7 (follow (expr (Not' operand span))) (omega arith)
+      (λ r S rest o m. fold_to written unary 0 refl Whole (follow (expr (Not' operand span)) rest) o (inside refl (inner.up_from 0 (omega arith) (omega arith) done (up r S) rest o (outside m))))
       (λ tight. absurd (omega arith))
-  expr_leads (Negate' p operand span) allowed =
+  expr_leads (Negate' operand span) allowed =
       let wide = and_parts (nat_le 7 (level_of operand)) _ allowed in
       let inner = expr_leads operand (and_parts (is_allowed (expr operand)) true wide.1).0 in
       let le = leb-true 7 (level_of operand) wide.0 in
-      of_unary 7 (follow (expr (Negate' p operand span))) (omega arith)
-      (λ r S rest o m. fold_to written unary 1 refl Whole (follow (expr (Negate' p operand span)) rest) o (inside refl (inner.up_from 0 (omega arith) (omega arith) done (up r S) rest o (outside m))))
+      of_unary 7 (follow (expr (Negate' operand span))) (omega arith)
+      (λ r S rest o m. fold_to written unary 1 refl Whole (follow (expr (Negate' operand span)) rest) o (inside refl (inner.up_from 0 (omega arith) (omega arith) done (up r S) rest o (outside m))))
       (λ tight. absurd (omega arith))
-  expr_leads (Postfix' p value n suffixes span) allowed =
+  expr_leads (Postfix' value n suffixes span) allowed =
       let some = and_parts (has_suffix suffixes) _ allowed in
       let wide = and_parts (nat_le 9 (level_of value)) _ some.1 in
       let both = and_parts (is_allowed (expr value)) _ wide.1 in
       let inner = expr_leads value both.0 in
-      of_unary 8 (follow (expr (Postfix' p value n suffixes span))) (omega arith)
+      of_unary 8 (follow (expr (Postfix' value n suffixes span))) (omega arith)
       (λ r S rest o m. fold_to written unary 2 refl Whole _ o (fold_to written postfix 0 refl Whole _ o
       (inner.as_primary (leb-true 9 (level_of value) wide.0) (many suffix_part r) S _ o (suffixes_lead suffixes both.1 r S rest o m))))
       (λ tight. absurd (omega arith))
@@ -235,24 +236,24 @@ mutual
       (inside refl (call_args row (and_parts (are_allowed (args_row row)) true allowed).0 (up r S) _ o (one refl (outside m))))))
   expr_leads (New made span) allowed =
       of_primary _ (of_constant 4 _ (follow (expr (New made span))) refl (λ r S rest o m. one refl (one (name_is_one made.text) m)))
-  expr_leads (IsValid' p value span) allowed =
+  expr_leads (IsValid' value span) allowed =
       let inner = as_expression value (expr_leads value (and_parts (is_allowed (expr value)) true allowed).0) in
-      of_primary _ (of_constant 5 _ (follow (expr (IsValid' p value span))) refl (λ r S rest o m. one refl (inside refl (inner close (up r S) _ o (one refl (outside m))))))
-  expr_leads (IsInvalid' p value span) allowed =
+      of_primary _ (of_constant 5 _ (follow (expr (IsValid' value span))) refl (λ r S rest o m. one refl (inside refl (inner close (up r S) _ o (one refl (outside m))))))
+  expr_leads (IsInvalid' value span) allowed =
       let inner = as_expression value (expr_leads value (and_parts (is_allowed (expr value)) true allowed).0) in
-      of_primary _ (of_constant 6 _ (follow (expr (IsInvalid' p value span))) refl (λ r S rest o m. one refl (inside refl (inner close (up r S) _ o (one refl (outside m))))))
-  expr_leads (Cast' target None p value span) allowed =
+      of_primary _ (of_constant 6 _ (follow (expr (IsInvalid' value span))) refl (λ r S rest o m. one refl (inside refl (inner close (up r S) _ o (one refl (outside m))))))
+  expr_leads (Cast' target None value span) allowed =
       let inner = as_expression value (expr_leads value (and_parts (is_allowed (expr value)) true allowed).0) in
-      of_primary _ (of_constant 7 _ (follow (expr (Cast' target None p value span))) refl
+      of_primary _ (of_constant 7 _ (follow (expr (Cast' target None value span))) refl
       (λ r S rest o m. one refl (inside refl (one (name_is_one target.text) (one refl (absent (inner close (up r S) _ o (one refl (outside m)))))))))
-  expr_leads (Cast' target (Some mode) p value span) allowed =
+  expr_leads (Cast' target (Some mode) value span) allowed =
       let inner = as_expression value (expr_leads value (and_parts (is_allowed (expr value)) true allowed).0) in
-      of_primary _ (of_constant 7 _ (follow (expr (Cast' target (Some mode) p value span))) refl
+      of_primary _ (of_constant 7 _ (follow (expr (Cast' target (Some mode) value span))) refl
       (λ r S rest o m. one refl (inside refl (one (name_is_one target.text) (one refl
       (to_present written ((string ▸ comma) done) (form expression close) Whole _ o (one refl (one refl (inner close (up r S) _ o (one refl (outside m)))))))))))
-  expr_leads (Group' p inner span) allowed =
+  expr_leads (Group' inner span) allowed =
       let held = as_expression inner (expr_leads inner (and_parts (is_allowed (expr inner)) true allowed).0) in
-      of_primary _ (of_constant 8 _ (follow (expr (Group' p inner span))) refl (λ r S rest o m. inside refl (held close (up r S) _ o (one refl (outside m)))))
+      of_primary _ (of_constant 8 _ (follow (expr (Group' inner span))) refl (λ r S rest o m. inside refl (held close (up r S) _ o (one refl (outside m)))))
 
   operands_lead : {n : _} (row : Row_of-Operand n) (level d : ℕ) → d + level ≡ 6 → are_allowed (operand_row level row) ≡ true → (r : Row Form) (S : Rows Form) (rest : List ℕ) (o : ℕ) → Matches written Whole r S rest o → Matches written Whole (many (operand_at d) r) S (follow_parts (operand_row level row) rest) o
   operands_lead end_of-Operand level d sums allowed r S rest o m = enough m

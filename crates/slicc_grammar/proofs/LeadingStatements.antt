@@ -64,10 +64,10 @@ mutual
       (expression_leads value fine.0 (semicolon r) S _ o (one refl m))))
   stmt_leads (IfStmt i) allowed r S rest o m = fold_to written Form.statement 4 refl Whole _ o (if_leads i allowed r S rest o m)
   stmt_leads (Peek' port message attributes shape row block span) allowed r S rest o m =
-      let both = and_parts (are_allowed (pair_list attributes.items.items)) _ allowed in
+      let both = and_parts (are_allowed (pair_list attributes.items)) _ allowed in
       let fine = and_parts (are_allowed (stmt_row row block_end)) true both.1 in
       fold_to written Form.statement 5 refl Whole _ o (one refl (inside refl (one (name_is_one port.text) (one refl (one (name_is_one message.text)
-      (pairs_lead attributes.items.items close (up (form Form.block r) S) _ o (one refl (outside (in_block _ _ _ _ (stmts_lead row fine.0 r S rest o m))))))))))
+      (pairs_lead attributes.items close (up (form Form.block r) S) _ o (one refl (outside (in_block _ _ _ _ (stmts_lead row fine.0 r S rest o m))))))))))
   stmt_leads (Enqueue' port message None shape row block span) allowed r S rest o m =
       let fine = and_parts (are_allowed (stmt_row row block_end)) true allowed in
       fold_to written Form.statement 6 refl Whole _ o (one refl (inside refl (one (name_is_one port.text) (one refl (one (name_is_one message.text)
@@ -91,13 +91,13 @@ mutual
       fold_to written Form.statement 10 refl Whole _ o (one refl (inside refl
       (expression_leads condition fine.0 close (up (semicolon r) S) _ o (one refl (outside (one refl m))))))
   stmt_leads (Print Dprintf arguments span) allowed r S rest o m =
-      let fine = and_parts (are_allowed (balanced_list arguments.parts.items)) true allowed in
+      let fine = and_parts (are_allowed (balanced_list arguments.parts)) true allowed in
       fold_to written Form.statement 11 refl Whole _ o (one refl (inside refl
-      (balanced_leads arguments.parts.items fine.0 close (up (semicolon r) S) _ o (one refl (outside (one refl m))))))
+      (balanced_leads arguments.parts fine.0 close (up (semicolon r) S) _ o (one refl (outside (one refl m))))))
   stmt_leads (Print AppendTransitionComment arguments span) allowed r S rest o m =
-      let fine = and_parts (are_allowed (balanced_list arguments.parts.items)) true allowed in
+      let fine = and_parts (are_allowed (balanced_list arguments.parts)) true allowed in
       fold_to written Form.statement 11 refl Whole _ o (one refl (inside refl
-      (balanced_leads arguments.parts.items fine.0 close (up (semicolon r) S) _ o (one refl (outside (one refl m))))))
+      (balanced_leads arguments.parts fine.0 close (up (semicolon r) S) _ o (one refl (outside (one refl m))))))
 
   if_leads : (i : If) → is_allowed (if_outline i) ≡ true → (r : Row Form) (S : Rows Form) (rest : List ℕ) (o : ℕ) → Fits r S rest o → Fits (form Form.conditional r) S (follow (if_outline i) rest) o
   if_leads (If' condition shape row block n others otherwise span) allowed r S rest o m =
@@ -137,14 +137,14 @@ stmt_list_leads (first ∷ others) allowed r S rest o m =
     to_again written statement_part close_brace Whole _ o
     (stmt_leads first both.0 (many statement_part close_brace) (up r S) _ o (stmt_list_leads others both.1 r S rest o m))
 
-pub whole_block_leads : (b : Block) → are_allowed (stmt_list b.statements.items block_end) ≡ true → (r : Row Form) (S : Rows Form) (rest : List ℕ) (o : ℕ) → Fits r S rest o → Fits (form Form.block r) S (sign_kind OpenBrace ∷ follow_parts (stmt_list b.statements.items block_end) rest) o
+pub whole_block_leads : (b : Block) → are_allowed (stmt_list b.statements block_end) ≡ true → (r : Row Form) (S : Rows Form) (rest : List ℕ) (o : ℕ) → Fits r S rest o → Fits (form Form.block r) S (sign_kind OpenBrace ∷ follow_parts (stmt_list b.statements block_end) rest) o
 whole_block_leads b allowed r S rest o m =
-    in_block r S _ o (stmt_list_leads b.statements.items allowed r S rest o m)
+    in_block r S _ o (stmt_list_leads b.statements allowed r S rest o m)
 
 -- so what a block's tree spells is a block of the written grammar
 pub block_derives : (b : Block) → are_allowed (block b none) ≡ true → Derives written (form Form.block done) end (map kind_of (kinds_in (block b none)))
 block_derives b allowed =
-    let fine = and_parts (are_allowed (stmt_list b.statements.items block_end)) true allowed in
+    let fine = and_parts (are_allowed (stmt_list b.statements block_end)) true allowed in
     subst (λ ts. Derives written (form Form.block done) end ts)
     (follow_parts-spelling (block b none) [] ∙ append-nil (map kind_of (kinds_in (block b none))))
     (whole_block_leads b fine.0 done end [] 0 ended)

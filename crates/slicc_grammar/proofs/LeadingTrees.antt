@@ -76,13 +76,13 @@ symbols_lead : (ss : List Symbol) (parts : Parts) (r : Row Form) (S : Rows Form)
 symbols_lead [] parts r S rest o m = enough m
 symbols_lead (first ∷ others) parts r S rest o m =
     to_again written one_symbol r Whole _ o (one (name_is_one first.name.text)
-    (pairs_lead first.pairs.items.items (semicolon (many one_symbol r)) S _ o (one refl (symbols_lead others parts r S rest o m))))
+    (pairs_lead first.pairs.items (semicolon (many one_symbol r)) S _ o (one refl (symbols_lead others parts r S rest o m))))
 
 enumeration_leads : (e : Enumeration) (r : Row Form) (S : Rows Form) (rest : List ℕ) (o : ℕ) → Fits r S rest o → Fits (form Form.enumeration r) S (follow (enumeration e) rest) o
 enumeration_leads e r S rest o m =
     fold_to written Form.enumeration 0 refl Whole _ o (one refl (inside refl (one (name_is_one e.name.text)
-    (pairs_lead e.pairs.items.items close (up (nested (sign_kind OpenBrace ∷ []) (many one_symbol close_brace) r) S) _ o (one refl (outside
-    (inside refl (symbols_lead e.members.items (sign CloseBrace none) close_brace (up r S) rest o (one refl (outside m))))))))))
+    (pairs_lead e.pairs.items close (up (nested (sign_kind OpenBrace ∷ []) (many one_symbol close_brace) r) S) _ o (one refl (outside
+    (inside refl (symbols_lead e.members (sign CloseBrace none) close_brace (up r S) rest o (one refl (outside m))))))))))
 
 abbrev one_state : Row Form
 one_state = (name_part ▸ comma ▸ name_part ▸ colon ▸ name_part ▸ pairs_part ▸ semicolon) done
@@ -91,35 +91,35 @@ state_list_leads : (ss : List State) (parts : Parts) (r : Row Form) (S : Rows Fo
 state_list_leads [] parts r S rest o m = enough m
 state_list_leads (first ∷ others) parts r S rest o m =
     to_again written one_state r Whole _ o (one (name_is_one first.name.text) (one refl (one (name_is_one first.owner.text) (one refl (one (name_is_one first.permission.text)
-    (pairs_lead first.pairs.items.items (semicolon (many one_state r)) S _ o (one refl (state_list_leads others parts r S rest o m))))))))
+    (pairs_lead first.pairs.items (semicolon (many one_state r)) S _ o (one refl (state_list_leads others parts r S rest o m))))))))
 
 states_lead : (s : States) (r : Row Form) (S : Rows Form) (rest : List ℕ) (o : ℕ) → Fits r S rest o → Fits (form Form.states r) S (follow (states s) rest) o
 states_lead s r S rest o m =
     fold_to written Form.states 0 refl Whole _ o (one refl (inside refl (one (name_is_one s.name.text)
-    (pairs_lead s.pairs.items.items close (up (nested (sign_kind OpenBrace ∷ []) (many one_state close_brace) r) S) _ o (one refl (outside
-    (inside refl (state_list_leads s.members.items (sign CloseBrace none) close_brace (up r S) rest o (one refl (outside m))))))))))
+    (pairs_lead s.pairs.items close (up (nested (sign_kind OpenBrace ∷ []) (many one_state close_brace) r) S) _ o (one refl (outside
+    (inside refl (state_list_leads s.members (sign CloseBrace none) close_brace (up r S) rest o (one refl (outside m))))))))))
 
 -- the parts of a skipped function behind its name
 skipped_end : (s : Skipped) → is_allowed (skipped s) ≡ true → (r : Row Form) (S : Rows Form) (rest : List ℕ) (o : ℕ) → Fits r S rest o → Fits ((name_part ▸ Row.token (functional_name ∷ []) ▸ nested (sign_kind OpenParenthesis ∷ []) (balanced_parts close) ▸ pairs_part ▸ nested (sign_kind OpenBrace ∷ []) (balanced_parts close_brace)) r) S (follow (skipped s) rest) o
 skipped_end s allowed r S rest o m =
     let is = and_parts (is_skipped s.name) _ allowed in
-    let first = and_parts (are_allowed (balanced_list s.arguments.parts.items)) _ is.1 in
-    let second = and_parts (are_allowed (pair_list s.pairs.items.items)) _ first.1 in
-    let last = and_parts (are_allowed (balanced_list s.body.parts.items)) true second.1 in
+    let first = and_parts (are_allowed (balanced_list s.arguments.parts)) _ is.1 in
+    let second = and_parts (are_allowed (pair_list s.pairs.items)) _ first.1 in
+    let last = and_parts (are_allowed (balanced_list s.body.parts)) true second.1 in
     one (name_is_one s.kind.text) (one (skipped_is_one s.name.text is.0) (inside refl
-    (balanced_leads s.arguments.parts.items first.0 close (up ((pairs_part ▸ nested (sign_kind OpenBrace ∷ []) (balanced_parts close_brace)) r) S) _ o (one refl (outside
-    (pairs_lead s.pairs.items.items (nested (sign_kind OpenBrace ∷ []) (balanced_parts close_brace) r) S _ o
-    (inside refl (balanced_leads s.body.parts.items last.0 close_brace (up r S) _ o (one refl (outside m))))))))))
+    (balanced_leads s.arguments.parts first.0 close (up ((pairs_part ▸ nested (sign_kind OpenBrace ∷ []) (balanced_parts close_brace)) r) S) _ o (one refl (outside
+    (pairs_lead s.pairs.items (nested (sign_kind OpenBrace ∷ []) (balanced_parts close_brace) r) S _ o
+    (inside refl (balanced_leads s.body.parts last.0 close_brace (up r S) _ o (one refl (outside m))))))))))
 
 member_leads : (e : Member) → is_allowed (member e) ≡ true → (r : Row Form) (S : Rows Form) (rest : List ℕ) (o : ℕ) → Fits r S rest o → Fits (form Form.member r) S (follow (member e) rest) o
 member_leads (Field kind field attributes span) allowed r S rest o m =
     fold_to written Form.member 0 refl Whole _ o (one (name_is_one kind.text) (one (name_is_one field.text)
-    (pairs_lead attributes.items.items (semicolon r) S _ o (one refl m))))
+    (pairs_lead attributes.items (semicolon r) S _ o (one refl m))))
 member_leads (Method kind method parameters attributes span) allowed r S rest o m =
     let is = and_parts (not (is_skipped method)) _ allowed in
     fold_to written Form.member 1 refl Whole _ o (one (name_is_one kind.text) (one (plain_name_is_one method (not-true (is_skipped method) is.0)) (inside refl
-    (formals_lead parameters.items.items close (up ((pairs_part ▸ semicolon) r) S) _ o (one refl (outside
-    (pairs_lead attributes.items.items (semicolon r) S _ o (one refl m))))))))
+    (formals_lead parameters.items close (up ((pairs_part ▸ semicolon) r) S) _ o (one refl (outside
+    (pairs_lead attributes.items (semicolon r) S _ o (one refl m))))))))
 member_leads (SkippedMember s) allowed r S rest o m = fold_to written Form.member 2 refl Whole _ o (skipped_end s allowed r S rest o m)
 
 abbrev one_member : Row Form
@@ -133,10 +133,10 @@ members_lead (first ∷ others) parts allowed r S rest o m =
 
 structure_leads : (s : Structure) → is_allowed (structure s) ≡ true → (r : Row Form) (S : Rows Form) (rest : List ℕ) (o : ℕ) → Fits r S rest o → Fits (form Form.structure r) S (follow (structure s) rest) o
 structure_leads s allowed r S rest o m =
-    let both = and_parts (are_allowed (pair_list s.pairs.items.items)) (are_allowed (member_list s.members.items (sign CloseBrace none))) allowed in
+    let both = and_parts (are_allowed (pair_list s.pairs.items)) (are_allowed (member_list s.members (sign CloseBrace none))) allowed in
     fold_to written Form.structure 0 refl Whole _ o (one refl (inside refl (one (name_is_one s.name.text)
-    (pairs_lead s.pairs.items.items close (up (nested (sign_kind OpenBrace ∷ []) (many one_member close_brace) r) S) _ o (one refl (outside
-    (inside refl (members_lead s.members.items (sign CloseBrace none) both.1 close_brace (up r S) rest o (one refl (outside m))))))))))
+    (pairs_lead s.pairs.items close (up (nested (sign_kind OpenBrace ∷ []) (many one_member close_brace) r) S) _ o (one refl (outside
+    (inside refl (members_lead s.members (sign CloseBrace none) both.1 close_brace (up r S) rest o (one refl (outside m))))))))))
 
 port_head : (first type buffer : List ℕ) (items : List Pair) (behind : Row Form) (S : Rows Form) (rest : List ℕ) (o : ℕ) → Fits behind S rest o → Fits (nested (sign_kind OpenParenthesis ∷ []) ((name_part ▸ comma ▸ name_part ▸ comma ▸ name_part ▸ pairs_part) close) behind) S (sign_kind OpenParenthesis ∷ name_kind first ∷ sign_kind Comma ∷ name_kind type ∷ sign_kind Comma ∷ name_kind buffer ∷ follow_parts (pair_list items) (sign_kind CloseParenthesis ∷ rest)) o
 port_head first type buffer items behind S rest o m =
@@ -145,21 +145,21 @@ port_head first type buffer items behind S rest o m =
 
 out_port_leads : (p : OutPort) (r : Row Form) (S : Rows Form) (rest : List ℕ) (o : ℕ) → Fits r S rest o → Fits (form Form.out_port r) S (follow (out_port p) rest) o
 out_port_leads p r S rest o m =
-    fold_to written Form.out_port 0 refl Whole _ o (one refl (port_head p.name.text p.message.text p.buffer.text p.pairs.items.items (semicolon r) S _ o (one refl m)))
+    fold_to written Form.out_port 0 refl Whole _ o (one refl (port_head p.name.text p.message.text p.buffer.text p.pairs.items (semicolon r) S _ o (one refl m)))
 
 in_port_leads : (p : InPort) → is_allowed (in_port p) ≡ true → (r : Row Form) (S : Rows Form) (rest : List ℕ) (o : ℕ) → Fits r S rest o → Fits (form Form.in_port r) S (follow (in_port p) rest) o
 in_port_leads p allowed r S rest o m =
-    let both = and_parts (are_allowed (pair_list p.pairs.items.items)) _ allowed in
-    let fine = and_parts (are_allowed (stmt_list p.body.statements.items block_end)) true both.1 in
-    fold_to written Form.in_port 0 refl Whole _ o (one refl (port_head p.name.text p.message.text p.buffer.text p.pairs.items.items (form Form.block r) S _ o
+    let both = and_parts (are_allowed (pair_list p.pairs.items)) _ allowed in
+    let fine = and_parts (are_allowed (stmt_list p.body.statements block_end)) true both.1 in
+    fold_to written Form.in_port 0 refl Whole _ o (one refl (port_head p.name.text p.message.text p.buffer.text p.pairs.items (form Form.block r) S _ o
     (whole_block_leads p.body fine.0 r S rest o m)))
 
 action_leads : (a : Action) → is_allowed (action a) ≡ true → (r : Row Form) (S : Rows Form) (rest : List ℕ) (o : ℕ) → Fits r S rest o → Fits (form Form.action r) S (follow (action a) rest) o
 action_leads a allowed r S rest o m =
-    let both = and_parts (are_allowed (pair_list a.pairs.items.items)) _ allowed in
-    let fine = and_parts (are_allowed (stmt_list a.body.statements.items block_end)) true both.1 in
+    let both = and_parts (are_allowed (pair_list a.pairs.items)) _ allowed in
+    let fine = and_parts (are_allowed (stmt_list a.body.statements block_end)) true both.1 in
     fold_to written Form.action 0 refl Whole _ o (one refl (inside refl (one (name_is_one a.name.text)
-    (pairs_lead a.pairs.items.items close (up (form Form.block r) S) _ o (one refl (outside (whole_block_leads a.body fine.0 r S rest o m)))))))
+    (pairs_lead a.pairs.items close (up (form Form.block r) S) _ o (one refl (outside (whole_block_leads a.body fine.0 r S rest o m)))))))
 
 abbrev one_name : Row Form
 one_name = (comma ▸ name_part) done
@@ -178,9 +178,9 @@ several_lead (first ∷ others) some r S rest o m =
 names_lead : (ns : Names) (parts : Parts) → are_allowed (names ns parts) ≡ true → (r : Row Form) (S : Rows Form) (rest : List ℕ) (o : ℕ) → (are_allowed parts ≡ true → Fits r S (follow_parts parts rest) o) → Fits (form Form.names r) S (follow_parts (names ns parts) rest) o
 names_lead (One n) parts allowed r S rest o m = fold_to written Form.names 0 refl Whole _ o (one (name_is_one n.text) (m allowed))
 names_lead (Several ns span) parts allowed r S rest o m =
-    let both = and_parts (are_allowed (provided (not (length ns.items == 0)) (sign OpenBrace (name_list ns.items (sign CloseBrace none))))) (are_allowed parts) allowed in
-    let some = and_parts (not (length ns.items == 0)) _ both.0 in
-    several_lead ns.items some.0 r S _ o (m both.1)
+    let both = and_parts (are_allowed (provided (not (length ns == 0)) (sign OpenBrace (name_list ns (sign CloseBrace none))))) (are_allowed parts) allowed in
+    let some = and_parts (not (length ns == 0)) _ both.0 in
+    several_lead ns some.0 r S _ o (m both.1)
 
 next_leads : (n : Option Name) (parts : Parts) (r : Row Form) (S : Rows Form) (rest : List ℕ) (o : ℕ) → Fits r S (follow_parts parts rest) o → Fits (maybe one_name r) S (follow_parts (next_parts n parts) rest) o
 next_leads None parts r S rest o m = absent m
@@ -197,35 +197,35 @@ actions_lead (first ∷ others) parts r S rest o m =
 transition_leads : (t : Transition) → is_allowed (transition t) ≡ true → (r : Row Form) (S : Rows Form) (rest : List ℕ) (o : ℕ) → Fits r S rest o → Fits (form Form.transition r) S (follow (transition t) rest) o
 transition_leads t allowed r S rest o m =
     let braced : Row Form = nested (sign_kind OpenBrace ∷ []) (many one_action close_brace) r in
-    let closing : Fits close (up braced S) (sign_kind CloseParenthesis ∷ sign_kind OpenBrace ∷ follow_parts (action_list t.actions.items (sign CloseBrace none)) rest) o =
-    one refl (outside (inside refl (actions_lead t.actions.items (sign CloseBrace none) close_brace (up r S) rest o (one refl (outside m))))) in
+    let closing : Fits close (up braced S) (sign_kind CloseParenthesis ∷ sign_kind OpenBrace ∷ follow_parts (action_list t.actions (sign CloseBrace none)) rest) o =
+    one refl (outside (inside refl (actions_lead t.actions (sign CloseBrace none) close_brace (up r S) rest o (one refl (outside m))))) in
     fold_to written Form.transition 0 refl Whole _ o (one refl (inside refl
     (names_lead t.states _ allowed _ (up braced S) rest o (λ later. one refl
     (names_lead t.events _ later _ (up braced S) rest o (λ last.
     next_leads t.next _ (pairs_part close) (up braced S) rest o
-    (pairs_lead t.pairs.items.items close (up braced S) _ o closing)))))))
+    (pairs_lead t.pairs.items close (up braced S) _ o closing)))))))
 
 body_leads : (b : Option Block) → are_allowed (function_body b) ≡ true → (r : Row Form) (S : Rows Form) (rest : List ℕ) (o : ℕ) → Fits r S rest o → Fits (form Form.body r) S (follow_parts (function_body b) rest) o
 body_leads None allowed r S rest o m = fold_to written Form.body 1 refl Whole _ o (one refl m)
 body_leads (Some b) allowed r S rest o m =
-    let fine = and_parts (are_allowed (stmt_list b.statements.items block_end)) true allowed in
+    let fine = and_parts (are_allowed (stmt_list b.statements block_end)) true allowed in
     fold_to written Form.body 0 refl Whole _ o (whole_block_leads b fine.0 r S rest o m)
 
 function_leads : (f : Function) → is_allowed (function f) ≡ true → (r : Row Form) (S : Rows Form) (rest : List ℕ) (o : ℕ) → Fits r S rest o → Fits (form Form.declaration r) S (follow (function f) rest) o
 function_leads (Plain kind called parameters attributes b span) allowed r S rest o m =
     let is = and_parts (not (is_skipped called)) _ allowed in
-    let first = and_parts (are_allowed (formal_list parameters.items.items)) _ is.1 in
-    let second = and_parts (are_allowed (pair_list attributes.items.items)) _ first.1 in
+    let first = and_parts (are_allowed (formal_list parameters.items)) _ is.1 in
+    let second = and_parts (are_allowed (pair_list attributes.items)) _ first.1 in
     fold_to written Form.declaration 7 refl Whole _ o (one (name_is_one kind.text) (one (plain_name_is_one called (not-true (is_skipped called) is.0)) (inside refl
-    (formals_lead parameters.items.items close (up (pairs_part (form Form.body r)) S) _ o (one refl (outside
-    (pairs_lead attributes.items.items (form Form.body r) S _ o (body_leads b second.1 r S rest o m))))))))
+    (formals_lead parameters.items close (up (pairs_part (form Form.body r)) S) _ o (one refl (outside
+    (pairs_lead attributes.items (form Form.body r) S _ o (body_leads b second.1 r S rest o m))))))))
 function_leads (SkippedFunction s) allowed r S rest o m = fold_to written Form.declaration 8 refl Whole _ o (skipped_end s allowed r S rest o m)
 
 object_leads : (b : Object) (r : Row Form) (S : Rows Form) (rest : List ℕ) (o : ℕ) → Fits r S rest o → Fits (form Form.declaration r) S (follow (object b) rest) o
 object_leads b r S rest o m =
     fold_to written Form.declaration 9 refl Whole _ o (one (name_is_one b.kind.text)
     (star_leads b.has_star _ ((name_part ▸ pairs_part ▸ semicolon) r) S rest o (one (name_is_one b.name.text)
-    (pairs_lead b.pairs.items.items (semicolon r) S _ o (one refl m)))))
+    (pairs_lead b.pairs.items (semicolon r) S _ o (one refl m)))))
 
 decl_leads : (d : Decl) → is_allowed (decl d) ≡ true → (r : Row Form) (S : Rows Form) (rest : List ℕ) (o : ℕ) → Fits r S rest o → Fits (form Form.declaration r) S (follow (decl d) rest) o
 decl_leads (StatesDecl s) allowed r S rest o m = fold_to written Form.declaration 0 refl Whole _ o (states_lead s r S rest o m)
@@ -265,7 +265,7 @@ parameter_leads : (p : Parameter) (r : Row Form) (S : Rows Form) (rest : List �
 parameter_leads p r S rest o m =
     fold_to written Form.parameter 0 refl Whole _ o (one (name_is_one p.kind.text)
     (star_leads p.has_star _ ((name_part ▸ maybe given ▸ pairs_part ▸ semicolon) r) S rest o (one (name_is_one p.name.text)
-    (given_leads p.literal _ ((pairs_part ▸ semicolon) r) S rest o (pairs_lead p.pairs.items.items (semicolon r) S _ o (one refl m))))))
+    (given_leads p.literal _ ((pairs_part ▸ semicolon) r) S rest o (pairs_lead p.pairs.items (semicolon r) S _ o (one refl m))))))
 
 abbrev one_parameter : Row Form
 one_parameter = form Form.parameter done
@@ -294,15 +294,15 @@ type_allowed false parts allowed = allowed
 machine_leads : (a : Machine) → is_allowed (machine a) ≡ true → (r : Row Form) (S : Rows Form) (rest : List ℕ) (o : ℕ) → Fits r S rest o → Fits (form Form.machine r) S (follow (machine a) rest) o
 machine_leads a allowed r S rest o m =
     let named = type_allowed a.has_type _ allowed in
-    let headed = and_parts (are_allowed (pair_list a.pairs.items.items)) _ named in
-    let declared = parameters_allowed a.parameters.items _ headed.1 in
+    let headed = and_parts (are_allowed (pair_list a.pairs.items)) _ named in
+    let declared = parameters_allowed a.parameters _ headed.1 in
     let braced : Row Form = nested (sign_kind OpenBrace ∷ []) (many one_decl close_brace) r in
     let behind : Row Form = Row.token (sign_kind Colon ∷ []) (many one_parameter braced) in
     fold_to written Form.machine 0 refl Whole _ o (one refl (inside refl
     (type_leads a.has_type _ ((name_part ▸ comma ▸ string ▸ pairs_part) close) (up behind S) rest o (one (name_is_one a.name.text) (one refl (one refl
-    (pairs_lead a.pairs.items.items close (up behind S) _ o (one refl (outside (one refl
-    (parameters_lead a.parameters.items _ braced S rest o
-    (inside refl (decls_lead a.declarations.items (sign CloseBrace none) declared close_brace (up r S) rest o (one refl (outside m)))))))))))))))
+    (pairs_lead a.pairs.items close (up behind S) _ o (one refl (outside (one refl
+    (parameters_lead a.parameters _ braced S rest o
+    (inside refl (decls_lead a.declarations (sign CloseBrace none) declared close_brace (up r S) rest o (one refl (outside m)))))))))))))))
 
 item_leads : (i : Item) → is_allowed (item i) ≡ true → (r : Row Form) (S : Rows Form) (rest : List ℕ) (o : ℕ) → Fits r S rest o → Fits (form Form.item r) S (follow (item i) rest) o
 item_leads (Include file span) allowed r S rest o m = fold_to written Form.item 0 refl Whole _ o (one refl (one refl (one refl m)))
@@ -335,9 +335,9 @@ protocol_leads (Some text) parts allowed r S rest o m = to_present written proto
 -- so what a file's tree spells, and then the end of the text, is a file of the written grammar
 pub tree_derives : (t : Tree) → is_allowed (tree t) ≡ true → Derives written (form Form.file done) end (spelling (tree t) ++ end_of_text ∷ [])
 tree_derives t allowed =
-    let some = and_parts (not (length t.items.items == 0)) (are_allowed (protocol_parts t.protocol (item_list t.items.items))) allowed in
+    let some = and_parts (not (length t.items == 0)) (are_allowed (protocol_parts t.protocol (item_list t.items))) allowed in
     let ends : Fits (end_token done) end (end_of_text ∷ []) 0 = one refl ended in
     let whole : Derives written (form Form.file done) end (follow (tree t) (end_of_text ∷ [])) =
-    fold_to written Form.file 0 refl Whole _ 0 (protocol_leads t.protocol (item_list t.items.items) some.1 _ end (end_of_text ∷ []) 0
-    (λ items. some_items_lead t.items.items some.0 items (end_token done) end (end_of_text ∷ []) 0 ends)) in
+    fold_to written Form.file 0 refl Whole _ 0 (protocol_leads t.protocol (item_list t.items) some.1 _ end (end_of_text ∷ []) 0
+    (λ items. some_items_lead t.items some.0 items (end_token done) end (end_of_text ∷ []) 0 ends)) in
     subst (λ ts. Derives written (form Form.file done) end ts) (follow-spelling (tree t) (end_of_text ∷ [])) whole

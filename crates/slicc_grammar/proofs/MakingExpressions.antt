@@ -6,7 +6,8 @@ use Rattle.slicc_ast.specs.declared.tree.token.TokenKind.{TokenKind}
 use Rattle.slicc_ast.specs.declared.tree.token.TokenKind.TheVariants.{Sign as SignToken}
 use Rattle.slicc_ast.specs.declared.tree.expression.Operator.{Operator}
 use Rattle.slicc_ast.specs.declared.tree.expression.Operator.TheVariants.{Or, And, Equal, Unequal, Less, Greater, LessOrEqual, GreaterOrEqual, Plus, Minus, Times}
-use Rattle.slicc_ast.specs.declared.tree.expression.Expr.{Expr, Operation', Not', Negate', Postfix', Number, True, False, Nothing, Variable, Member, Call', New, IsValid', IsInvalid', Cast', Group', Row_of-Expr, end_of-Expr, more_of-Expr, Row_of-Operand, end_of-Operand, more_of-Operand, Row_of-Suffix, end_of-Suffix, more_of-Suffix}
+use Rattle.slicc_ast.specs.declared.tree.expression.Expr.{Expr, Number, True, False, Nothing, Variable, Member, Call', New, Row_of-Expr, end_of-Expr, more_of-Expr, Row_of-Operand, end_of-Operand, more_of-Operand, Row_of-Suffix, end_of-Suffix, more_of-Suffix}
+use Rattle.slicc_ast.specs.Boxes.{Operation', Not', Negate', Postfix', IsValid', IsInvalid', Cast', Group'}
 use Rattle.slicc_ast.specs.declared.tree.expression.Suffix.{Suffix, Field, Method', Index}
 use Rattle.slicc_ast.specs.Outline.{Outline, node, part, no_span, is_allowed, are_allowed, shape_of, shape_in}
 use Rattle.slicc_ast.specs.Expressions.{expr, suffix, level_of, row_level, has_suffix, operator_sign, operator_level, operand_row, suffix_row, args_row, more_args_row}
@@ -23,8 +24,8 @@ use Rattle.slicc_grammar.proofs.Shapes.{◌▸◌, Made, with_part, ended_node, 
 use Rattle.slicc_grammar.proofs.Making.{spelled, spelled_in, marked, any_name, Forms}
 
 abbrev pub begins_with_name : Expr → Bool
-begins_with_name (Operation' p first n others span) = begins_with_name first
-begins_with_name (Postfix' p value n row span) = begins_with_name value
+begins_with_name (Operation' first n others span) = begins_with_name first
+begins_with_name (Postfix' value n row span) = begins_with_name value
 begins_with_name (Variable variable) = true
 begins_with_name (Member owner member span) = true
 begins_with_name (Call' function shape row within span) = true
@@ -133,39 +134,39 @@ argument = (comma ▸ of expression) done
 
 mutual
   pub expr_reads : (e : Expr) → is_allowed (expr e) ≡ true → Read e
-  expr_reads (Operation' p first n others span) allowed =
+  expr_reads (Operation' first n others span) allowed =
       let some = and_parts (nat_lt 0 (row_level others)) _ allowed in
       let low = and_parts (nat_lt (row_level others) (level_of first)) _ some.1 in
       let both = and_parts (is_allowed (expr first)) _ low.1 in
       let inner = expr_reads first both.0 in
       let tighter = ltb-true (row_level others) (level_of first) low.0 in
       let is_some = ltb-true 0 (row_level others) some.0 in
-      of_operation (row_level others) (begins_with_name first) (expr (Operation' p first n others span)) is_some (most_level others)
+      of_operation (row_level others) (begins_with_name first) (expr (Operation' first n others span)) is_some (most_level others)
       (λ d sums R S rest s to m. inner.up_from d (omega arith) (omega arith) (maybe (operation_at d) R) S _ s to
       (present (operation_made others (row_level others) d sums is_some both.1 R S rest (shape_of (expr first)) s to m)))
-  expr_reads (Not' p operand span) allowed =
+  expr_reads (Not' operand span) allowed =
       let wide = and_parts (nat_le 7 (level_of operand)) _ allowed in
       let inner = expr_reads operand (and_parts (is_allowed (expr operand)) true wide.1).0 in
       let le = leb-true 7 (level_of operand) wide.0 in
       let unary_form = as_form (level_of operand) (begins_with_name operand) (expr operand) inner 0 (omega arith) (omega arith) in
-      of_unary 7 false (expr (Not' p operand span)) (omega arith)
+      of_unary 7 false (expr (Not' operand span)) (omega arith)
       (λ R S rest s to m. alternative 0 _ refl (marked (one refl (unary_form (at close done) (next R S) rest _ to (marked (on m))))))
       (λ tight. absurd (omega arith))
-  expr_reads (Negate' p operand span) allowed =
+  expr_reads (Negate' operand span) allowed =
       let wide = and_parts (nat_le 7 (level_of operand)) _ allowed in
       let inner = expr_reads operand (and_parts (is_allowed (expr operand)) true wide.1).0 in
       let le = leb-true 7 (level_of operand) wide.0 in
       let unary_form = as_form (level_of operand) (begins_with_name operand) (expr operand) inner 0 (omega arith) (omega arith) in
-      of_unary 7 false (expr (Negate' p operand span)) (omega arith)
+      of_unary 7 false (expr (Negate' operand span)) (omega arith)
       (λ R S rest s to m. alternative 1 _ refl (marked (one refl (unary_form (at close done) (next R S) rest _ to (marked (on m))))))
       (λ tight. absurd (omega arith))
-  expr_reads (Postfix' p value n row span) allowed =
+  expr_reads (Postfix' value n row span) allowed =
       let some = and_parts (has_suffix row) _ allowed in
       let wide = and_parts (nat_le 9 (level_of value)) _ some.1 in
       let both = and_parts (is_allowed (expr value)) _ wide.1 in
       let inner = expr_reads value both.0 in
-      of_unary 8 (begins_with_name value) (expr (Postfix' p value n row span)) (omega arith)
-      (from_start (begins_with_name value) (expr (Postfix' p value n row span))
+      of_unary 8 (begins_with_name value) (expr (Postfix' value n row span)) (omega arith)
+      (from_start (begins_with_name value) (expr (Postfix' value n row span))
       (λ R S rest s to m. inner.as_primary (leb-true 9 (level_of value) wide.0) (suffixes R) S _ s to
       (present (suffixed_made row some.0 both.1 R S rest (shape_of (expr value)) s to m))))
       (λ tight. absurd (omega arith))
@@ -184,23 +185,23 @@ mutual
       (λ R S rest s to m. any_name function.text (present (alternative 1 _ refl (marked (one refl (marked (rows _ _ _ _ to (one refl (marked (on (on m)))))))))))
   expr_reads (New made span) allowed =
       of_primary false (expr (New made span)) (λ R S rest s to m. alternative 4 _ refl (marked (one refl (any_name made.text (marked (on m))))))
-  expr_reads (IsValid' p value span) allowed =
+  expr_reads (IsValid' value span) allowed =
       let inner = as_expression value (expr_reads value (and_parts (is_allowed (expr value)) true allowed).0) in
-      of_primary false (expr (IsValid' p value span)) (λ R S rest s to m. alternative 5 _ refl (marked (one refl (one refl (inner _ _ _ _ to (one refl (marked (on m))))))))
-  expr_reads (IsInvalid' p value span) allowed =
+      of_primary false (expr (IsValid' value span)) (λ R S rest s to m. alternative 5 _ refl (marked (one refl (one refl (inner _ _ _ _ to (one refl (marked (on m))))))))
+  expr_reads (IsInvalid' value span) allowed =
       let inner = as_expression value (expr_reads value (and_parts (is_allowed (expr value)) true allowed).0) in
-      of_primary false (expr (IsInvalid' p value span)) (λ R S rest s to m. alternative 6 _ refl (marked (one refl (one refl (inner _ _ _ _ to (one refl (marked (on m))))))))
-  expr_reads (Cast' target None p value span) allowed =
+      of_primary false (expr (IsInvalid' value span)) (λ R S rest s to m. alternative 6 _ refl (marked (one refl (one refl (inner _ _ _ _ to (one refl (marked (on m))))))))
+  expr_reads (Cast' target None value span) allowed =
       let inner = as_expression value (expr_reads value (and_parts (is_allowed (expr value)) true allowed).0) in
-      of_primary false (expr (Cast' target None p value span))
+      of_primary false (expr (Cast' target None value span))
       (λ R S rest s to m. alternative 7 _ refl (marked (one refl (one refl (any_name target.text (one refl (absent (inner _ _ _ _ to (one refl (marked (on m)))))))))))
-  expr_reads (Cast' target (Some mode) p value span) allowed =
+  expr_reads (Cast' target (Some mode) value span) allowed =
       let inner = as_expression value (expr_reads value (and_parts (is_allowed (expr value)) true allowed).0) in
-      of_primary false (expr (Cast' target (Some mode) p value span))
+      of_primary false (expr (Cast' target (Some mode) value span))
       (λ R S rest s to m. alternative 7 _ refl (marked (one refl (one refl (any_name target.text (one refl (present (one refl (one refl (on (inner _ _ _ _ to (one refl (marked (on m))))))))))))))
-  expr_reads (Group' p inner span) allowed =
+  expr_reads (Group' inner span) allowed =
       let held = as_expression inner (expr_reads inner (and_parts (is_allowed (expr inner)) true allowed).0) in
-      of_primary false (expr (Group' p inner span)) (λ R S rest s to m. alternative 8 _ refl (marked (one refl (held _ _ _ _ to (one refl (marked (on m)))))))
+      of_primary false (expr (Group' inner span)) (λ R S rest s to m. alternative 8 _ refl (marked (one refl (held _ _ _ _ to (one refl (marked (on m)))))))
 
   operands_made : {n : _} (row : Row_of-Operand n) (level d : ℕ) → d + level ≡ 6 → are_allowed (operand_row level row) ≡ true → (R : Row Step) (S : Rows Step) (rest : List TokenKind) (s to : Made) → Makes R S rest (ended_node s (shape_in (operand_row level row))) to → Makes (many (operand_at d) (at close done)) (next R S) (spelled_in (operand_row level row) rest) s to
   operands_made end_of-Operand level d sums allowed R S rest s to m = enough (marked (on m))

@@ -49,7 +49,7 @@ parts_close [] = then_enough closed
 parts_close (first ∷ others) = part_closes first (parts_close others)
 
 pub then_balanced : {row : Place} {rows : Behind} {parts : Parts} (b : Balanced) → Closes row rows parts → Closes (λ R S. balanced (row R S)) rows (balanced_parts b parts)
-then_balanced b c = then_node (parts_close b.parts.items) c
+then_balanced b c = then_node (parts_close b.parts) c
 
 -- attributes
 pub value_closes : (v : PairValue) → Closes (λ R S. Row.form value (at close done)) (λ R S. next R S) (pair_value v none)
@@ -66,7 +66,7 @@ then_pair_list [] c = then_enough c
 then_pair_list (first ∷ others) c = then_again (then_token refl (then_form (pair_forms first) (then_on (then_pair_list others c))))
 
 pub then_pairs : {row : Place} {rows : Behind} {parts : Parts} (p : Pairs) → Closes row rows parts → Closes (λ R S. pairs (row R S)) rows (pairs_parts p parts)
-then_pairs p c = then_node (then_pair_list p.items.items closed) c
+then_pairs p c = then_node (then_pair_list p.items closed) c
 
 -- formals
 pub then_star : {row : Place} {rows : Behind} {parts : Parts} (has : Bool) → Closes row rows parts → Closes (λ R S. optional (sign Star) (row R S)) rows (star has parts)
@@ -93,7 +93,7 @@ formal_list_closes (first ∷ others) =
     then_present (then_alternative Form.formals 0 refl (then_form (formal_forms first) (more_formals_close others (then_on (then_on closed)))))
 
 pub then_formals : {row : Place} {rows : Behind} {parts : Parts} (f : Formals) → Closes row rows parts → Closes (λ R S. formals_part (row R S)) rows (formals_parts f parts)
-then_formals f c = then_token refl (then_node (formal_list_closes f.items.items) (then_token refl c))
+then_formals f c = then_token refl (then_node (formal_list_closes f.items) (then_token refl c))
 
 -- literals
 pub literal_forms : (l : Literal) → Forms Form.literal (literal l)

@@ -135,5 +135,5 @@ stmt_list_closes : (ss : List Stmt) → Closes (λ R S. many statement_part ((si
 stmt_list_closes [] = then_enough (then_token refl closed_last)
 stmt_list_closes (first ∷ others) = then_again (then_form (stmt_forms first) (then_on (stmt_list_closes others)))
 
-pub whole_block_forms : (b : Block) → Forms Form.block (node b.span (sign_parts OpenBrace (stmt_list b.statements.items block_end)))
-whole_block_forms b = in_block b.span (stmt_list_closes b.statements.items)
+pub whole_block_forms : (b : Block) → Forms Form.block (node b.span (sign_parts OpenBrace (stmt_list b.statements block_end)))
+whole_block_forms b = in_block b.span (stmt_list_closes b.statements)

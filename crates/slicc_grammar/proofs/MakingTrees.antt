@@ -67,7 +67,7 @@ symbols_close (first ∷ others) c = then_again (then_name (then_pairs first.pai
 enumeration_forms : (e : Enumeration) → Forms Form.enumeration (enumeration e)
 enumeration_forms e =
     by_node 0 refl (then_token refl (then_token refl (then_name (then_pairs e.pairs (then_token refl
-    (then_token refl (symbols_close e.members.items (then_token refl closed_last))))))))
+    (then_token refl (symbols_close e.members (then_token refl closed_last))))))))
 
 abbrev one_state : Row Step
 one_state = (name ▸ comma ▸ name ▸ colon ▸ name ▸ pairs ▸ semicolon) done
@@ -81,7 +81,7 @@ state_list_closes (first ∷ others) c =
 states_forms : (s : States) → Forms Form.states (states s)
 states_forms s =
     by_node 0 refl (then_token refl (then_token refl (then_name (then_pairs s.pairs (then_token refl
-    (then_token refl (state_list_closes s.members.items (then_token refl closed_last))))))))
+    (then_token refl (state_list_closes s.members (then_token refl closed_last))))))))
 
 -- a name that isn't that of a skipped function, or is
 plain_or_skipped : (text : List ℕ) → (has (other_name ∷ machine_type ∷ []) (name_kind text) ≡ true) ⊎ (has (functional_name ∷ []) (name_kind text) ≡ true)
@@ -131,7 +131,7 @@ members_close (first ∷ others) c = then_again (then_form (member_forms first) 
 structure_forms : (s : Structure) → Forms Form.structure (structure s)
 structure_forms s =
     by_node 0 refl (then_token refl (then_token refl (then_name (then_pairs s.pairs (then_token refl
-    (then_token refl (members_close s.members.items (then_token refl closed_last))))))))
+    (then_token refl (members_close s.members (then_token refl closed_last))))))))
 
 -- ports and actions
 then_port_head : {row : Place} {rows : Behind} {parts : Parts} (n : Name) (t : TypeName) (b : Name) (p : Pairs) → Closes row rows parts → Closes (λ R S. port_head (row R S)) rows (sign_parts OpenParenthesis (name_parts n (sign_parts Comma (type_name t (sign_parts Comma (name_parts b (pairs_parts p (sign_parts CloseParenthesis parts))))))))
@@ -162,7 +162,7 @@ several_close (first ∷ others) = where_allowed (not (length (first ∷ others)
 
 then_names : {row : Place} {rows : Behind} {parts : Parts} (ns : Names) → Closes row rows parts → Closes (λ R S. of Form.names (row R S)) rows (names_parts ns parts)
 then_names (One n) c = then_alternative Form.names 0 refl (then_name (then_on c))
-then_names (Several ns span) c = then_form (by_node 1 refl (several_close ns.items)) c
+then_names (Several ns span) c = then_form (by_node 1 refl (several_close ns)) c
 
 -- the attributes of a transition, the first of which stands where a next state could
 end_of_list : (ps : List Pair) → Closes (λ R S. more_pairs done) (λ R S. next done (next (at close R) S)) (pair_list ps)
@@ -184,13 +184,13 @@ then_no_next {row = row} {rows = rows} {parts = parts} span (NamedPair key v wit
     }
 
 then_next : {row : Place} {rows : Behind} {parts : Parts} (n : Option Name) (p : Pairs) → Closes row rows parts → Closes (λ R S. at begin (optional (comma ▸ of Form.transition_end) (at close (row R S)))) rows (next_parts n (pairs_parts p parts))
-then_next None p c = then_no_next p.span p.items.items c
+then_next None p c = then_no_next p.span p.items c
 then_next {row = row} {rows = rows} {parts = parts} (Some n) p c =
     record {
       makes = λ allowed R S rest s to m.
-          let both = and_parts (are_allowed (pair_list p.items.items)) (are_allowed parts) allowed in
+          let both = and_parts (are_allowed (pair_list p.items)) (are_allowed parts) allowed in
           marked (present (one refl (alternative 0 _ refl (any_name n.text (marked (absent
-          ((end_of_list p.items.items).makes both.0 (row R S) (rows R S) (spelled_in parts rest) _ to
+          ((end_of_list p.items).makes both.0 (row R S) (rows R S) (spelled_in parts rest) _ to
           (c.makes both.1 R S rest _ to m))))))));
     }
 
@@ -204,7 +204,7 @@ actions_close (first ∷ others) c = then_again (then_name (then_token refl (the
 transition_forms : (t : Transition) → Forms Form.transition (transition t)
 transition_forms t =
     by_node 0 refl (then_token refl (then_token refl (then_names t.states (then_token refl (then_names t.events (then_next t.next t.pairs
-    (then_token refl (then_token refl (actions_close t.actions.items (then_token refl closed_last))))))))))
+    (then_token refl (then_token refl (actions_close t.actions (then_token refl closed_last))))))))))
 
 -- functions and objects
 body_closes : {row : Place} {rows : Behind} (body : Option Block) → Closes row rows none → Closes (λ R S. of Form.body (row R S)) rows (function_body body)
@@ -288,7 +288,7 @@ then_machine_name false n c =
 machine_forms : (m : Machine) → Forms Form.machine (machine m)
 machine_forms m =
     by_node 0 refl (then_token refl (then_token refl (then_machine_name m.has_type m.name (then_token refl (then_token refl (then_pairs m.pairs
-    (then_token refl (then_token refl (parameters_close m.parameters.items (then_token refl (decls_close m.declarations.items (then_token refl closed_last))))))))))))
+    (then_token refl (then_token refl (parameters_close m.parameters (then_token refl (decls_close m.declarations (then_token refl closed_last))))))))))))
 
 -- files
 item_forms : (i : Item) → Forms Form.item (item i)
@@ -318,4 +318,4 @@ tree_closes n (first ∷ others) = where_allowed (not (length (first ∷ others)
 -- so of a file's tokens, with the end token, one outline is made
 pub tree_makes : (t : Tree) → is_allowed (tree t) ≡ true → Makes (of Form.file done) end (spelled_in (tree_parts t) (End ∷ [])) start (with_token End (with_part (shape_of (tree t)) start))
 tree_makes t allowed =
-    alternative 0 _ refl (marked ((tree_closes t.protocol t.items.items).makes allowed (Row.token (end_of_text ∷ []) done) (next done end) (End ∷ []) (opened start) _ (one refl (on ended))))
+    alternative 0 _ refl (marked ((tree_closes t.protocol t.items).makes allowed (Row.token (end_of_text ∷ []) done) (next done end) (End ∷ []) (opened start) _ (one refl (on ended))))

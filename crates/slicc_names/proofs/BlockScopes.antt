@@ -26,6 +26,6 @@ abbrev pub optional_scopes : Option Block → List (List Declaration)
 optional_scopes None = []
 optional_scopes (Some b) = body_scopes [] b
 
-pub if_scopes : (i : If) → if_blocks i ≡ body_scopes [] (out-If i).then ++ flat_map else_if_scopes (out-If i).others.items ++ optional_scopes (out-If i).otherwise
+pub if_scopes : (i : If) → if_blocks i ≡ body_scopes [] (out-If i).then ++ flat_map else_if_scopes (out-If i).others ++ optional_scopes (out-If i).otherwise
 if_scopes (If' condition shape row block n others None' span) = search (rules, the_lemmas, locals_of_row, blocks_of_row, others_of_row)
 if_scopes (If' condition shape row block n others (Some' s r b) span) = search (rules, the_lemmas, locals_of_row, blocks_of_row, others_of_row)

@@ -28,7 +28,7 @@ abbrev pub optional_locals : Option Block → List Declaration
 optional_locals None = []
 optional_locals (Some b) = body_locals b
 
-pub if_all_locals : (i : If) → if_locals i ≡ body_locals (out-If i).then ++ flat_map else_if_locals (out-If i).others.items ++ optional_locals (out-If i).otherwise
+pub if_all_locals : (i : If) → if_locals i ≡ body_locals (out-If i).then ++ flat_map else_if_locals (out-If i).others ++ optional_locals (out-If i).otherwise
 if_all_locals (If' condition shape row block n others None' span) = search (rules, the_lemmas, all_of_row, others_of_row)
 if_all_locals (If' condition shape row block n others (Some' s r b) span) = search (rules, the_lemmas, all_of_row, others_of_row)
 
@@ -36,13 +36,13 @@ optional_is : (o : Option Block) → map place_of (optional_locals o) ≡ option
 optional_is None = refl
 optional_is (Some b) = refl
 
-pub body_places : (b : Block) → map place_of (body_locals b) ≡ flat_map local_places b.statements.items
-body_places b = map_flat place_of locals_in b.statements.items
+pub body_places : (b : Block) → map place_of (body_locals b) ≡ flat_map local_places b.statements
+body_places b = map_flat place_of locals_in b.statements
 
-pub if_places : (i : If) → map place_of (if_locals i) ≡ map place_of (body_locals (out-If i).then) ++ flat_map else_if_places (out-If i).others.items ++ optional_places (out-If i).otherwise
+pub if_places : (i : If) → map place_of (if_locals i) ≡ map place_of (body_locals (out-If i).then) ++ flat_map else_if_places (out-If i).others ++ optional_places (out-If i).otherwise
 if_places i =
     ap (map place_of) (if_all_locals i)
-    ∙ map-append place_of (body_locals (out-If i).then ++ flat_map else_if_locals (out-If i).others.items) (optional_locals (out-If i).otherwise)
-    ∙ ap (λ ps. ps ++ map place_of (optional_locals (out-If i).otherwise)) (map-append place_of (body_locals (out-If i).then) (flat_map else_if_locals (out-If i).others.items))
-    ∙ ap (λ ps. (map place_of (body_locals (out-If i).then) ++ ps) ++ map place_of (optional_locals (out-If i).otherwise)) (map_flat place_of else_if_locals (out-If i).others.items)
-    ∙ ap (λ ps. (map place_of (body_locals (out-If i).then) ++ flat_map else_if_places (out-If i).others.items) ++ ps) (optional_is (out-If i).otherwise)
+    ∙ map-append place_of (body_locals (out-If i).then ++ flat_map else_if_locals (out-If i).others) (optional_locals (out-If i).otherwise)
+    ∙ ap (λ ps. ps ++ map place_of (optional_locals (out-If i).otherwise)) (map-append place_of (body_locals (out-If i).then) (flat_map else_if_locals (out-If i).others))
+    ∙ ap (λ ps. (map place_of (body_locals (out-If i).then) ++ ps) ++ map place_of (optional_locals (out-If i).otherwise)) (map_flat place_of else_if_locals (out-If i).others)
+    ∙ ap (λ ps. (map place_of (body_locals (out-If i).then) ++ flat_map else_if_places (out-If i).others) ++ ps) (optional_is (out-If i).otherwise)

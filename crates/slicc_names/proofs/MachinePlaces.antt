@@ -15,11 +15,11 @@ use Rattle.slicc_names.proofs.Parts.{flat_flat}
 use Rattle.slicc_names.specs.Counting.{decl_places, found_in, if_counted, is_of_kind, is_sequencer_in, told_found, kind_limits, limits_of, parameter_places, with_its_own_places}
 use Rattle.slicc_names.specs.declared.kinds.Kind.{Kind}
 
-pub machine_places : (kind : Kind) (m : Machine) → flat_map (if_counted kind) (machine_declarations m) ≡ flat_map (parameter_places kind) m.parameters.items ++ flat_map (decl_places kind) m.declarations.items
+pub machine_places : (kind : Kind) (m : Machine) → flat_map (if_counted kind) (machine_declarations m) ≡ flat_map (parameter_places kind) m.parameters ++ flat_map (decl_places kind) m.declarations
 machine_places kind m =
-    flat_map-append (if_counted kind) (map parameter m.parameters.items) (flat_map named_declarations m.declarations.items)
-    ∙ ap (λ ps. ps ++ flat_map (if_counted kind) (flat_map named_declarations m.declarations.items)) (flat_map-map (if_counted kind) parameter m.parameters.items)
-    ∙ ap (λ ps. flat_map (parameter_places kind) m.parameters.items ++ ps) (flat_flat (if_counted kind) named_declarations m.declarations.items)
+    flat_map-append (if_counted kind) (map parameter m.parameters) (flat_map named_declarations m.declarations)
+    ∙ ap (λ ps. ps ++ flat_map (if_counted kind) (flat_map named_declarations m.declarations)) (flat_map-map (if_counted kind) parameter m.parameters)
+    ∙ ap (λ ps. flat_map (parameter_places kind) m.parameters ++ ps) (flat_flat (if_counted kind) named_declarations m.declarations)
 
 same_sequencer : (trees : List Tree) (m : Machine) (d : Declaration) → is_sequencer_in trees (within m) d ≡ is_sequencer trees m d
 same_sequencer trees m (machine n) = refl

@@ -38,14 +38,14 @@ parameters_scopes : (ps : List Parameter) → flat_map inner_scopes (map paramet
 parameters_scopes [] = refl
 parameters_scopes (p ∷ ps) = parameters_scopes ps
 
-pub machine_inside : (m : Machine) → flat_map inner_scopes (machine_declarations m) ≡ flat_map inner_scopes (flat_map named_declarations m.declarations.items)
+pub machine_inside : (m : Machine) → flat_map inner_scopes (machine_declarations m) ≡ flat_map inner_scopes (flat_map named_declarations m.declarations)
 machine_inside m =
-    flat_map-append inner_scopes (map parameter m.parameters.items) (flat_map named_declarations m.declarations.items)
-    ∙ ap (λ xs. xs ++ flat_map inner_scopes (flat_map named_declarations m.declarations.items)) (parameters_scopes m.parameters.items)
+    flat_map-append inner_scopes (map parameter m.parameters) (flat_map named_declarations m.declarations)
+    ∙ ap (λ xs. xs ++ flat_map inner_scopes (flat_map named_declarations m.declarations)) (parameters_scopes m.parameters)
 
 pub trees_inside : (trees : List Tree) → scopes_within trees ≡ flat_map tree_scopes trees
 trees_inside [] = refl
 trees_inside (t ∷ ts) =
-    flat_map-append global_scopes (flat_map item_declarations t.items.items) (flat_map (λ (u : Tree). flat_map item_declarations u.items.items) ts)
-    ∙ ap (λ xs. xs ++ scopes_within ts) (flat_flat global_scopes item_declarations t.items.items)
+    flat_map-append global_scopes (flat_map item_declarations t.items) (flat_map (λ (u : Tree). flat_map item_declarations u.items) ts)
+    ∙ ap (λ xs. xs ++ scopes_within ts) (flat_flat global_scopes item_declarations t.items)
     ∙ ap (λ xs. tree_scopes t ++ xs) (trees_inside ts)

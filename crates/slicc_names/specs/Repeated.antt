@@ -19,4 +19,4 @@ abbrev pub item_scopes : Item → List (List Declaration)
 item_scopes i = flat_map global_scopes (item_declarations i)
 
 abbrev pub tree_scopes : Tree → List (List Declaration)
-tree_scopes t = flat_map item_scopes t.items.items
+tree_scopes t = flat_map item_scopes t.items

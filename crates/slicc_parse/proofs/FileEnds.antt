@@ -46,15 +46,15 @@ end_read room {tokens = tokens} {left = left} e = token_read room (end_of_text �
 -- a file, part by part
 pub file_read : (room : ℕ) (t : Tree) (tokens between left : List Token)
     → is_ahead (first_of_form file) (symbols tokens) ≡ true
-    → AreRead room (optional protocol_row ▸ items_row) (λ others. protocol_parts t.protocol (items_parts t.items.items others)) tokens between
-    → IsTrue (not (length t.items.items == 0)) → IsEndAt between t.span.end left
+    → AreRead room (optional protocol_row ▸ items_row) (λ others. protocol_parts t.protocol (items_parts t.items others)) tokens between
+    → IsTrue (not (length t.items == 0)) → IsEndAt between t.span.end left
     → t.span ≡ record { file = (covering (token_spans tokens)).file; start = 0; end = t.span.end }
     → IsFileRead room t tokens left
 file_read room t tokens between left ahead r some e span =
     record {
       passes = (by_alternative file 0 refl ahead (r then end_read room e)).passes;
       last = between;
-      spells = allowed some (subst (λ p. AreParts (protocol_parts t.protocol p) tokens between) (items_parts_none t.items.items) (r.spells none between nothing));
+      spells = allowed some (subst (λ p. AreParts (protocol_parts t.protocol p) tokens between) (items_parts_none t.items) (r.spells none between nothing));
       end = e;
       span = span;
     }

@@ -103,6 +103,7 @@ fn file(alloc: Global, room: u32, tokens: &[Token]) -> Result<(Tree, &[Token]), 
                     start: 0,
                     end,
                 };
+                let items = Seq::of(items);
                 Ok((
                     Tree {
                         protocol,

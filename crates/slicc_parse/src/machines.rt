@@ -7,6 +7,7 @@ ghost use Rattle.slicc_parse.specs.Rows.{machine_parts, machine_row};
 ghost use Rattle.slicc_reading.specs.Reading.{AreRead, IsRead, Refuses};
 
 use crate::declarations::declaration_block;
+use slicc_ast::Seq;
 use slicc_ast::tree::{Decl, Machine, Parameter, Sign, Word};
 use slicc_decl::{MachineHead, machine_head, parameter_list};
 use slicc_lex::Token;
@@ -56,6 +57,8 @@ pub fn machine(alloc: Global, room: u32, tokens: &[Token]) -> Result<(Machine, &
                         pairs,
                     } = head;
                     let span = span(tokens, left);
+                    let parameters = Seq::of(parameters);
+                    let declarations = Seq::of(declarations);
                     Ok((
                         Machine {
                             has_type,

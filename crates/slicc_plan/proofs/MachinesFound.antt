@@ -19,22 +19,22 @@ get_in_second [] ys left n e = ap (λ k. slice_get ys k) (sym (omega (arith, e))
 get_in_second (x ∷ xs) ys left zero e = absurd (omega (arith, e))
 get_in_second (x ∷ xs) ys left (suc n) e = get_in_second xs ys left n (omega (arith, e))
 
-pub machines_first : (t : Tree) (ts : List Tree) → machines_of (t ∷ ts) ≡ machines_among t.items.items ++ machines_of ts
-machines_first t ts = flat_map-append machine_in (flat_map item_declarations t.items.items) (global_declarations ts)
+pub machines_first : (t : Tree) (ts : List Tree) → machines_of (t ∷ ts) ≡ machines_among t.items ++ machines_of ts
+machines_first t ts = flat_map-append machine_in (flat_map item_declarations t.items) (global_declarations ts)
 
-pub in_first : (trees : List Tree) (t d : Tree) (items : List Item) (n : ℕ) (m : Machine) → 1 ≤ length trees → t ≡ slice_index_or trees 0 d → items ≡ t.items.items → slice_get (machines_among items) n ≡ Some m → Some m ≡ slice_get (machines_of trees) n
+pub in_first : (trees : List Tree) (t d : Tree) (items : List Item) (n : ℕ) (m : Machine) → 1 ≤ length trees → t ≡ slice_index_or trees 0 d → items ≡ t.items → slice_get (machines_among items) n ≡ Some m → Some m ≡ slice_get (machines_of trees) n
 in_first [] t d items n m some is same found = absurd (omega (arith, some))
 in_first (u ∷ ts) t d items n m some is same found =
-    let here : slice_get (machines_among u.items.items) n ≡ Some m = subst (λ (v : Tree). slice_get (machines_among v.items.items) n ≡ Some m) is (subst (λ xs. slice_get (machines_among xs) n ≡ Some m) same found) in
-    sym (subst (λ ms. slice_get ms n ≡ Some m) (sym (machines_first u ts)) (get_in_first (machines_among u.items.items) (machines_of ts) n m here))
+    let here : slice_get (machines_among u.items) n ≡ Some m = subst (λ (v : Tree). slice_get (machines_among v.items) n ≡ Some m) is (subst (λ xs. slice_get (machines_among xs) n ≡ Some m) same found) in
+    sym (subst (λ ms. slice_get ms n ≡ Some m) (sym (machines_first u ts)) (get_in_first (machines_among u.items) (machines_of ts) n m here))
 
-pub in_others : (trees : List Tree) (t d : Tree) (items : List Item) (n left : ℕ) (o : Option Machine) → 1 ≤ length trees → t ≡ slice_index_or trees 0 d → items ≡ t.items.items → left + length (machines_among items) ≡ n → o ≡ slice_get (machines_of (take (length trees - 1) (drop 1 trees))) left → o ≡ slice_get (machines_of trees) n
+pub in_others : (trees : List Tree) (t d : Tree) (items : List Item) (n left : ℕ) (o : Option Machine) → 1 ≤ length trees → t ≡ slice_index_or trees 0 d → items ≡ t.items → left + length (machines_among items) ≡ n → o ≡ slice_get (machines_of (take (length trees - 1) (drop 1 trees))) left → o ≡ slice_get (machines_of trees) n
 in_others [] t d items n left o some is same passed found = absurd (omega (arith, some))
 in_others (u ∷ ts) t d items n left o some is same passed found =
-    let here : left + length (machines_among u.items.items) ≡ n = subst (λ (v : Tree). left + length (machines_among v.items.items) ≡ n) is (subst (λ xs. left + length (machines_among xs) ≡ n) same passed) in
+    let here : left + length (machines_among u.items) ≡ n = subst (λ (v : Tree). left + length (machines_among v.items) ≡ n) is (subst (λ xs. left + length (machines_among xs) ≡ n) same passed) in
     let rest : take (length (u ∷ ts) - 1) ts ≡ ts = take_all (length (u ∷ ts) - 1) ts (omega arith) in
     subst (λ vs. o ≡ slice_get (machines_of vs) left) rest found
-    ∙ sym (subst (λ ms. slice_get ms n ≡ slice_get (machines_of ts) left) (sym (machines_first u ts)) (get_in_second (machines_among u.items.items) (machines_of ts) left n here))
+    ∙ sym (subst (λ ms. slice_get ms n ≡ slice_get (machines_of ts) left) (sym (machines_first u ts)) (get_in_second (machines_among u.items) (machines_of ts) left n here))
 
 -- the item at a place is a machine, and so many machines are before it
 pub found_at : (items : List Item) (i : ℕ) (d : Item) (m : Machine) (n left : ℕ) → i < length items → d ≡ slice_index_or items i d → d ≡ MachineItem m → left ≡ 0 → left + length (machines_among (take i items)) ≡ n → slice_get (machines_among items) n ≡ Some m

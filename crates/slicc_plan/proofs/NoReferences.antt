@@ -139,7 +139,7 @@ known_parameter_plain trees p (Some t) = parameter_plain p (Some t) (plain_kind 
 
 parameters_plain : (trees : List Tree) (m : Machine) → All ParameterPlain (value_parameters trees m)
 parameters_plain trees m =
-    all_flat ParameterPlain (λ (p : Parameter). known_parameter trees p (type_in trees (within m) p.kind.text)) (λ p. known_parameter_plain trees p (type_in trees (within m) p.kind.text)) m.parameters.items
+    all_flat ParameterPlain (λ (p : Parameter). known_parameter trees p (type_in trees (within m) p.kind.text)) (λ p. known_parameter_plain trees p (type_in trees (within m) p.kind.text)) m.parameters
 
 parameter_table_plain : (trees : List Tree) (number : ℕ) (m : Machine) (sizes : Sizes) → LinesPlain (parameter_table trees number m sizes)
 parameter_table_plain trees number m sizes =

@@ -94,7 +94,7 @@ of_type : (trees : List Tree) (t : Option KnownType) → IfSome (receivers_field
 of_type trees None = tt
 of_type trees (Some (built_in b)) = tt
 of_type trees (Some (enumerated scope text members)) = tt
-of_type trees (Some (structured scope s)) = among_fields trees scope s.members.items _ refl
+of_type trees (Some (structured scope s)) = among_fields trees scope s.members _ refl
 
 abbrev Names : BufferSetup → Type 0
 Names b = NamesReceivers b

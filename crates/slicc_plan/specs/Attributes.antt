@@ -23,7 +23,7 @@ attribute_in key (Bare text span) = None
 
 -- the attributes of this name, in order
 abbrev pub attributes : List ℕ → Pairs → List Attribute
-attributes key pairs = filter_map (attribute_in key) pairs.items.items
+attributes key pairs = filter_map (attribute_in key) pairs.items
 
 abbrev pub first_attribute : List ℕ → Pairs → Option Attribute
 first_attribute key pairs = slice_get (attributes key pairs) 0

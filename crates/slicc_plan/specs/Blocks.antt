@@ -68,8 +68,8 @@ abbrev mutual
 -- what a body with these formals declares, block by block, the outermost first
 abbrev pub body_scopes : List Declaration → Block → List (List Declaration)
 body_scopes formals b =
-    (formals ++ flat_map local_of b.statements.items) ∷ flat_map blocks_in b.statements.items
+    (formals ++ flat_map local_of b.statements) ∷ flat_map blocks_in b.statements
 
 -- all locals of a body, in the order of the text
 abbrev pub body_locals : Block → List Declaration
-body_locals b = flat_map locals_in b.statements.items
+body_locals b = flat_map locals_in b.statements

@@ -11,7 +11,8 @@ use Rattle.slicc_ast.specs.declared.tree.machine.Decl.{Decl}
 use Rattle.slicc_ast.specs.declared.tree.machine.Decl.TheVariants.{InPort as InPortDecl, Action as ActionDecl, Function as FunctionDecl}
 use Rattle.slicc_ast.specs.declared.tree.declaration.Function.TheVariants.{Plain as PlainFunction, Skipped}
 use Rattle.slicc_ast.specs.declared.tree.expression.Suffix.{Suffix, Field, Method', Index}
-use Rattle.slicc_ast.specs.declared.tree.expression.Expr.{Expr, Operation', Not', Negate', Postfix', Variable, Call', IsValid', IsInvalid', Cast', Group', Row_of-Expr, end_of-Expr, more_of-Expr, Row_of-Operand, end_of-Operand, more_of-Operand, Row_of-Suffix, end_of-Suffix, more_of-Suffix}
+use Rattle.slicc_ast.specs.declared.tree.expression.Expr.{Expr, Variable, Call', Row_of-Expr, end_of-Expr, more_of-Expr, Row_of-Operand, end_of-Operand, more_of-Operand, Row_of-Suffix, end_of-Suffix, more_of-Suffix}
+use Rattle.slicc_ast.specs.Boxes.{Operation', Not', Negate', Postfix', IsValid', IsInvalid', Cast', Group'}
 use Rattle.slicc_ast.specs.declared.tree.statement.Block.{Block}
 use Rattle.slicc_ast.specs.declared.tree.statement.If.{If, If', Held-If-otherwise, None', Some', Row_of-ElseIf, end_of-ElseIf, more_of-ElseIf}
 use Rattle.slicc_ast.specs.declared.tree.statement.Stmt.{Stmt, Declare, Assign, Evaluate, Return, If as IfStmt, Peek', Enqueue', StallAndWait, CheckAllocate, Assert, Row_of-Stmt, end_of-Stmt, more_of-Stmt}
@@ -72,7 +73,7 @@ is_one_of names text = list_any (λ name. bytes_eq text name) names
 -- the name that an expression is, parentheses aside
 abbrev pub name_in : Expr → Option (List ℕ)
 name_in (Variable v) = Some v.text
-name_in (Group' p inner span) = name_in inner
+name_in (Group' inner span) = name_in inner
 name_in _ = None
 
 abbrev pub is_directory : Names → Option (List ℕ) → Bool
@@ -108,16 +109,16 @@ assignment place span = changing (is_none (name_in place)) span
 module _ (names : Names) where
   abbrev mutual
     pub expr_parts : Expr → List Part
-    expr_parts (Operation' p first n others span) = expr_parts first ++ operands_parts others
-    expr_parts (Not' p operand span) = Plain ∷ expr_parts operand
-    expr_parts (Negate' p operand span) = Plain ∷ expr_parts operand
-    expr_parts (Postfix' p value n suffixes span) = expr_parts value ++ suffixes_parts (name_in value) span suffixes
+    expr_parts (Operation' first n others span) = expr_parts first ++ operands_parts others
+    expr_parts (Not' operand span) = Plain ∷ expr_parts operand
+    expr_parts (Negate' operand span) = Plain ∷ expr_parts operand
+    expr_parts (Postfix' value n suffixes span) = expr_parts value ++ suffixes_parts (name_in value) span suffixes
     expr_parts (Call' called shape row arguments span) =
         call_part called.text span (number_in names.functions called.text) ∷ arguments_parts row
-    expr_parts (IsValid' p value span) = Plain ∷ expr_parts value
-    expr_parts (IsInvalid' p value span) = Plain ∷ expr_parts value
-    expr_parts (Cast' target mode p value span) = Plain ∷ expr_parts value
-    expr_parts (Group' p inner span) = expr_parts inner
+    expr_parts (IsValid' value span) = Plain ∷ expr_parts value
+    expr_parts (IsInvalid' value span) = Plain ∷ expr_parts value
+    expr_parts (Cast' target mode value span) = Plain ∷ expr_parts value
+    expr_parts (Group' inner span) = expr_parts inner
     expr_parts _ = Plain ∷ []
 
     pub operands_parts : {m : _} → Row_of-Operand m → List Part
@@ -177,7 +178,7 @@ module _ (names : Names) where
     row_parts (more_of-Stmt first row) = stmt_parts first ++ row_parts row
 
   abbrev pub block_parts : Block → List Part
-  block_parts b = flat_map stmt_parts b.statements.items
+  block_parts b = flat_map stmt_parts b.statements
 
 -- The bodies of a machine, each with its name.
 
@@ -206,13 +207,13 @@ abbrev pub with_written : List Written → Written → List Written
 with_written ws w = cond (list_any (λ (x : Written). bytes_eq x.name w.name) ws) ws (ws ++ w ∷ [])
 
 abbrev pub written_functions : Machine → List Written
-written_functions m = fold with_written [] (flat_map function_in m.declarations.items)
+written_functions m = fold with_written [] (flat_map function_in m.declarations)
 
 abbrev pub written_actions : Machine → List Written
-written_actions m = fold with_written [] (flat_map action_in m.declarations.items)
+written_actions m = fold with_written [] (flat_map action_in m.declarations)
 
 abbrev pub written_ports : Machine → List Written
-written_ports m = flat_map port_in m.declarations.items
+written_ports m = flat_map port_in m.declarations
 
 abbrev pub names_of_written : List Written → List (List ℕ)
 names_of_written ws = map (λ (w : Written). w.name) ws

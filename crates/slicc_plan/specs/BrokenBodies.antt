@@ -77,7 +77,7 @@ broken_in_declaration trees m (in_port p) =
     broken_port trees m p.message p.buffer ++ body_judged (port_environment trees m) p.body
 broken_in_declaration trees m (action a) = body_judged (action_environment trees m) a.body
 broken_in_declaration trees m (function (Plain kind called formals attributes (Some body) span)) =
-    broken_function trees m kind formals.items.items body
+    broken_function trees m kind formals.items body
 broken_in_declaration trees m (function (Plain kind called formals attributes None span)) = []
 broken_in_declaration trees m (function (Skipped s)) = []
 broken_in_declaration trees m _ = []

@@ -216,7 +216,7 @@ built_in_named env at called (Some c) given = built_in_call env at (plain nothin
 abbrev pub declared_call : Environment → Span → Name → Option Declaration → List Given → Typed
 declared_call env at called None given = built_in_named env at called (plain_call env.trees called.text) given
 declared_call env at called (Some (function (Plain kind name formals attributes (Some body) span))) given =
-    function_call env at kind.text formals.items.items given
+    function_call env at kind.text formals.items given
 declared_call env at called (Some (function (Plain kind name formals attributes None span))) given =
     built_in_named env at called (plain_call env.trees called.text) given
 declared_call env at called (Some (function (Skipped s))) given = not_called [] called given

@@ -124,7 +124,7 @@ item_declarations (StructureItem s) = structure s ∷ []
 item_declarations (MachineItem m) = machine m ∷ []
 
 abbrev pub global_declarations : List Tree → List Declaration
-global_declarations trees = flat_map (λ (t : Tree). flat_map item_declarations t.items.items) trees
+global_declarations trees = flat_map (λ (t : Tree). flat_map item_declarations t.items) trees
 
 abbrev pub named_declarations : Decl → List Declaration
 named_declarations (StatesDecl s) = states s ∷ []
@@ -138,7 +138,7 @@ named_declarations (FunctionDecl f) = function f ∷ []
 named_declarations (ObjectDecl o) = object o ∷ []
 
 abbrev pub machine_declarations : Machine → List Declaration
-machine_declarations m = map parameter m.parameters.items ++ flat_map named_declarations m.declarations.items
+machine_declarations m = map parameter m.parameters ++ flat_map named_declarations m.declarations
 
 abbrev pub machine_in : Declaration → List Machine
 machine_in (machine m) = m ∷ []

@@ -15,7 +15,8 @@ use Rattle.slicc_ast.specs.declared.tree.declaration.Member.TheVariants.{Field a
 use Rattle.slicc_ast.specs.declared.tree.expression.Operator.{Operator}
 use Rattle.slicc_ast.specs.declared.tree.expression.Operator.TheVariants.{Or, And, Equal, Unequal, Plus, Minus, Times}
 use Rattle.slicc_ast.specs.declared.tree.expression.Suffix.{Suffix, Field, Method', Index}
-use Rattle.slicc_ast.specs.declared.tree.expression.Expr.{Expr, Operation', Not', Negate', Postfix', Number, True, False, Nothing, Variable, Member as MemberOf, Call', New, IsValid', IsInvalid', Cast', Group', Row_of-Expr, end_of-Expr, more_of-Expr, Row_of-Operand, end_of-Operand, more_of-Operand, Row_of-Suffix, end_of-Suffix, more_of-Suffix}
+use Rattle.slicc_ast.specs.declared.tree.expression.Expr.{Expr, Number, True, False, Nothing, Variable, Member as MemberOf, Call', New, Row_of-Expr, end_of-Expr, more_of-Expr, Row_of-Operand, end_of-Operand, more_of-Operand, Row_of-Suffix, end_of-Suffix, more_of-Suffix}
+use Rattle.slicc_ast.specs.Boxes.{Operation', Not', Negate', Postfix', IsValid', IsInvalid', Cast', Group'}
 use Rattle.slicc_plan.specs.declared.broken.Broken.{Broken}
 use Rattle.slicc_plan.specs.declared.broken.Rule.TheVariants.{NotThere, NotAllowedHere, WrongType}
 use Rattle.slicc_plan.specs.declared.built_in.BuiltInType.{BuiltInType}
@@ -28,10 +29,10 @@ use Rattle.slicc_plan.specs.Meanings.{Meaning, value, no_line, new_line, incomin
 use Rattle.slicc_plan.specs.Types.{KnownType, built_in, enumerated, structured, type_in}
 
 abbrev pub span_of : Expr → Span
-span_of (Operation' p first n others span) = span
-span_of (Not' p operand span) = span
-span_of (Negate' p operand span) = span
-span_of (Postfix' p inner n suffixes span) = span
+span_of (Operation' first n others span) = span
+span_of (Not' operand span) = span
+span_of (Negate' operand span) = span
+span_of (Postfix' inner n suffixes span) = span
 span_of (Number n span) = span
 span_of (True span) = span
 span_of (False span) = span
@@ -40,10 +41,10 @@ span_of (Variable n) = n.span
 span_of (MemberOf owner called span) = span
 span_of (Call' called shape row arguments span) = span
 span_of (New made span) = span
-span_of (IsValid' p inner span) = span
-span_of (IsInvalid' p inner span) = span
-span_of (Cast' target mode p inner span) = span
-span_of (Group' p inner span) = span
+span_of (IsValid' inner span) = span
+span_of (IsInvalid' inner span) = span
+span_of (Cast' target mode inner span) = span
+span_of (Group' inner span) = span
 
 -- Names.
 
@@ -111,7 +112,7 @@ abbrev pub field_in : List Tree → Machine → KnownType → List ℕ → Optio
 field_in trees m (built_in b) text = built_in_field b text
 field_in trees m (enumerated scope name members) text = None
 field_in trees m (structured scope s) text =
-    field_declared trees m (fields_scope m scope) (first_named text (map member s.members.items))
+    field_declared trees m (fields_scope m scope) (first_named text (map member s.members))
 
 abbrev pub found_field : Written → List Broken → Name → Option Meaning → Typed
 found_field written broken n None = plain unknown (broken ++ told NotThere n.span ∷ [])
@@ -173,12 +174,12 @@ given_at place typed = record { place = place; typed = typed }
 -- Expressions. What stands left of an operator or a suffix has its place where the whole expression starts.
 abbrev mutual
   pub typed : Environment → Expr → Typed
-  typed env (Operation' p first n others span) = operands_typed env (span_of first) (typed env first) others
-  typed env (Not' p operand span) =
+  typed env (Operation' first n others span) = operands_typed env (span_of first) (typed env first) others
+  typed env (Not' operand span) =
       from_operand env (of_built_in Boolean) Boolean (given_at (span_of operand) (typed env operand))
-  typed env (Negate' p operand span) =
+  typed env (Negate' operand span) =
       from_operand env (of_built_in Int) Int (given_at (span_of operand) (typed env operand))
-  typed env (Postfix' p inner n suffixes span) = suffixes_typed env span (typed env inner) suffixes
+  typed env (Postfix' inner n suffixes span) = suffixes_typed env span (typed env inner) suffixes
   typed env (Number n span) = plain (value (built_in Int)) []
   typed env (True span) = plain (value (built_in Boolean)) []
   typed env (False span) = plain (value (built_in Boolean)) []
@@ -187,11 +188,11 @@ abbrev mutual
   typed env (MemberOf owner called span) = member_type env owner called
   typed env (Call' called shape row arguments span) = named_call env span called (arguments_typed env row)
   typed env (New made span) = plain (new_line made) (told NotAllowedHere span ∷ [])
-  typed env (IsValid' p inner span) = from_operand env any_line Boolean (given_at (span_of inner) (typed env inner))
-  typed env (IsInvalid' p inner span) = from_operand env any_line Boolean (given_at (span_of inner) (typed env inner))
-  typed env (Cast' target mode p inner span) =
+  typed env (IsValid' inner span) = from_operand env any_line Boolean (given_at (span_of inner) (typed env inner))
+  typed env (IsInvalid' inner span) = from_operand env any_line Boolean (given_at (span_of inner) (typed env inner))
+  typed env (Cast' target mode inner span) =
       cast_to env target (given_at (span_of inner) (typed env inner)) (type_named env target.text)
-  typed env (Group' p inner span) = typed env inner
+  typed env (Group' inner span) = typed env inner
 
   pub operands_typed : {m : _} → Environment → Span → Typed → Row_of-Operand m → Typed
   operands_typed env at left end_of-Operand = left

@@ -26,7 +26,7 @@ field_of scope (Method kind called formals attributes span) = []
 field_of scope (Skipped s) = []
 
 abbrev pub fields_of : Scope → Declaration → List FieldIn
-fields_of scope (structure s) = cond (is_external s) [] (flat_map (field_of scope) s.members.items)
+fields_of scope (structure s) = cond (is_external s) [] (flat_map (field_of scope) s.members)
 fields_of scope _ = []
 
 abbrev pub fields_within : List Tree → Scope → List FieldIn

@@ -19,7 +19,7 @@ use Rattle.slicc_plan.specs.TypeNumbers.{built_in_kind, kind_or_bool, member_num
 use Rattle.slicc_plan.specs.Types.{KnownType, built_in, enumerated, structured}
 
 abbrev pub structure_fields : Scope → Structure → List FieldIn
-structure_fields scope s = flat_map (field_of scope) s.members.items
+structure_fields scope s = flat_map (field_of scope) s.members
 
 abbrev pub field_kind : List Tree → FieldIn → Kind
 field_kind trees f = kind_or_bool (option_and_then (plain_kind trees) (field_type trees f))

@@ -146,4 +146,4 @@ statements_judged env [] = []
 statements_judged env (s ∷ ss) = judged env s ++ statements_judged (after env s) ss
 
 abbrev pub body_judged : Environment → Block → List Broken
-body_judged env b = statements_judged env b.statements.items
+body_judged env b = statements_judged env b.statements

@@ -112,12 +112,12 @@ is_field _ = false
 
 -- the members of an enumeration or of a state declaration
 abbrev pub members_in : Declaration → List Declaration
-members_in (enumeration e) = map symbol e.members.items
-members_in (states s) = map state s.members.items
+members_in (enumeration e) = map symbol e.members
+members_in (states s) = map state s.members
 members_in _ = []
 
 abbrev pub fields_in : Declaration → List Declaration
-fields_in (structure s) = cond (is_external s) [] (filter is_field (map member s.members.items))
+fields_in (structure s) = cond (is_external s) [] (filter is_field (map member s.members))
 fields_in _ = []
 
 -- the first state declaration of a machine, and its enumeration of events

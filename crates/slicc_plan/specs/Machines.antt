@@ -69,11 +69,11 @@ transition_in (TransitionDecl t) = t ∷ []
 transition_in _ = []
 
 abbrev pub transitions_of : Machine → List Transition
-transitions_of m = flat_map transition_in m.declarations.items
+transitions_of m = flat_map transition_in m.declarations
 
 abbrev pub names_in : Names → List Name
 names_in (One n) = n ∷ []
-names_in (Several ns span) = ns.items
+names_in (Several ns span) = ns
 
 abbrev pub actions_of : Machine → List Declaration
 actions_of m = filter is_action (machine_declarations m)
@@ -109,7 +109,7 @@ next_number m (Some n) = number_among (state_members m) n
 -- the transition with its names as numbers
 abbrev pub written : Machine → Transition → Written
 written m t =
-    record { states = from_states m t; events = on_events m t; next = next_number m t.next; actions = numbers_among (actions_of m) t.actions.items; span = t.span }
+    record { states = from_states m t; events = on_events m t; next = next_number m t.next; actions = numbers_among (actions_of m) t.actions; span = t.span }
 
 abbrev pub written_of : Machine → List Written
 written_of m = map (written m) (transitions_of m)

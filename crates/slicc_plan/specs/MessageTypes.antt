@@ -46,5 +46,5 @@ message_type trees number b = type_at trees number b b.place
 -- the number of the field that names the receivers of a message
 abbrev pub receivers_field : List Tree → Option KnownType → Option ℕ
 receivers_field trees (Some (structured scope s)) =
-    position (is_destination trees scope) (filter (λ (m : Member). is_field (member m)) s.members.items)
+    position (is_destination trees scope) (filter (λ (m : Member). is_field (member m)) s.members)
 receivers_field trees _ = None

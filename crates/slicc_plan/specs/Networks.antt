@@ -84,7 +84,7 @@ is_destination trees scope (Method kind called formals attributes span) = false
 is_destination trees scope (Skipped s) = false
 
 abbrev pub has_destination : List Tree → KnownType → Bool
-has_destination trees (structured scope s) = list_any (is_destination trees scope) s.members.items
+has_destination trees (structured scope s) = list_any (is_destination trees scope) s.members
 has_destination trees _ = false
 
 abbrev pub is_sent : Bool → Place → Bool

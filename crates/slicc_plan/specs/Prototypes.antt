@@ -36,7 +36,7 @@ unknown_method machines (SkippedMember s) = []
 
 abbrev pub unknown_structure : List (List ℕ) → Structure → Bool → List Broken
 unknown_structure machines s true = told_unless (is_some (table_named s.name.text)) s.span
-unknown_structure machines s false = flat_map (unknown_method machines) s.members.items
+unknown_structure machines s false = flat_map (unknown_method machines) s.members
 
 abbrev pub unknown_built_in : List (List ℕ) → Declaration → List Broken
 unknown_built_in machines (structure s) = unknown_structure machines s (is_external s)

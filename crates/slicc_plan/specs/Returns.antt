@@ -44,7 +44,7 @@ abbrev mutual
   row_ends (more_of-Stmt first row) = ends first || row_ends row
 
 abbrev pub body_ends : Block → Bool
-body_ends b = list_any ends b.statements.items
+body_ends b = list_any ends b.statements
 
 pub record ReturnAt : Type 0 where
   pub has_value : Bool
@@ -82,7 +82,7 @@ no_return place = record { rule = NoReturn; machine = 0; place = place; other = 
 abbrev pub wrong_returns : Bool → Block → List Broken
 wrong_returns is_wanted b =
     map (λ (r : ReturnAt). no_return r.place)
-    (filter (λ (r : ReturnAt). cond is_wanted (not r.has_value) r.has_value) (flat_map returns_in b.statements.items))
+    (filter (λ (r : ReturnAt). cond is_wanted (not r.has_value) r.has_value) (flat_map returns_in b.statements))
 
 abbrev pub wrong_ends : Bool → Span → Block → List Broken
 wrong_ends answers place b =

@@ -15,7 +15,7 @@ use Rattle.slicc_plan.specs.Blocks.{body_scopes}
 use Rattle.slicc_plan.specs.Declarations.{Declaration, machine, enumeration, structure, states, in_port, action, function, symbol, state, member, formal, global_declarations, is_external, machine_declarations}
 
 abbrev pub formal_declarations : Formals → List Declaration
-formal_declarations fs = map formal fs.items.items
+formal_declarations fs = map formal fs.items
 
 abbrev pub function_scopes : Function → List (List Declaration)
 function_scopes (Plain kind called formals attributes None span) = formal_declarations formals ∷ []
@@ -29,12 +29,12 @@ member_scopes (SkippedMember s) = []
 
 abbrev pub structure_scopes : Structure → List (List Declaration)
 structure_scopes s =
-    cond (is_external s) [] (map member s.members.items ∷ flat_map member_scopes s.members.items)
+    cond (is_external s) [] (map member s.members ∷ flat_map member_scopes s.members)
 
 -- the scopes in a declaration, those of its parts included
 abbrev pub inner_scopes : Declaration → List (List Declaration)
-inner_scopes (enumeration e) = map symbol e.members.items ∷ []
-inner_scopes (states s) = map state s.members.items ∷ []
+inner_scopes (enumeration e) = map symbol e.members ∷ []
+inner_scopes (states s) = map state s.members ∷ []
 inner_scopes (structure s) = structure_scopes s
 inner_scopes (in_port p) = body_scopes [] p.body
 inner_scopes (action a) = body_scopes [] a.body

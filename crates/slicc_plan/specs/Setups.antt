@@ -133,7 +133,7 @@ known_parameter trees p (Some t) = parameter_of p (Some t) (plain_kind trees t)
 
 abbrev pub value_parameters : List Tree → Machine → List ValueParameter
 value_parameters trees m =
-    flat_map (λ (p : Parameter). known_parameter trees p (type_in trees (within m) p.kind.text)) m.parameters.items
+    flat_map (λ (p : Parameter). known_parameter trees p (type_in trees (within m) p.kind.text)) m.parameters
 
 abbrev pub literal_value : Kind → Literal → Value
 literal_value kind.Int (Number n span) = value.Int n

@@ -69,7 +69,7 @@ told_at number place = record { rule = StateFunctions; machine = number; place =
 -- the function, where there is one, takes and answers something else
 abbrev pub unlike : List Tree → ℕ → Machine → Wanted → List Wanted → Option Function → List Broken
 unlike trees number m answered taken (Some (Plain kind called formals attributes body span)) =
-    cond (is_wanted m answered (type_in trees (within m) kind.text) && are_wanted trees m taken formals.items.items)
+    cond (is_wanted m answered (type_in trees (within m) kind.text) && are_wanted trees m taken formals.items)
     [] (told_at number span ∷ [])
 unlike trees number m answered taken _ = []
 

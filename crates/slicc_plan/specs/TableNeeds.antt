@@ -25,7 +25,7 @@ checks_at actions (Some k) = checks_or_none (slice_get actions k)
 abbrev pub checks_of : List Tree → Machine → Transition → List ℕ
 checks_of trees m t =
     flat_map (λ (action : Name). checks_at (action_bodies trees m) (number_in (names_of_written (written_actions m)) action.text))
-    t.actions.items
+    t.actions
 
 abbrev pub need_of : List Tree → Machine → ℕ → Option Transition → ℕ
 need_of trees m table None = 0

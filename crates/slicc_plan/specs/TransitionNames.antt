@@ -31,7 +31,7 @@ listed_name (Some n) = n ∷ []
 abbrev pub missing_in : Machine → Transition → List Broken
 missing_in m t =
     missing_among (state_members m) (names_in t.states ++ listed_name t.next)
-    ++ missing_among (event_members m) (names_in t.events) ++ missing_among (actions_of m) t.actions.items
+    ++ missing_among (event_members m) (names_in t.events) ++ missing_among (actions_of m) t.actions
 
 -- Permissions.
 
@@ -47,7 +47,7 @@ wrong_permission s (Some t) =
 
 abbrev pub wrong_permissions : List Tree → Machine → Declaration → List Broken
 wrong_permissions trees m (states d) =
-    flat_map (λ (s : State). wrong_permission s (type_in trees (within m) s.owner.text)) d.members.items
+    flat_map (λ (s : State). wrong_permission s (type_in trees (within m) s.owner.text)) d.members
 wrong_permissions trees m _ = []
 
 abbrev pub wrong_names_in : List Tree → Machine → List Broken

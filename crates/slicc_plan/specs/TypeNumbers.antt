@@ -104,10 +104,10 @@ default_number scope text members (Some a) = unwrap_or (member_number scope text
 -- the default member of an enumeration or of a state declaration: the one that it names, else its first
 abbrev pub own_default : Scope → Declaration → ℕ
 own_default scope (enumeration e) =
-    default_number scope e.name.text (map (λ (s : Symbol). s.name.text) e.members.items)
+    default_number scope e.name.text (map (λ (s : Symbol). s.name.text) e.members)
     (first_attribute (codes "default") e.pairs)
 own_default scope (states d) =
-    default_number scope d.name.text (map (λ (s : State). s.name.text) d.members.items)
+    default_number scope d.name.text (map (λ (s : State). s.name.text) d.members)
     (first_attribute (codes "default") d.pairs)
 own_default scope _ = 0
 

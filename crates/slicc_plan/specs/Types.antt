@@ -37,9 +37,9 @@ structure_type scope s false = structured scope s
 -- the type that a declaration declares
 abbrev pub declared_type : Scope → Declaration → Option KnownType
 declared_type scope (enumeration e) =
-    Some (enumerated scope e.name.text (map (λ (s : Symbol). s.name.text) e.members.items))
+    Some (enumerated scope e.name.text (map (λ (s : Symbol). s.name.text) e.members))
 declared_type scope (states d) =
-    Some (enumerated scope d.name.text (map (λ (s : State). s.name.text) d.members.items))
+    Some (enumerated scope d.name.text (map (λ (s : State). s.name.text) d.members))
 declared_type scope (structure s) = Some (structure_type scope s (is_external s))
 declared_type scope _ = None
 

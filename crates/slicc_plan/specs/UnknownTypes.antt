@@ -33,7 +33,7 @@ abbrev pub formal_use : Bool → Formal → TypeUse
 formal_use is_of_prototype f = record { text = f.kind.text; place = f.kind.span; is_of_prototype = is_of_prototype }
 
 abbrev pub formal_uses : Bool → Formals → List TypeUse
-formal_uses is_of_prototype fs = map (formal_use is_of_prototype) fs.items.items
+formal_uses is_of_prototype fs = map (formal_use is_of_prototype) fs.items
 
 abbrev pub state_use : State → TypeUse
 state_use s = record { text = s.owner.text; place = s.owner.span; is_of_prototype = false }
@@ -52,8 +52,8 @@ function_uses (Plain kind called formals attributes body span) =
 function_uses (Skipped s) = use_of s.kind ∷ []
 
 abbrev pub uses_in : Declaration → List TypeUse
-uses_in (structure s) = cond (is_external s) [] (flat_map member_uses s.members.items)
-uses_in (states s) = map state_use s.members.items
+uses_in (structure s) = cond (is_external s) [] (flat_map member_uses s.members)
+uses_in (states s) = map state_use s.members
 uses_in (parameter p) = use_of p.kind ∷ []
 uses_in (object o) = use_of o.kind ∷ []
 uses_in (out_port p) = use_of p.message ∷ []

@@ -10,7 +10,7 @@ use Rattle.slicc_grammar.specs.Parts.{Part, ◌▸◌, balanced, sign}
 use Rattle.slicc_grammar.specs.TokenKinds.{sign_kind}
 
 abbrev pub balanced_outline : Balanced → Outline
-balanced_outline b = node b.span (balanced_list b.parts.items)
+balanced_outline b = node b.span (balanced_list b.parts)
 
 abbrev pub bracketed : Sign → Sign → Part
 bracketed opener closer = nested (sign_kind opener ∷ []) ((balanced ▸ sign closer) done)

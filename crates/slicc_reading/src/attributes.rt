@@ -116,7 +116,7 @@ pub fn next_pair(alloc: Global, room: u32, tokens: &[Token]) -> Result<(Pair, &[
 /// Any number of attributes, each behind a comma.
 pub fn pairs(alloc: Global, room: u32, tokens: &[Token]) -> Result<(Pairs, &[Token]), Fault>
     ensures { MatchResult result
-        (λ read. IsRead room pairs_part (node read.0.span (pair_list read.0.items.items)) tokens.now tokens.now read.1.now)
+        (λ read. IsRead room pairs_part (node read.0.span (pair_list read.0.items)) tokens.now tokens.now read.1.now)
         (Refuses room pairs_part tokens.now) }
 {
     let mut items = Vec::new(alloc);
@@ -131,5 +131,6 @@ pub fn pairs(alloc: Global, room: u32, tokens: &[Token]) -> Result<(Pairs, &[Tok
         }
     }
     let span = span(tokens, left);
+    let items = Seq::of(items);
     Ok((Pairs { items, span }, left))
 }

@@ -119,6 +119,7 @@ pub fn balanced(alloc: Global, room: u32, tokens: &[Token]) -> Result<(Balanced,
         }
     }
     let span = span(tokens, left);
+    let parts = Seq::of(parts);
     Ok((Balanced { parts, span }, left))
 }
 

@@ -45,7 +45,7 @@ symbols_alike [] [] = refl
 symbols_alike [] (y ∷ ys) = refl
 symbols_alike (x ∷ xs) [] = refl
 symbols_alike (x ∷ xs) (y ∷ ys) =
-    symbol_step (alike_name x.name y.name) (same_parts (pair_list x.pairs.items.items) (pair_list y.pairs.items.items)) _ _ (symbols_alike xs ys)
+    symbol_step (alike_name x.name y.name) (same_parts (pair_list x.pairs.items) (pair_list y.pairs.items)) _ _ (symbols_alike xs ys)
 
 state_step : (a b c d r s : Bool) → r ≡ s → (a && true) && ((b && true) && ((c && true) && (d && r))) ≡ (((a && b) && c) && d) && s
 state_step true true true d r s is = ap (λ x. d && x) is
@@ -59,4 +59,4 @@ states_alike [] (y ∷ ys) = refl
 states_alike (x ∷ xs) [] = refl
 states_alike (x ∷ xs) (y ∷ ys) =
     state_step (alike_name x.name y.name) (alike_name x.owner y.owner) (alike_name x.permission y.permission)
-    (same_parts (pair_list x.pairs.items.items) (pair_list y.pairs.items.items)) _ _ (states_alike xs ys)
+    (same_parts (pair_list x.pairs.items) (pair_list y.pairs.items)) _ _ (states_alike xs ys)

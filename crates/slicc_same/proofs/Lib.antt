@@ -4,6 +4,7 @@ pub mod NotParts
 pub mod ItemLists
 pub mod NotExpressions
 pub mod ExpressionLists
+pub mod ShapesOfBoxes
 pub mod StatementLists
 pub mod Symmetric
 pub mod MachineLists

@@ -70,7 +70,7 @@ pub names_behind : (a b : Names) (p q : Parts) → same_parts (names a p) (names
 names_behind (One a) (One b) p q = single (alike_name a b && true) (same_parts p q)
 names_behind (One a) (Several b other) p q = refl
 names_behind (Several a span) (One b) p q = refl
-names_behind (Several a span) (Several b other) p q = single (same_parts (name_list a.items (sign CloseBrace none)) (name_list b.items (sign CloseBrace none))) (same_parts p q)
+names_behind (Several a span) (Several b other) p q = single (same_parts (name_list a (sign CloseBrace none)) (name_list b (sign CloseBrace none))) (same_parts p q)
 
 pub next_behind : (a b : Option Name) (o u : Outline) (p q : Parts) → same_parts (next_parts a (part o p)) (next_parts b (part u q)) ≡ same_parts (next_parts a none) (next_parts b none) && same_parts (part o p) (part u q)
 next_behind None None o u p q = refl

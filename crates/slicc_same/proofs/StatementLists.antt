@@ -29,13 +29,13 @@ statements_of_row n (more_of-Stmt first row) = ap (λ parts. part (stmt first) p
 -- what is behind the first block of an `if`
 abbrev pub else_parts : Option Block → Parts
 else_parts None = none
-else_parts (Some b) = word Else (block_part b.span (stmt_list b.statements.items block_end) none)
+else_parts (Some b) = word Else (block_part b.span (stmt_list b.statements block_end) none)
 
 abbrev pub else_if_list : List ElseIf → Parts → Parts
 else_if_list [] parts = parts
 else_if_list (first ∷ others) parts =
     word Else (word IfWord (sign OpenParenthesis (part (expr first.condition) (sign CloseParenthesis
-    (block_part first.then.span (stmt_list first.then.statements.items block_end) (else_if_list others parts))))))
+    (block_part first.then.span (stmt_list first.then.statements block_end) (else_if_list others parts))))))
 
 step : (a b r t s : Bool) → r ≡ t && s → a && (b && r) ≡ ((a && b) && t) && s
 step true true r t s is = is
@@ -56,7 +56,7 @@ else_ifs_alike [] (y ∷ ys) (Some a) p = refl
 else_ifs_alike (x ∷ xs) [] o None = refl
 else_ifs_alike (x ∷ xs) [] o (Some b) = refl
 else_ifs_alike (x ∷ xs) (y ∷ ys) o p =
-    step (same_shape (expr x.condition) (expr y.condition)) (same_parts (stmt_list x.then.statements.items block_end) (stmt_list y.then.statements.items block_end))
+    step (same_shape (expr x.condition) (expr y.condition)) (same_parts (stmt_list x.then.statements block_end) (stmt_list y.then.statements block_end))
     _ (all_alike alike_else_if xs ys) (alike_else o p) (else_ifs_alike xs ys o p)
 
 else_ifs_of_row : (n : _) (row : Row_of-ElseIf n) (parts : Parts) → else_if_row row parts ≡ else_if_list (items-the_row-ElseIf n row) parts
@@ -68,8 +68,8 @@ else_ifs_of_row n (more_of-ElseIf condition shape inner block more) parts =
 abbrev if_node : If → Outline
 if_node i =
     node (out-If i).span (word IfWord (sign OpenParenthesis (part (expr (out-If i).condition) (sign CloseParenthesis
-    (block_part (out-If i).then.span (stmt_list (out-If i).then.statements.items block_end)
-    (else_if_list (out-If i).others.items (else_parts (out-If i).otherwise)))))))
+    (block_part (out-If i).then.span (stmt_list (out-If i).then.statements block_end)
+    (else_if_list (out-If i).others (else_parts (out-If i).otherwise)))))))
 
 pub if_is : (i : If) → if_outline i ≡ if_node i
 if_is (If' condition shape row block n others None' span) = search (rules, the_lemmas, statements_of_row, else_ifs_of_row)
@@ -77,12 +77,12 @@ if_is (If' condition shape row block n others (Some' s r b) span) = search (rule
 
 pub if_alike : (i j : If) → same_shape (if_outline i) (if_outline j)
     ≡ same_shape (expr (out-If i).condition) (expr (out-If j).condition)
-    && (same_parts (stmt_list (out-If i).then.statements.items block_end) (stmt_list (out-If j).then.statements.items block_end)
-    && (all_alike alike_else_if (out-If i).others.items (out-If j).others.items && alike_else (out-If i).otherwise (out-If j).otherwise))
+    && (same_parts (stmt_list (out-If i).then.statements block_end) (stmt_list (out-If j).then.statements block_end)
+    && (all_alike alike_else_if (out-If i).others (out-If j).others && alike_else (out-If i).otherwise (out-If j).otherwise))
 if_alike i j =
     ap (λ o. same_shape o (if_outline j)) (if_is i) ∙ ap (λ o. same_shape (if_node i) o) (if_is j)
-    ∙ ap (λ b. same_shape (expr (out-If i).condition) (expr (out-If j).condition) && (same_parts (stmt_list (out-If i).then.statements.items block_end) (stmt_list (out-If j).then.statements.items block_end) && b))
-    (else_ifs_alike (out-If i).others.items (out-If j).others.items (out-If i).otherwise (out-If j).otherwise)
+    ∙ ap (λ b. same_shape (expr (out-If i).condition) (expr (out-If j).condition) && (same_parts (stmt_list (out-If i).then.statements block_end) (stmt_list (out-If j).then.statements block_end) && b))
+    (else_ifs_alike (out-If i).others (out-If j).others (out-If i).otherwise (out-If j).otherwise)
 
 -- no other statement begins with a word of one that prints
 pub return_print : (w : PrintWord) → (16 == word_number (print_word w)) ≡ false

@@ -26,13 +26,13 @@ alike_name a b = bytes_eq a.text b.text
 
 -- NAME pairs ;
 abbrev pub alike_symbol : Symbol → Symbol → Bool
-alike_symbol a b = alike_name a.name b.name && same_parts (pair_list a.pairs.items.items) (pair_list b.pairs.items.items)
+alike_symbol a b = alike_name a.name b.name && same_parts (pair_list a.pairs.items) (pair_list b.pairs.items)
 
 -- NAME , NAME : NAME pairs ;
 abbrev pub alike_state : State → State → Bool
 alike_state a b =
     alike_name a.name b.name && alike_name a.owner b.owner && alike_name a.permission b.permission
-    && same_parts (pair_list a.pairs.items.items) (pair_list b.pairs.items.items)
+    && same_parts (pair_list a.pairs.items) (pair_list b.pairs.items)
 
 abbrev pub alike_expr : Expr → Expr → Bool
 alike_expr a b = same_shape (expr a) (expr b)
@@ -50,12 +50,12 @@ alike_operand a b =
 abbrev pub alike_else_if : ElseIf → ElseIf → Bool
 alike_else_if a b =
     same_shape (expr a.condition) (expr b.condition)
-    && same_parts (stmt_list a.then.statements.items block_end) (stmt_list b.then.statements.items block_end)
+    && same_parts (stmt_list a.then.statements block_end) (stmt_list b.then.statements block_end)
 
 abbrev pub alike_stmt : Stmt → Stmt → Bool
 alike_stmt a b = same_shape (stmt a) (stmt b)
 
 abbrev pub alike_else : Option Block → Option Block → Bool
 alike_else None None = true
-alike_else (Some a) (Some b) = same_parts (stmt_list a.statements.items block_end) (stmt_list b.statements.items block_end)
+alike_else (Some a) (Some b) = same_parts (stmt_list a.statements block_end) (stmt_list b.statements block_end)
 alike_else _ _ = false

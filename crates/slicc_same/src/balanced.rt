@@ -9,7 +9,7 @@ use slicc_ast::tree::{Balanced, Part};
 
 #[cycle(balanced)]
 pub fn same_balanced(a: &Balanced, b: &Balanced) -> bool
-    ensures { result ≡ same_parts (balanced_list a.now.parts.items) (balanced_list b.now.parts.items) }
+    ensures { result ≡ same_parts (balanced_list a.now.parts) (balanced_list b.now.parts) }
 {
     all_same_parts(&a.parts, &b.parts)
 }

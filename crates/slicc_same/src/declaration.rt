@@ -44,7 +44,7 @@ impl Same for Pair {
 }
 
 pub fn same_pairs(a: &Pairs, b: &Pairs) -> bool
-    ensures { result ≡ same_parts (pair_list a.now.items.items) (pair_list b.now.items.items) }
+    ensures { result ≡ same_parts (pair_list a.now.items) (pair_list b.now.items) }
 {
     all_same(&a.items, &b.items)
 }
@@ -70,7 +70,7 @@ impl Same for Formal {
 }
 
 pub fn same_formals(a: &Formals, b: &Formals) -> bool
-    ensures { result ≡ same_parts (formal_list a.now.items.items) (formal_list b.now.items.items) }
+    ensures { result ≡ same_parts (formal_list a.now.items) (formal_list b.now.items) }
 {
     all_same(&a.items, &b.items)
 }

@@ -37,7 +37,7 @@ pub fn same_expr(a: &Expr, b: &Expr) -> bool
                 others: more,
                 ..
             },
-        ) => same_expr(first, other) && all_same_operands(others, more),
+        ) => same_expr(first.get(), other.get()) && all_same_operands(others, more),
         // With nothing behind their first parts, which no reader makes, these two are spelled alike.
         (
             Expr::Operation { first, others, .. },
@@ -46,7 +46,7 @@ pub fn same_expr(a: &Expr, b: &Expr) -> bool
                 suffixes,
                 ..
             },
-        ) => { others.is_empty() && suffixes.is_empty() && same_expr(first, value) }
+        ) => { others.is_empty() && suffixes.is_empty() && same_expr(first.get(), value.get()) }
         (
             Expr::Postfix {
                 value,
@@ -54,7 +54,7 @@ pub fn same_expr(a: &Expr, b: &Expr) -> bool
                 ..
             },
             Expr::Operation { first, others, .. },
-        ) => { others.is_empty() && suffixes.is_empty() && same_expr(value, first) }
+        ) => { others.is_empty() && suffixes.is_empty() && same_expr(value.get(), first.get()) }
         (
             Expr::Postfix {
                 value,
@@ -66,9 +66,9 @@ pub fn same_expr(a: &Expr, b: &Expr) -> bool
                 suffixes: more,
                 ..
             },
-        ) => same_expr(value, other) && all_same_suffixes(suffixes, more),
-        (Expr::Not(a, _), Expr::Not(b, _)) => same_expr(a, b),
-        (Expr::Negate(a, _), Expr::Negate(b, _)) => same_expr(a, b),
+        ) => same_expr(value.get(), other.get()) && all_same_suffixes(suffixes, more),
+        (Expr::Not(a, _), Expr::Not(b, _)) => same_expr(a.get(), b.get()),
+        (Expr::Negate(a, _), Expr::Negate(b, _)) => same_expr(a.get(), b.get()),
         (Expr::Number(a, _), Expr::Number(b, _)) => *a == *b,
         (Expr::True(_), Expr::True(_)) => true,
         (Expr::False(_), Expr::False(_)) => true,
@@ -95,8 +95,8 @@ pub fn same_expr(a: &Expr, b: &Expr) -> bool
             },
         ) => same_name(name, other) && same_args(arguments, more),
         (Expr::New(a, _), Expr::New(b, _)) => same_name(a, b),
-        (Expr::IsValid(a, _), Expr::IsValid(b, _)) => same_expr(a, b),
-        (Expr::IsInvalid(a, _), Expr::IsInvalid(b, _)) => same_expr(a, b),
+        (Expr::IsValid(a, _), Expr::IsValid(b, _)) => same_expr(a.get(), b.get()),
+        (Expr::IsInvalid(a, _), Expr::IsInvalid(b, _)) => same_expr(a.get(), b.get()),
         (
             Expr::Cast {
                 target,
@@ -113,16 +113,16 @@ pub fn same_expr(a: &Expr, b: &Expr) -> bool
         ) => {
             same_type(target, other_target)
                 && same_mode(mode, other_mode)
-                && same_expr(value, other_value)
+                && same_expr(value.get(), other_value.get())
         }
-        (Expr::Group(a, _), Expr::Group(b, _)) => same_expr(a, b),
+        (Expr::Group(a, _), Expr::Group(b, _)) => same_expr(a.get(), b.get()),
         _ => false,
     }
 }
 
 #[cycle(expression)]
 fn same_args(a: &Args, b: &Args) -> bool
-    ensures { result ≡ same_parts (args_list a.now.items.items) (args_list b.now.items.items) }
+    ensures { result ≡ same_parts (args_list a.now.items) (args_list b.now.items) }
 {
     all_same_values(&a.items, &b.items)
 }

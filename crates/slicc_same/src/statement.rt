@@ -29,7 +29,7 @@ fn same_optional(a: &Option<Expr>, b: &Option<Expr>) -> bool
 
 #[cycle(statement)]
 pub fn same_block(a: &Block, b: &Block) -> bool
-    ensures { result ≡ same_parts (stmt_list a.now.statements.items block_end) (stmt_list b.now.statements.items block_end) }
+    ensures { result ≡ same_parts (stmt_list a.now.statements block_end) (stmt_list b.now.statements block_end) }
 {
     all_same_statements(&a.statements, &b.statements)
 }

@@ -41,7 +41,8 @@ fn same_tree(a: &Tree, b: &Tree) -> bool
     same_protocol(&a.protocol, &b.protocol) && all_same(&a.items, &b.items)
 }
 
-/// Whether two trees are the same, spans aside. It takes no memory, and goes no deeper than the trees are nested.
+/// Whether two trees that keep the grammar's conditions, as each that was read does, are the same, spans aside. Of other trees
+/// it says whether they are spelled alike. It takes no memory, and goes no deeper than the trees are nested.
 pub fn same(a: &Tree, b: &Tree) -> bool
     ensures { result ≡ true ↔ shape_of (tree a.now) ≡ shape_of (tree b.now) }
 {

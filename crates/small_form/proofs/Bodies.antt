@@ -13,7 +13,7 @@ use Rattle.slicc_ast.specs.declared.tree.statement.ElseIf.{ElseIf}
 use Rattle.slicc_ast.specs.declared.tree.statement.Block.{Block}
 use Rattle.slicc_ast.specs.declared.tree.token.Word.TheVariants.{If as IfWord, Peek as PeekWord}
 use Rattle.slicc_ast.specs.declared.tree.token.Sign.TheVariants.{OpenBrace, OpenParenthesis, CloseParenthesis, Comma}
-use Rattle.slicc_ast.specs.Expressions.{args_list, expr}
+use Rattle.slicc_ast.specs.Expressions.{args_list, expr, more_args}
 use Rattle.slicc_ast.specs.Names.{word, sign}
 use Rattle.slicc_ast.specs.Outline.{Outline, node, Parts, none, part, no_span, shape_in, shape_of}
 use Rattle.slicc_ast.specs.Statements.{stmt, stmt_list, block_outline, block_end, if_outline}
@@ -31,10 +31,13 @@ use Rattle.small_form.proofs.Rows.{if_is}
 pub no_item : {A : Type 0} (xs : List A) → IsFound xs (λ x. x ∷ []) None → (x : A) → xs ≡ x ∷ [] → ⊥
 no_item xs is x same = let e : ◌≡◌ {A = Option _} None (Some x) = is.only x same in absurd (cc)
 
+no_three : (a b c : Outline) (rest : Parts) (event : List ℕ) → part a (sign Comma (part b (sign Comma (part c rest)))) ≡ event_arguments event → ⊥
+no_three a b c rest event same = absurd (cc)
+
 pub event_missing : (first : Expr) (rest arguments : List Expr) → arguments ≡ first ∷ rest → ((e : Expr) → rest ≡ e ∷ [] → ⊥) → IsFound (shape_in (args_list arguments)) event_arguments None
 event_missing first [] arguments is other = unfound _ event_arguments (λ event same. let e : shape_in (args_list (first ∷ [])) ≡ event_arguments event = cc in absurd (cc))
 event_missing first (e ∷ []) arguments is other = absurd (other e refl)
-event_missing first (e ∷ f ∷ es) arguments is other = unfound _ event_arguments (λ event same. let g : shape_in (args_list (first ∷ e ∷ f ∷ es)) ≡ event_arguments event = cc in absurd (cc))
+event_missing first (e ∷ f ∷ es) arguments is other = unfound _ event_arguments (λ event same. no_three (shape_of (expr first)) (shape_of (expr e)) (shape_of (expr f)) (shape_in (more_args es)) event (ap (λ xs. shape_in (args_list xs)) (sym is) ∙ same))
 
 -- a statement that is an expression alone
 pub evaluated_is : (s : Stmt) (value : Outline) → shape_of (stmt s) ≡ evaluated value → (e : Expr) × (span : Span) × (s ≡ Evaluate e span) × (shape_of (expr e) ≡ value)
@@ -127,6 +130,9 @@ abbrev pub conditional_of : Outline → Outline → Parts → Outline
 conditional_of condition body otherwise =
     node no_span (word IfWord (sign OpenParenthesis (part condition (sign CloseParenthesis (part body otherwise)))))
 
+conditional_not_peek : (a b : Outline) (c : Parts) (p : Peek) → conditional_of a b c ≡ peek p → ⊥
+conditional_not_peek a b c p same = absurd (cc)
+
 -- any other statement
 pub not_peek : (s : Stmt) (p : Peek) → ((port : Name) (message : TypeName) (attributes : Pairs) (body : Block) (span : Span) → s ≡ PeekStmt port message attributes body span → ⊥) → shape_of (stmt s) ≡ peek p → ⊥
 unfolding roll-Stmt denote.Hole.Carrier.roll
@@ -134,7 +140,7 @@ not_peek (Peek' port message attributes shape row inside span) p other same =
     other port message attributes _ span
     (sym (roll-out-Stmt (Peek' port message attributes shape row inside span)) ∙ ap roll-Stmt (outs-Peek' port message attributes shape row inside span)
     ∙ sym (rolls-Peek port message attributes _ span))
-not_peek (IfStmt i) p other same = absurd (let e : conditional_of _ _ _ ≡ peek p = sym (if_shape i) ∙ same in cc)
+not_peek (IfStmt i) p other same = conditional_not_peek _ _ _ p (sym (if_shape i) ∙ same)
 not_peek _ p other same = absurd (cc)
 
 -- conditionals that ask whether a message is ready

@@ -1,6 +1,10 @@
 -- Calls and members as the small form has them.
-use Rattle.std.proofs.Common.{◌≡◌, ℕ, Bool, IsTrue, List, [], ◌∷◌, Option, codes, refl, ap, ◌∙◌}
+use Rattle.std.proofs.Common.{rules, ◌≡◌, ℕ, Bool, IsTrue, List, [], ◌∷◌, Option, codes, refl, sym, ap, ◌∙◌}
 use Rattle.slicc_ast.specs.declared.tree.expression.Expr.{Expr}
+use Rattle.slicc_ast.specs.declared.tree.expression.Expr.TheViews as views
+use Rattle.slicc_ast.specs.declared.tree.expression.Expr.TheViews.{the_lemmas}
+use Rattle.slicc_ast.specs.declared.tree.span.Span.{Span}
+use Rattle.slicc_ast.proofs.Boxes.{Postfix_is}
 use Rattle.slicc_ast.specs.declared.tree.expression.Suffix.{Suffix}
 use Rattle.slicc_ast.specs.declared.tree.token.Sign.TheVariants.{OpenParenthesis, CloseParenthesis, Dot}
 use Rattle.slicc_ast.specs.Expressions.{args_list, expr, suffix, suffix_list}
@@ -10,6 +14,7 @@ use Rattle.small_form.specs.Found.{IsFound}
 use Rattle.small_form.specs.Outlines.{IsUnsuffixed}
 use Rattle.small_form.specs.Shapes.{named, name, call, clock_edge, asking, with_suffix}
 use Rattle.small_form.proofs.Finding.{within}
+use Rattle.small_form.proofs.Rows.{suffixes_of_row}
 
 -- `clockEdge()` has no argument
 pub clock_edge_if : (shape : Outline) (function : List ℕ) (arguments : List Expr) (empty : Bool) → shape ≡ call function (shape_in (args_list arguments)) → function ≡ codes "clockEdge" → (IsTrue empty → arguments ≡ []) × (arguments ≡ [] → IsTrue empty) → (IsTrue empty → shape ≡ clock_edge) × (shape ≡ clock_edge → IsTrue empty)
@@ -35,6 +40,17 @@ asking_if shape called wanted arguments clocked is same test =
 -- a value with suffixes, of which a variable with one suffix is one
 abbrev pub postfix : Outline → List Suffix → Outline
 postfix value suffixes = node no_span (part value (shape_in (suffix_list suffixes)))
+
+-- a program's expression with suffixes
+pub postfix_shape : (e : Expr) (suffixes : List Suffix) (span : Span) → shape_of (expr (views.Postfix e suffixes span)) ≡ postfix (shape_of (expr e)) suffixes
+postfix_shape e suffixes span = ap (λ x. shape_of (expr x)) (Postfix_is e suffixes span) ∙ search (rules, the_lemmas, suffixes_of_row)
+
+-- whose expression is no name
+pub no_name : (whole value : Outline) (suffixes : List Suffix) → whole ≡ postfix value suffixes → ((text : List ℕ) → value ≡ name text → ⊥) → IsUnsuffixed whole
+no_name whole value suffixes is other variable suffix same =
+    let both : postfix value suffixes ≡ with_suffix variable suffix = sym is ∙ same in
+    let first : value ≡ name variable = cc both in
+    other variable first
 
 pub one_suffix : (whole value : Outline) (text : List ℕ) (s : Suffix) (suffixes : List Suffix) → whole ≡ postfix value suffixes → suffixes ≡ s ∷ [] → value ≡ name text → whole ≡ with_suffix text (shape_of (suffix s))
 one_suffix whole value text s suffixes is alone called =

@@ -124,11 +124,11 @@ states_view called attributes members =
     node no_span (word StateDeclaration (sign OpenParenthesis (named called (pairs attributes
     (sign CloseParenthesis (sign OpenBrace members))))))
 
-pub states_is : (d : Decl) (s : StatesTree) → d ≡ StatesDecl s → shape_of (decl d) ≡ states_view s.name.text (outlines s.pairs) (shape_in (state_parts s.members.items closed))
+pub states_is : (d : Decl) (s : StatesTree) → d ≡ StatesDecl s → shape_of (decl d) ≡ states_view s.name.text (outlines s.pairs) (shape_in (state_parts s.members closed))
 states_is d s is =
     ap (λ x. shape_of (decl x)) is
-    ∙ ap (λ parts. node no_span (word StateDeclaration (sign OpenParenthesis (named s.name.text (part (node no_span parts) (sign CloseParenthesis (sign OpenBrace (shape_in (state_parts s.members.items closed)))))))))
-    (pairs_shape s.pairs.items.items)
+    ∙ ap (λ parts. node no_span (word StateDeclaration (sign OpenParenthesis (named s.name.text (part (node no_span parts) (sign CloseParenthesis (sign OpenBrace (shape_in (state_parts s.members closed)))))))))
+    (pairs_shape s.pairs.items)
 
 pub record IsStates (called : List ℕ) (attributes : List Outline) (members : Parts) (s : States) : Type 0 where
   pub called_is : called ≡ codes "State"
@@ -160,11 +160,11 @@ events_view called attributes members =
     node no_span (word EnumerationWord (sign OpenParenthesis (named called (pairs attributes
     (sign CloseParenthesis (sign OpenBrace members))))))
 
-pub events_is : (d : Decl) (e : Enumeration) → d ≡ EnumerationDecl e → shape_of (decl d) ≡ events_view e.name.text (outlines e.pairs) (shape_in (symbol_list e.members.items closed))
+pub events_is : (d : Decl) (e : Enumeration) → d ≡ EnumerationDecl e → shape_of (decl d) ≡ events_view e.name.text (outlines e.pairs) (shape_in (symbol_list e.members closed))
 events_is d e is =
     ap (λ x. shape_of (decl x)) is
-    ∙ ap (λ parts. node no_span (word EnumerationWord (sign OpenParenthesis (named e.name.text (part (node no_span parts) (sign CloseParenthesis (sign OpenBrace (shape_in (symbol_list e.members.items closed)))))))))
-    (pairs_shape e.pairs.items.items)
+    ∙ ap (λ parts. node no_span (word EnumerationWord (sign OpenParenthesis (named e.name.text (part (node no_span parts) (sign CloseParenthesis (sign OpenBrace (shape_in (symbol_list e.members closed)))))))))
+    (pairs_shape e.pairs.items)
 
 pub record AreEvents (called : List ℕ) (attributes : List Outline) (members : Parts) (e : Events) : Type 0 where
   pub called_is : called ≡ codes "Event"
@@ -192,8 +192,8 @@ the_events whole called text attributes members e is a b found d =
     same_events e t (d ∙ (cc)) (cc))
 
 -- ports
-pub port_attributes : (d : Decl) (p : InPortTree) (q : InPort) → d ≡ InPortDecl p → shape_of (decl d) ≡ in_port q → (p.pairs.items.items ≡ []) × (shape_of (block_outline p.body) ≡ block (conditional q.body))
-port_attributes d p q is same = of_pairs p.pairs.items.items _ _ _ _ q (sym (ap (λ x. shape_of (decl x)) is) ∙ same)
+pub port_attributes : (d : Decl) (p : InPortTree) (q : InPort) → d ≡ InPortDecl p → shape_of (decl d) ≡ in_port q → (p.pairs.items ≡ []) × (shape_of (block_outline p.body) ≡ block (conditional q.body))
+port_attributes d p q is same = of_pairs p.pairs.items _ _ _ _ q (sym (ap (λ x. shape_of (decl x)) is) ∙ same)
   where
     of_pairs : (ps : List Pair) (called message buffer : List ℕ) (body : Outline) (q : InPort) → node no_span (word InPortWord (sign OpenParenthesis (named called (sign Comma (named message (sign Comma (named buffer (part (node no_span (shape_in (pair_parts ps))) (sign CloseParenthesis (part body none)))))))))) ≡ in_port q → (ps ≡ []) × (body ≡ block (conditional q.body))
     of_pairs [] called message buffer body q same = (refl, cc)
@@ -208,7 +208,7 @@ pub action_is : (d : Decl) (a : ActionTree) → d ≡ ActionDecl a → shape_of 
 action_is d a is =
     ap (λ x. shape_of (decl x)) is
     ∙ ap (λ parts. node no_span (word ActionWord (sign OpenParenthesis (named a.name.text (part (node no_span parts) (sign CloseParenthesis (part (shape_of (block_outline a.body)) none)))))))
-    (pairs_shape a.pairs.items.items)
+    (pairs_shape a.pairs.items)
 
 pub record IsAction (called : List ℕ) (attributes : List Outline) (body : Outline) (a : Action) : Type 0 where
   pub called_is : called ≡ a.name
@@ -235,8 +235,8 @@ an_action whole called short text port attributes body a is b found d e f g =
     same_action a t (d ∙ there.called_is) (e ∙ (cc)) (f ∙ (cc)) (g ∙ (cc)))
 
 -- the parameter
-pub queue_attributes : (p : Parameter) → shape_of (parameter p) ≡ queue → p.pairs.items.items ≡ []
-queue_attributes p same = of_parts p.kind p.has_star p.name p.literal p.pairs.items.items p.pairs.span p.span same
+pub queue_attributes : (p : Parameter) → shape_of (parameter p) ≡ queue → p.pairs.items ≡ []
+queue_attributes p same = of_parts p.kind p.has_star p.name p.literal p.pairs.items p.pairs.span p.span same
   where
     of_parts : (kind : TypeName) (starred : Bool) (called : Name) (literal : Option Literal) (ps : List Pair) (inner outer : Span) → shape_of (node outer (type_name kind (star starred (name called (literal_parts literal (part (node inner (pair_parts ps)) (sign Semicolon none))))))) ≡ queue → ps ≡ []
     of_parts kind true called None [] inner outer same = refl

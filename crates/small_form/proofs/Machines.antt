@@ -98,8 +98,8 @@ parts_of_machine true called title inner [] (p ∷ []) ds outer m same =
     let e : shape_of (parameter p) ≡ queue = cc in
     record { typed_is = refl; called_is = cc; title_is = cc; no_attributes = refl; parameters_are = cc; content_is = cc }
 
-pub machine_parts : (t : MachineTree) (m : Machine) → shape_of (machine_tree t) ≡ machine m → IsMachine t.has_type t.name.text t.title t.pairs.items.items t.parameters.items (shape_in (decl_list t.declarations.items closed)) m
-machine_parts t m same = parts_of_machine t.has_type t.name t.title t.pairs.span t.pairs.items.items t.parameters.items t.declarations.items t.span m same
+pub machine_parts : (t : MachineTree) (m : Machine) → shape_of (machine_tree t) ≡ machine m → IsMachine t.has_type t.name.text t.title t.pairs.items t.parameters (shape_in (decl_list t.declarations closed)) m
+machine_parts t m same = parts_of_machine t.has_type t.name t.title t.pairs.span t.pairs.items t.parameters t.declarations t.span m same
 
 machine_of_parts : (typed : Bool) (called : Name) (title : List ℕ) (inner : Span) (ps : List Pair) (parameters : List Parameter) (ds : List Decl) (outer : Span) (m : Machine) → IsMachine typed called.text title ps parameters (shape_in (decl_list ds closed)) m → shape_of (machine_view typed called title inner ps parameters ds outer) ≡ machine m
 machine_of_parts false called title inner ps parameters ds outer m is = absurd (let e : false ≡ true = is.typed_is in cc)
@@ -116,17 +116,17 @@ pub same_machine : (m n : Machine) → m.name ≡ n.name → m.title ≡ n.title
 same_machine m n called title s e p a t =
     λ i. record { name = called i; title = title i; states = s i; events = e i; port = p i; action = a i; transitions = t i }
 
-pub a_machine : (t : MachineTree) (c : Content) (m : Machine) → t.has_type ≡ true → t.pairs.items.items ≡ [] → shape_in (parameter_list t.parameters.items none) ≡ part queue none → m.name ≡ t.name.text → m.title ≡ t.title → m.states ≡ c.states → m.events ≡ c.events → m.port ≡ c.port → m.action ≡ c.action → m.transitions ≡ c.transitions → IsFound (shape_in (decl_list t.declarations.items closed)) content_shape (Some c) → IsFound (shape_of (machine_tree t)) machine (Some m)
+pub a_machine : (t : MachineTree) (c : Content) (m : Machine) → t.has_type ≡ true → t.pairs.items ≡ [] → shape_in (parameter_list t.parameters none) ≡ part queue none → m.name ≡ t.name.text → m.title ≡ t.title → m.states ≡ c.states → m.events ≡ c.events → m.port ≡ c.port → m.action ≡ c.action → m.transitions ≡ c.transitions → IsFound (shape_in (decl_list t.declarations closed)) content_shape (Some c) → IsFound (shape_of (machine_tree t)) machine (Some m)
 a_machine t c m typed bare parameters called title s e p a ts found =
     is_found _ machine m
-    (machine_of_parts t.has_type t.name t.title t.pairs.span t.pairs.items.items t.parameters.items t.declarations.items t.span m
+    (machine_of_parts t.has_type t.name t.title t.pairs.span t.pairs.items t.parameters t.declarations t.span m
     (record {
       typed_is = typed;
       called_is = sym called;
       title_is = sym title;
       no_attributes = bare;
       parameters_are = parameters;
-      content_is = let f : shape_in (decl_list t.declarations.items closed) ≡ content_shape c = found.sound in cc;
+      content_is = let f : shape_in (decl_list t.declarations closed) ≡ content_shape c = found.sound in cc;
     }))
     (λ n same.
     let there = machine_parts t n same in

@@ -19,7 +19,7 @@ use Rattle.small_form.specs.Shapes.{declarations, with_suffix}
 
 -- attributes
 abbrev pub outlines : Pairs → List Outline
-outlines ps = map (λ (p : Pair). shape_of (pair p)) ps.items.items
+outlines ps = map (λ (p : Pair). shape_of (pair p)) ps.items
 
 -- a statement, where there is one
 abbrev pub statement_shape : Option Stmt → Option Outline
@@ -41,7 +41,7 @@ otherwise_parts (Some b) = word Else (part (block_outline b) none)
 
 -- what stands behind the first block of a conditional
 abbrev pub else_parts : If → Parts
-else_parts i = else_if_list (out-If i).others.items (otherwise_parts (out-If i).otherwise)
+else_parts i = else_if_list (out-If i).others (otherwise_parts (out-If i).otherwise)
 
 -- the declarations of a machine of the small form
 abbrev pub content_shape : Content → Parts

@@ -38,7 +38,7 @@ fn is_clock_edge(e: &Expr) -> bool
 /// Whether `clockEdge()` is the one argument.
 fn are_clock_edge(arguments: &Args) -> bool
     ensures { IsTrue result
-        ↔ (shape_in (args_list arguments.now.items.items) ≡ part clock_edge none) }
+        ↔ (shape_in (args_list arguments.now.items) ≡ part clock_edge none) }
 {
     match only_item(arguments.items.as_slice()) {
         Some(argument) => is_clock_edge(argument),
@@ -62,7 +62,7 @@ fn only_suffix(e: &Expr) -> Option<(&Text, &Suffix)>
     let Some(suffix) = only_item(suffixes.as_slice()) else {
         return None;
     };
-    match variable(value) {
+    match variable(value.get()) {
         Some(text) => Some((text, suffix)),
         None => None,
     }

@@ -27,19 +27,19 @@ judged_others env n (more_of-ElseIf condition shape inner block more) =
 
 abbrev pub else_judged : Environment → Option Block → List Broken
 else_judged env None = []
-else_judged env (Some b) = statements_judged env b.statements.items
+else_judged env (Some b) = statements_judged env b.statements
 
-pub judged_if : (env : Environment) (i : If) → if_judged env i ≡ ((broken_where env (of_built_in Boolean) (out-If i).condition ++ statements_judged env (out-If i).then.statements.items) ++ flat_map (else_if_judged env) (out-If i).others.items) ++ else_judged env (out-If i).otherwise
+pub judged_if : (env : Environment) (i : If) → if_judged env i ≡ ((broken_where env (of_built_in Boolean) (out-If i).condition ++ statements_judged env (out-If i).then.statements) ++ flat_map (else_if_judged env) (out-If i).others) ++ else_judged env (out-If i).otherwise
 judged_if env (If' condition shape row block n others None' span) =
     let i : If = If' condition shape row block n others None' span in
     let held = judged_row env _ row in
     let more = judged_others env _ others in
     let one : (out-If i).condition ≡ condition = search (rules, the_lemmas) in
-    let two : statements_judged env (out-If i).then.statements.items ≡ row_judged env row = search (rules, the_lemmas, held) in
-    let three : flat_map (else_if_judged env) (out-If i).others.items ≡ others_judged env others = search (rules, the_lemmas, more) in
+    let two : statements_judged env (out-If i).then.statements ≡ row_judged env row = search (rules, the_lemmas, held) in
+    let three : flat_map (else_if_judged env) (out-If i).others ≡ others_judged env others = search (rules, the_lemmas, more) in
     let four : else_judged env (out-If i).otherwise ≡ [] = search (rules, the_lemmas) in
-    sym (ap (λ e. ((broken_where env (of_built_in Boolean) e ++ statements_judged env (out-If i).then.statements.items) ++ flat_map (else_if_judged env) (out-If i).others.items) ++ else_judged env (out-If i).otherwise) one
-    ∙ ap (λ bs. ((broken_where env (of_built_in Boolean) condition ++ bs) ++ flat_map (else_if_judged env) (out-If i).others.items) ++ else_judged env (out-If i).otherwise) two
+    sym (ap (λ e. ((broken_where env (of_built_in Boolean) e ++ statements_judged env (out-If i).then.statements) ++ flat_map (else_if_judged env) (out-If i).others) ++ else_judged env (out-If i).otherwise) one
+    ∙ ap (λ bs. ((broken_where env (of_built_in Boolean) condition ++ bs) ++ flat_map (else_if_judged env) (out-If i).others) ++ else_judged env (out-If i).otherwise) two
     ∙ ap (λ bs. ((broken_where env (of_built_in Boolean) condition ++ row_judged env row) ++ bs) ++ else_judged env (out-If i).otherwise) three
     ∙ ap (λ bs. ((broken_where env (of_built_in Boolean) condition ++ row_judged env row) ++ others_judged env others) ++ bs) four)
 judged_if env (If' condition shape row block n others (Some' s r b) span) =
@@ -48,11 +48,11 @@ judged_if env (If' condition shape row block n others (Some' s r b) span) =
     let more = judged_others env _ others in
     let last = judged_row env _ r in
     let one : (out-If i).condition ≡ condition = search (rules, the_lemmas) in
-    let two : statements_judged env (out-If i).then.statements.items ≡ row_judged env row = search (rules, the_lemmas, held) in
-    let three : flat_map (else_if_judged env) (out-If i).others.items ≡ others_judged env others = search (rules, the_lemmas, more) in
+    let two : statements_judged env (out-If i).then.statements ≡ row_judged env row = search (rules, the_lemmas, held) in
+    let three : flat_map (else_if_judged env) (out-If i).others ≡ others_judged env others = search (rules, the_lemmas, more) in
     let four : else_judged env (out-If i).otherwise ≡ row_judged env r = search (rules, the_lemmas, last) in
-    sym (ap (λ e. ((broken_where env (of_built_in Boolean) e ++ statements_judged env (out-If i).then.statements.items) ++ flat_map (else_if_judged env) (out-If i).others.items) ++ else_judged env (out-If i).otherwise) one
-    ∙ ap (λ bs. ((broken_where env (of_built_in Boolean) condition ++ bs) ++ flat_map (else_if_judged env) (out-If i).others.items) ++ else_judged env (out-If i).otherwise) two
+    sym (ap (λ e. ((broken_where env (of_built_in Boolean) e ++ statements_judged env (out-If i).then.statements) ++ flat_map (else_if_judged env) (out-If i).others) ++ else_judged env (out-If i).otherwise) one
+    ∙ ap (λ bs. ((broken_where env (of_built_in Boolean) condition ++ bs) ++ flat_map (else_if_judged env) (out-If i).others) ++ else_judged env (out-If i).otherwise) two
     ∙ ap (λ bs. ((broken_where env (of_built_in Boolean) condition ++ row_judged env row) ++ bs) ++ else_judged env (out-If i).otherwise) three
     ∙ ap (λ bs. ((broken_where env (of_built_in Boolean) condition ++ row_judged env row) ++ others_judged env others) ++ bs) four)
 
@@ -61,7 +61,7 @@ pub ruleset rules_of_rows = (judged_row, judged_others, judged_if)
 -- The first in an `if`, where those of its arms are known.
 
 abbrev arms : Environment → If → Option Block → List Broken
-arms env i o = ((broken_where env (of_built_in Boolean) (out-If i).condition ++ statements_judged env (out-If i).then.statements.items) ++ flat_map (else_if_judged env) (out-If i).others.items) ++ else_judged env o
+arms env i o = ((broken_where env (of_built_in Boolean) (out-If i).condition ++ statements_judged env (out-If i).then.statements) ++ flat_map (else_if_judged env) (out-If i).others) ++ else_judged env o
 
 first_of_four : (xs ys zs ws : List Broken) (p q r s : Option Broken) → p ≡ first_of xs → q ≡ first_of ys → r ≡ first_of zs → s ≡ first_of ws → earlier_of_both (earlier_of_both (earlier_of_both p q) r) s ≡ first_of (((xs ++ ys) ++ zs) ++ ws)
 first_of_four xs ys zs ws p q r s a b c d =
@@ -73,12 +73,12 @@ first_of_four xs ys zs ws p q r s a b c d =
     ∙ ap (earlier_of_both (first_of ((xs ++ ys) ++ zs))) d
     ∙ sym (first_of-append ((xs ++ ys) ++ zs) ws)
 
-pub if_some : (env : Environment) (i : If) (b : Block) (condition held others otherwise : Option Broken) → (out-If i).otherwise ≡ Some b → condition ≡ first_of (broken_where env (of_built_in Boolean) (out-If i).condition) → held ≡ first_of (statements_judged env (out-If i).then.statements.items) → others ≡ first_of (flat_map (else_if_judged env) (out-If i).others.items) → otherwise ≡ first_of (statements_judged env b.statements.items) → earlier_of_both (earlier_of_both (earlier_of_both condition held) others) otherwise ≡ first_of (if_judged env i)
+pub if_some : (env : Environment) (i : If) (b : Block) (condition held others otherwise : Option Broken) → (out-If i).otherwise ≡ Some b → condition ≡ first_of (broken_where env (of_built_in Boolean) (out-If i).condition) → held ≡ first_of (statements_judged env (out-If i).then.statements) → others ≡ first_of (flat_map (else_if_judged env) (out-If i).others) → otherwise ≡ first_of (statements_judged env b.statements) → earlier_of_both (earlier_of_both (earlier_of_both condition held) others) otherwise ≡ first_of (if_judged env i)
 if_some env i b condition held others otherwise is one two more last =
-    first_of_four (broken_where env (of_built_in Boolean) (out-If i).condition) (statements_judged env (out-If i).then.statements.items) (flat_map (else_if_judged env) (out-If i).others.items) (statements_judged env b.statements.items) condition held others otherwise one two more last
+    first_of_four (broken_where env (of_built_in Boolean) (out-If i).condition) (statements_judged env (out-If i).then.statements) (flat_map (else_if_judged env) (out-If i).others) (statements_judged env b.statements) condition held others otherwise one two more last
     ∙ ap (λ o. first_of (arms env i o)) (sym is) ∙ ap first_of (sym (judged_if env i))
 
-pub if_none : (env : Environment) (i : If) (condition held others : Option Broken) → (out-If i).otherwise ≡ None → condition ≡ first_of (broken_where env (of_built_in Boolean) (out-If i).condition) → held ≡ first_of (statements_judged env (out-If i).then.statements.items) → others ≡ first_of (flat_map (else_if_judged env) (out-If i).others.items) → earlier_of_both (earlier_of_both condition held) others ≡ first_of (if_judged env i)
+pub if_none : (env : Environment) (i : If) (condition held others : Option Broken) → (out-If i).otherwise ≡ None → condition ≡ first_of (broken_where env (of_built_in Boolean) (out-If i).condition) → held ≡ first_of (statements_judged env (out-If i).then.statements) → others ≡ first_of (flat_map (else_if_judged env) (out-If i).others) → earlier_of_both (earlier_of_both condition held) others ≡ first_of (if_judged env i)
 if_none env i condition held others is one two more =
-    first_of_four (broken_where env (of_built_in Boolean) (out-If i).condition) (statements_judged env (out-If i).then.statements.items) (flat_map (else_if_judged env) (out-If i).others.items) [] condition held others None one two more refl
+    first_of_four (broken_where env (of_built_in Boolean) (out-If i).condition) (statements_judged env (out-If i).then.statements) (flat_map (else_if_judged env) (out-If i).others) [] condition held others None one two more refl
     ∙ ap (λ o. first_of (arms env i o)) (sym is) ∙ ap first_of (sym (judged_if env i))

@@ -35,11 +35,11 @@ statements_item env later ss i d first next all below is one bound kept =
 
 -- `else if`.
 
-pub others_kept : (env : Environment) (es : List ElseIf) (i : ℕ) (d : ElseIf) (first condition next : Option Broken) → i < length es → condition ≡ first_of (broken_where env (of_built_in Boolean) (get_or es i d).condition) → next ≡ first_of (statements_judged env (get_or es i d).then.statements.items) → first ≡ first_of (flat_map (else_if_judged env) (take i es)) → earlier_of_both (earlier_of_both first condition) next ≡ first_of (flat_map (else_if_judged env) (take (i + 1) es))
+pub others_kept : (env : Environment) (es : List ElseIf) (i : ℕ) (d : ElseIf) (first condition next : Option Broken) → i < length es → condition ≡ first_of (broken_where env (of_built_in Boolean) (get_or es i d).condition) → next ≡ first_of (statements_judged env (get_or es i d).then.statements) → first ≡ first_of (flat_map (else_if_judged env) (take i es)) → earlier_of_both (earlier_of_both first condition) next ≡ first_of (flat_map (else_if_judged env) (take (i + 1) es))
 others_kept env es i d first condition next below one two kept =
     let e = get_or es i d in
     let own = broken_where env (of_built_in Boolean) e.condition in
-    let held = statements_judged env e.then.statements.items in
+    let held = statements_judged env e.then.statements in
     let here : earlier_of_both condition next ≡ first_of (else_if_judged env e) =
     ap (λ o. earlier_of_both o next) one ∙ ap (earlier_of_both (first_of own)) two ∙ sym (first_of-append own held) in
     both-assoc_all first condition next ∙ ap (earlier_of_both first) here
@@ -47,9 +47,9 @@ others_kept env es i d first condition next below one two kept =
     ∙ sym (first_after-first_of (first_of (flat_map (else_if_judged env) (take i es))) (else_if_judged env e))
     ∙ sym (first_after-flat_map (else_if_judged env) es i d None below)
 
-pub others_item : (env : Environment) (es : List ElseIf) (i : ℕ) (d : ElseIf) (first condition next : Option Broken) → i < length es → d ≡ get_or es i d → condition ≡ first_of (broken_where env (of_built_in Boolean) d.condition) → next ≡ first_of (statements_judged env d.then.statements.items) → first ≡ first_of (flat_map (else_if_judged env) (take i es)) → earlier_of_both (earlier_of_both first condition) next ≡ first_of (flat_map (else_if_judged env) (take (i + 1) es))
+pub others_item : (env : Environment) (es : List ElseIf) (i : ℕ) (d : ElseIf) (first condition next : Option Broken) → i < length es → d ≡ get_or es i d → condition ≡ first_of (broken_where env (of_built_in Boolean) d.condition) → next ≡ first_of (statements_judged env d.then.statements) → first ≡ first_of (flat_map (else_if_judged env) (take i es)) → earlier_of_both (earlier_of_both first condition) next ≡ first_of (flat_map (else_if_judged env) (take (i + 1) es))
 others_item env es i d first condition next below is one two kept =
-    others_kept env es i d first condition next below (one ∙ ap (λ (e : ElseIf). first_of (broken_where env (of_built_in Boolean) e.condition)) is) (two ∙ ap (λ (e : ElseIf). first_of (statements_judged env e.then.statements.items)) is) kept
+    others_kept env es i d first condition next below (one ∙ ap (λ (e : ElseIf). first_of (broken_where env (of_built_in Boolean) e.condition)) is) (two ∙ ap (λ (e : ElseIf). first_of (statements_judged env e.then.statements)) is) kept
 
 -- Names that are bound.
 

@@ -10,4 +10,4 @@ use Rattle.slicc_plan.specs.Meanings.{of_built_in}
 
 abbrev pub else_if_judged : Environment → ElseIf → List Broken
 else_if_judged env e =
-    broken_where env (of_built_in Boolean) e.condition ++ statements_judged env e.then.statements.items
+    broken_where env (of_built_in Boolean) e.condition ++ statements_judged env e.then.statements

@@ -50,7 +50,7 @@ fn arm_judged<'a>(
     arm: &'a Block,
 ) -> Result<Option<Broken>, NoMemory>
     requires { IsEnvironment env }
-    ensures first { IfOk result (λ first. first ≡ first_of (statements_judged_of (at env.entry bound.old.items) arm.entry.now.statements.items)) }
+    ensures first { IfOk result (λ first. first ≡ first_of (statements_judged_of (at env.entry bound.old.items) arm.entry.now.statements)) }
     ensures kept { OnOk result (bound.new.items ≡ bound.old.items) }
 {
     statements_judged(alloc, env, bound, &arm.statements)
@@ -68,7 +68,7 @@ fn block_judged<'a>(
     block: &'a Block,
 ) -> Result<Option<Broken>, NoMemory>
     requires { IsEnvironment env }
-    ensures first { IfOk result (λ first. first ≡ first_of (statements_judged_of (binding (at env.entry bound.old.items) (fixed name.entry.now (meaning_of meaning.entry))) block.entry.now.statements.items)) }
+    ensures first { IfOk result (λ first. first ≡ first_of (statements_judged_of (binding (at env.entry bound.old.items) (fixed name.entry.now (meaning_of meaning.entry))) block.entry.now.statements)) }
     ensures kept { OnOk result (bound.new.items ≡ bound.old.items) }
 {
     bound.push(Bound {

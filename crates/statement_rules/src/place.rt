@@ -4,6 +4,7 @@ ghost use Rattle.slicc_plan.specs.ExpressionTypes.{span_of as span_in};
 use slicc_ast::tree::{Expr, Span};
 
 /// Where an expression is.
+#[tactic(auto, using(expression_types::proofs::Boxes::span_of_boxes))]
 pub fn span_of(e: &Expr) -> Span
     ensures { result ≡ span_in e.now }
 {
@@ -11,8 +12,8 @@ pub fn span_of(e: &Expr) -> Span
         Expr::Operation { span, .. }
         | Expr::Postfix { span, .. }
         | Expr::Call { span, .. }
-        | Expr::Cast { span, .. }
         | Expr::Member { span, .. } => *span,
+        Expr::Cast { span, .. } => *span,
         Expr::Not(_, span)
         | Expr::Negate(_, span)
         | Expr::Number(_, span)

@@ -27,7 +27,7 @@ pub transition_same : (own : MachineNames) (m : Machine) → AreNumbersOf (state
 transition_same own m states events actions t = λ i.
     missing_same (found_by own.states) (state_members m) states (names_in t.states ++ listed_name t.next) i
     ++ missing_same (found_by own.events) (event_members m) events (names_in t.events) i
-    ++ missing_same (found_by own.actions) (actions_of m) actions t.actions.items i
+    ++ missing_same (found_by own.actions) (actions_of m) actions t.actions i
 
 pub transitions_same : (own : MachineNames) (m : Machine) → AreNumbersOf (state_members m) own.states → AreNumbersOf (event_members m) own.events → AreNumbersOf (actions_of m) own.actions → flat_map (missing_with own) (transitions_of m) ≡ flat_map (missing_in m) (transitions_of m)
 transitions_same own m states events actions =

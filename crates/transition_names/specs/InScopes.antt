@@ -11,7 +11,7 @@ abbrev pub wrong_state_of : List Tree → Scope → State → List Broken
 wrong_state_of trees scope s = wrong_permission s (type_in trees scope s.owner.text)
 
 abbrev pub wrong_states : List Tree → Scope → Declaration → List Broken
-wrong_states trees scope (states d) = flat_map (wrong_state_of trees scope) d.members.items
+wrong_states trees scope (states d) = flat_map (wrong_state_of trees scope) d.members
 wrong_states trees scope _ = []
 
 -- those of the machine of a scope

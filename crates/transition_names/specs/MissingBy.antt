@@ -15,4 +15,4 @@ abbrev pub missing_with : MachineNames → Transition → List Broken
 missing_with own t =
     flat_map (missing_by (found_by own.states)) (names_in t.states ++ listed_name t.next)
     ++ flat_map (missing_by (found_by own.events)) (names_in t.events)
-    ++ flat_map (missing_by (found_by own.actions)) t.actions.items
+    ++ flat_map (missing_by (found_by own.actions)) t.actions

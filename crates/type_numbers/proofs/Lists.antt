@@ -36,16 +36,16 @@ map_flat_map : {X Y Z : Type 0} (g : Y → Z) (f : X → List Y) (xs : List X) �
 map_flat_map g f [] = refl
 map_flat_map g f (x ∷ xs) = map-append g (f x) (flat_map f xs) ∙ ap (λ ys. map g (f x) ++ ys) (map_flat_map g f xs)
 
-its_own : (sort : TypeSort) (m : Machine) → filter (has_sort sort) (map (made_in (within m)) (map parameter m.parameters.items ++ flat_map named_declarations m.declarations.items)) ≡ flat_map (λ d. filter (has_sort sort) (map (made_in (within m)) (named_declarations d))) m.declarations.items
+its_own : (sort : TypeSort) (m : Machine) → filter (has_sort sort) (map (made_in (within m)) (map parameter m.parameters ++ flat_map named_declarations m.declarations)) ≡ flat_map (λ d. filter (has_sort sort) (map (made_in (within m)) (named_declarations d))) m.declarations
 its_own sort m =
-    ap (filter (has_sort sort)) (map-append (made_in (within m)) (map parameter m.parameters.items) (flat_map named_declarations m.declarations.items))
-    ∙ filter-append (has_sort sort) (map (made_in (within m)) (map parameter m.parameters.items)) (map (made_in (within m)) (flat_map named_declarations m.declarations.items))
-    ∙ ap (λ ys. ys ++ filter (has_sort sort) (map (made_in (within m)) (flat_map named_declarations m.declarations.items))) (no_parameter sort m m.parameters.items)
-    ∙ ap (filter (has_sort sort)) (map_flat_map (made_in (within m)) named_declarations m.declarations.items)
-    ∙ filter_flat_map (has_sort sort) (λ d. map (made_in (within m)) (named_declarations d)) m.declarations.items
+    ap (filter (has_sort sort)) (map-append (made_in (within m)) (map parameter m.parameters) (flat_map named_declarations m.declarations))
+    ∙ filter-append (has_sort sort) (map (made_in (within m)) (map parameter m.parameters)) (map (made_in (within m)) (flat_map named_declarations m.declarations))
+    ∙ ap (λ ys. ys ++ filter (has_sort sort) (map (made_in (within m)) (flat_map named_declarations m.declarations))) (no_parameter sort m m.parameters)
+    ∙ ap (filter (has_sort sort)) (map_flat_map (made_in (within m)) named_declarations m.declarations)
+    ∙ filter_flat_map (has_sort sort) (λ d. map (made_in (within m)) (named_declarations d)) m.declarations
 
 -- of what a machine declares only its declarations behind the parameters may be types
-pub machine_types : (sort : TypeSort) (m : Machine) → filter (has_sort sort) (made_with_its_own (machine m)) ≡ flat_map (λ d. filter (has_sort sort) (map (made_in (within m)) (named_declarations d))) m.declarations.items
+pub machine_types : (sort : TypeSort) (m : Machine) → filter (has_sort sort) (made_with_its_own (machine m)) ≡ flat_map (λ d. filter (has_sort sort) (map (made_in (within m)) (named_declarations d))) m.declarations
 machine_types Enumeration m = its_own Enumeration m
 machine_types Structure m = its_own Structure m
 

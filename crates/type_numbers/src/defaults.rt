@@ -26,7 +26,7 @@ pub fn kept_or(place: Option<usize>, other: u16) -> Result<u16, NoMemory>
 }
 
 fn enumeration_default(scope: Scope<'_>, e: &Enumeration) -> Result<u16, NoMemory>
-    ensures { IfOk result (λ number. number ≡ default_number (scope_of scope.entry) e.now.name.text (map (λ (s : SymbolRecord). s.name.text) e.now.members.items) (first_attribute (codes "default") e.now.pairs)) }
+    ensures { IfOk result (λ number. number ≡ default_number (scope_of scope.entry) e.now.name.text (map (λ (s : SymbolRecord). s.name.text) e.now.members) (first_attribute (codes "default") e.now.pairs)) }
 {
     match first_attribute(&e.pairs, b"default") {
         None => Ok(0),
@@ -35,7 +35,7 @@ fn enumeration_default(scope: Scope<'_>, e: &Enumeration) -> Result<u16, NoMemor
 }
 
 fn states_default(scope: Scope<'_>, s: &States) -> Result<u16, NoMemory>
-    ensures { IfOk result (λ number. number ≡ default_number (scope_of scope.entry) s.now.name.text (map (λ (s : StateRecord). s.name.text) s.now.members.items) (first_attribute (codes "default") s.now.pairs)) }
+    ensures { IfOk result (λ number. number ≡ default_number (scope_of scope.entry) s.now.name.text (map (λ (s : StateRecord). s.name.text) s.now.members) (first_attribute (codes "default") s.now.pairs)) }
 {
     match first_attribute(&s.pairs, b"default") {
         None => Ok(0),

@@ -20,27 +20,37 @@ use slicc_ast::tree::{Enumeration, Machine, PairValue, States};
 use slicc_plan::BuiltInType;
 
 fn symbol_place(scope: Scope<'_>, e: &Enumeration, value: &PairValue) -> Option<usize>
-    ensures { result ≡ position (λ (s : SymbolRecord). is_default_of (scope_of scope.entry) e.now.name.text value.now s.name.text) e.now.members.items }
+    ensures { result ≡ position (λ (s : SymbolRecord). is_default_of (scope_of scope.entry) e.now.name.text value.now s.name.text) e.now.members }
 {
-    e.members.iter().position(|s| is_default_of(scope, &e.name.text, value, &s.name.text))
+    e.members.as_slice().iter().position(|s| is_default_of(
+        scope,
+        &e.name.text,
+        value,
+        &s.name.text,
+    ))
 }
 
 /// The number of the symbol that a value names, of an enumeration in a scope.
 pub fn symbol_number(scope: Scope<'_>, e: &Enumeration, value: &PairValue) -> Option<usize>
-    ensures { result ≡ member_number (scope_of scope.entry) e.now.name.text (map (λ (s : SymbolRecord). s.name.text) e.now.members.items) value.now }
+    ensures { result ≡ member_number (scope_of scope.entry) e.now.name.text (map (λ (s : SymbolRecord). s.name.text) e.now.members) value.now }
 {
     symbol_place(scope, e, value)
 }
 
 fn state_place(scope: Scope<'_>, d: &States, value: &PairValue) -> Option<usize>
-    ensures { result ≡ position (λ (s : StateRecord). is_default_of (scope_of scope.entry) d.now.name.text value.now s.name.text) d.now.members.items }
+    ensures { result ≡ position (λ (s : StateRecord). is_default_of (scope_of scope.entry) d.now.name.text value.now s.name.text) d.now.members }
 {
-    d.members.iter().position(|s| is_default_of(scope, &d.name.text, value, &s.name.text))
+    d.members.as_slice().iter().position(|s| is_default_of(
+        scope,
+        &d.name.text,
+        value,
+        &s.name.text,
+    ))
 }
 
 /// The number of the state that a value names, of a state declaration in a scope.
 pub fn state_number(scope: Scope<'_>, d: &States, value: &PairValue) -> Option<usize>
-    ensures { result ≡ member_number (scope_of scope.entry) d.now.name.text (map (λ (s : StateRecord). s.name.text) d.now.members.items) value.now }
+    ensures { result ≡ member_number (scope_of scope.entry) d.now.name.text (map (λ (s : StateRecord). s.name.text) d.now.members) value.now }
 {
     state_place(scope, d, value)
 }

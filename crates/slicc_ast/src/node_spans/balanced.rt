@@ -8,10 +8,10 @@ use ruby_base::{NoMemory, Seq};
 /// Adds the spans of a balanced part and of those in it.
 #[cycle(balanced_spans)]
 pub fn add_balanced(spans: &mut Seq<Span>, b: &Balanced) -> Result<(), NoMemory>
-    ensures { OnOk result (spans.new ≡ spans.old ++ b.now.span ∷ spans_in (balanced_list b.now.parts.items)) }
+    ensures { OnOk result (spans.new ≡ spans.old ++ b.now.span ∷ spans_in (balanced_list b.now.parts)) }
 {
     spans.push(b.span)?;
-    for part in &b.parts {
+    for part in b.parts.as_slice() {
         add_part(spans, part)?;
     }
     Ok(())

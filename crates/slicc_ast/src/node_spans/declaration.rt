@@ -31,7 +31,7 @@ impl Spanned for Pair {
 
 /// Adds the spans of attributes.
 pub fn add_pairs(spans: &mut Seq<Span>, p: &Pairs) -> Result<(), NoMemory>
-    ensures { OnOk result (spans.new ≡ spans.old ++ p.now.span ∷ spans_in (pair_list p.now.items.items)) }
+    ensures { OnOk result (spans.new ≡ spans.old ++ p.now.span ∷ spans_in (pair_list p.now.items)) }
 {
     spans.push(p.span)?;
     add_each(&p.items, spans)
@@ -52,7 +52,7 @@ impl Spanned for Formal {
 
 /// Adds the spans of formals.
 pub fn add_formals(spans: &mut Seq<Span>, f: &Formals) -> Result<(), NoMemory>
-    ensures { OnOk result (spans.new ≡ spans.old ++ f.now.span ∷ spans_in (formal_list f.now.items.items)) }
+    ensures { OnOk result (spans.new ≡ spans.old ++ f.now.span ∷ spans_in (formal_list f.now.items)) }
 {
     spans.push(f.span)?;
     add_each(&f.items, spans)

@@ -10,6 +10,7 @@ use ruby_base::{NoMemory, Seq};
 
 /// Adds the spans of an expression.
 #[cycle(expression_spans)]
+#[tactic(auto, using(crate::proofs::SpansOfBoxes::spans_of_boxes))]
 pub fn add_expr(spans: &mut Seq<Span>, e: &Expr) -> Result<(), NoMemory>
     ensures { OnOk result (spans.new ≡ spans.old ++ spans_of (expr e.now)) }
 {
@@ -20,7 +21,7 @@ pub fn add_expr(spans: &mut Seq<Span>, e: &Expr) -> Result<(), NoMemory>
             span,
         } => {
             spans.push(*span)?;
-            add_expr(spans, first)?;
+            add_expr(spans, first.get())?;
             add_operands(spans, others)
         }
         Expr::Not(inner, span)
@@ -29,7 +30,7 @@ pub fn add_expr(spans: &mut Seq<Span>, e: &Expr) -> Result<(), NoMemory>
         | Expr::IsInvalid(inner, span)
         | Expr::Group(inner, span) => {
             spans.push(*span)?;
-            add_expr(spans, inner)
+            add_expr(spans, inner.get())
         }
         Expr::Postfix {
             value,
@@ -37,7 +38,7 @@ pub fn add_expr(spans: &mut Seq<Span>, e: &Expr) -> Result<(), NoMemory>
             span,
         } => {
             spans.push(*span)?;
-            add_expr(spans, value)?;
+            add_expr(spans, value.get())?;
             add_suffixes(spans, suffixes)
         }
         Expr::Number(_, span) | Expr::True(span) | Expr::False(span) | Expr::Nothing(span) => {
@@ -74,7 +75,7 @@ pub fn add_expr(spans: &mut Seq<Span>, e: &Expr) -> Result<(), NoMemory>
         } => {
             spans.push(*span)?;
             spans.push(target.span)?;
-            add_expr(spans, value)
+            add_expr(spans, value.get())
         }
     }
 }
@@ -130,7 +131,7 @@ pub fn add_args(spans: &mut Seq<Span>, a: &Args) -> Result<(), NoMemory>
     ensures { OnOk result (spans.new ≡ spans.old ++ spans_of (args a.now)) }
 {
     spans.push(a.span)?;
-    for item in &a.items {
+    for item in a.items.as_slice() {
         add_expr(spans, item)?;
     }
     Ok(())

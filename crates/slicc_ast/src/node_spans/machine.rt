@@ -181,8 +181,8 @@ impl Spanned for Machine {
         spans.push(self.span)?;
         spans.push(self.name.span)?;
         add_pairs(spans, &self.pairs)?;
-        add_each(&self.parameters, spans)?;
-        add_each(&self.declarations, spans)
+        add_each(self.parameters.as_slice(), spans)?;
+        add_each(self.declarations.as_slice(), spans)
     }
 }
 

@@ -25,7 +25,7 @@ pub fn add_block(spans: &mut Seq<Span>, b: &Block) -> Result<(), NoMemory>
     ensures { OnOk result (spans.new ≡ spans.old ++ spans_of (block_outline b.now)) }
 {
     spans.push(b.span)?;
-    for statement in &b.statements {
+    for statement in b.statements.as_slice() {
         add_stmt(spans, statement)?;
     }
     Ok(())

@@ -1,10 +1,11 @@
 use crate::tree::{Span, TokenKind};
+use ruby_base::Seq;
 
 /// Any tokens in which parentheses, brackets and braces close in pairs. Nothing else is known of them.
 #[derive(Drop)]
 #[cycle(balanced)]
 pub struct Balanced {
-    pub parts: Vec<Part>,
+    pub parts: Seq<Part>,
     pub span: Span,
 }
 

@@ -1,10 +1,10 @@
 use crate::tree::{Balanced, Block, Name, Span, TypeName};
-use ruby_base::Text;
+use ruby_base::{Seq, Text};
 
 /// The attributes of a declaration, each after a comma.
 #[derive(Drop)]
 pub struct Pairs {
-    pub items: Vec<Pair>,
+    pub items: Seq<Pair>,
     pub span: Span,
 }
 
@@ -32,7 +32,7 @@ pub enum PairValue {
 pub struct Enumeration {
     pub name: Name,
     pub pairs: Pairs,
-    pub members: Vec<Symbol>,
+    pub members: Seq<Symbol>,
     pub span: Span,
 }
 
@@ -48,7 +48,7 @@ pub struct Symbol {
 pub struct States {
     pub name: Name,
     pub pairs: Pairs,
-    pub members: Vec<State>,
+    pub members: Seq<State>,
     pub span: Span,
 }
 
@@ -67,7 +67,7 @@ pub struct State {
 pub struct Structure {
     pub name: Name,
     pub pairs: Pairs,
-    pub members: Vec<Member>,
+    pub members: Seq<Member>,
     pub span: Span,
 }
 
@@ -119,7 +119,7 @@ pub struct Skipped {
 /// The formals of a function, none where nothing stands between its parentheses.
 #[derive(Drop)]
 pub struct Formals {
-    pub items: Vec<Formal>,
+    pub items: Seq<Formal>,
     pub span: Span,
 }
 

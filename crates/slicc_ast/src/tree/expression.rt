@@ -1,5 +1,5 @@
 use crate::tree::{Name, Span, TypeName};
-use ruby_base::Text;
+use ruby_base::{Boxed, Seq, Text};
 
 /// An expression, of any level of operators: the levels of the grammar are one type, in which the operands of a node bind
 /// tighter than its operators.
@@ -9,16 +9,16 @@ pub enum Expr {
     /// Operands with operators of one level between them, at least two. They group to the left: `a - b + c` is
     /// `(a - b) + c`, and each group on the left starts where the node does.
     Operation {
-        first: Box<Expr>,
-        others: Vec<Operand>,
+        first: Boxed<Expr>,
+        others: Seq<Operand>,
         span: Span,
     },
-    Not(Box<Expr>, Span),
-    Negate(Box<Expr>, Span),
+    Not(Boxed<Expr>, Span),
+    Negate(Boxed<Expr>, Span),
     /// A primary expression with at least one suffix. Each suffix is one of all that stands before it.
     Postfix {
-        value: Box<Expr>,
-        suffixes: Vec<Suffix>,
+        value: Boxed<Expr>,
+        suffixes: Seq<Suffix>,
         span: Span,
     },
     Number(i64, Span),
@@ -40,17 +40,17 @@ pub enum Expr {
         span: Span,
     },
     New(Name, Span),
-    IsValid(Box<Expr>, Span),
-    IsInvalid(Box<Expr>, Span),
+    IsValid(Boxed<Expr>, Span),
+    IsInvalid(Boxed<Expr>, Span),
     /// `static_cast(target, "mode", value)`, in which the string may be left out.
     Cast {
         target: TypeName,
         mode: Option<Text>,
-        value: Box<Expr>,
+        value: Boxed<Expr>,
         span: Span,
     },
     /// An expression in parentheses.
-    Group(Box<Expr>, Span),
+    Group(Boxed<Expr>, Span),
 }
 
 /// An operator and the operand behind it.
@@ -81,7 +81,7 @@ pub enum Suffix {
 #[derive(Drop)]
 #[cycle(expression)]
 pub struct Args {
-    pub items: Vec<Expr>,
+    pub items: Seq<Expr>,
     pub span: Span,
 }
 

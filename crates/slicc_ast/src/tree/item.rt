@@ -1,11 +1,11 @@
 use crate::tree::{Enumeration, Machine, Span, Structure};
-use ruby_base::Text;
+use ruby_base::{Seq, Text};
 
 /// A whole file: `protocol "name";`, which may be left out, and at least one item.
 #[derive(Drop)]
 pub struct Tree {
     pub protocol: Option<Text>,
-    pub items: Vec<Item>,
+    pub items: Seq<Item>,
     pub span: Span,
 }
 

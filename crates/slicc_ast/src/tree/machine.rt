@@ -1,5 +1,5 @@
 use crate::tree::{Block, Enumeration, Function, Name, Pairs, Span, States, Structure, TypeName};
-use ruby_base::Text;
+use ruby_base::{Seq, Text};
 
 /// `machine(MachineType:name, "title" pairs) : parameters { declarations }`, in which `MachineType:` may be left out.
 #[derive(Drop)]
@@ -8,8 +8,8 @@ pub struct Machine {
     pub name: Name,
     pub title: Text,
     pub pairs: Pairs,
-    pub parameters: Vec<Parameter>,
-    pub declarations: Vec<Decl>,
+    pub parameters: Seq<Parameter>,
+    pub declarations: Seq<Decl>,
     pub span: Span,
 }
 
@@ -84,7 +84,7 @@ pub struct Transition {
     pub events: Names,
     pub next: Option<Name>,
     pub pairs: Pairs,
-    pub actions: Vec<Name>,
+    pub actions: Seq<Name>,
     pub span: Span,
 }
 
@@ -92,7 +92,7 @@ pub struct Transition {
 #[derive(Drop)]
 pub enum Names {
     One(Name),
-    Several(Vec<Name>, Span),
+    Several(Seq<Name>, Span),
 }
 
 /// `kind * name pairs;`, in which the star may be left out.

@@ -1,11 +1,11 @@
 use crate::tree::{Balanced, Expr, Name, Pairs, Span, TypeName};
-use ruby_base::Text;
+use ruby_base::{Seq, Text};
 
 /// Statements in braces.
 #[derive(Drop)]
 #[cycle(statement)]
 pub struct Block {
-    pub statements: Vec<Stmt>,
+    pub statements: Seq<Stmt>,
     pub span: Span,
 }
 
@@ -68,7 +68,7 @@ pub enum Stmt {
 pub struct If {
     pub condition: Expr,
     pub then: Block,
-    pub others: Vec<ElseIf>,
+    pub others: Seq<ElseIf>,
     pub otherwise: Option<Block>,
     pub span: Span,
 }

@@ -7,7 +7,7 @@ use Rattle.body_parts.proofs.expression.+expression_parts.Given as goal
 
 abbrev pub invariant-add_args-loop-item : goal.invariant-add_args-loop-item
 invariant-add_args-loop-item l =
-    l.parts ≡ l.initial.parts ++ flat_map (expr_parts l.names) (take l.item-index l.a.items.items)
+    l.parts ≡ l.initial.parts ++ flat_map (expr_parts l.names) (take l.item-index l.a.items)
 
 abbrev pub invariant-add_operands-loop-operand : goal.invariant-add_operands-loop-operand
 invariant-add_operands-loop-operand l =

@@ -13,14 +13,14 @@ pub add_if-returns-in-Some : goal.add_if-returns-in-Some
 add_if-returns-in-Some t c =
     on_ok_weaker c.add_block-in-Some.result
     (λ after. added_four c.args.parts.now _ _ _ _ _ _ _ _ _
-    c.in_ok-add_expr.ensures c.in_ok-add_block.ensures (c.in_ok-add_others.ensures ∙ ap (λ xs. c.add_block.new.parts ++ flat_map (else_if_parts c.args.names.now) xs) c.deref.ensures.value) after
+    c.in_ok-add_expr.ensures c.in_ok-add_block.ensures (c.in_ok-add_others.ensures ∙ ap (λ xs. c.add_block.new.parts ++ flat_map (else_if_parts c.args.names.now) xs) c.deref.ensures) after
     (if_some c.args.names.now c.args.i.now c.in-Some.block c.in-Some.is))
     c.add_block-in-Some.ensures
 
 pub add_if-returns-in-None : goal.add_if-returns-in-None
 add_if-returns-in-None t c =
     added_four c.args.parts.now _ _ _ [] _ _ _ _ _
-    c.in_ok-add_expr.ensures c.in_ok-add_block.ensures (c.in_ok-add_others.ensures ∙ ap (λ xs. c.add_block.new.parts ++ flat_map (else_if_parts c.args.names.now) xs) c.deref.ensures.value)
+    c.in_ok-add_expr.ensures c.in_ok-add_block.ensures (c.in_ok-add_others.ensures ∙ ap (λ xs. c.add_block.new.parts ++ flat_map (else_if_parts c.args.names.now) xs) c.deref.ensures)
     (sym (append-nil c.add_others.new.parts)) (if_none c.args.names.now c.args.i.now c.in-None.is)
 
 pub add_stmt-returns-in_ok-push-in-Peek : goal.add_stmt-returns-in_ok-push-in-Peek

@@ -6,7 +6,7 @@ use Rattle.body_parts.proofs.statement.+statement_parts.Given as goal
 
 abbrev pub invariant-add_block-loop-statement : goal.invariant-add_block-loop-statement
 invariant-add_block-loop-statement l =
-    l.parts ≡ l.initial.parts ++ flat_map (stmt_parts l.names) (take l.statement-index l.b.statements.items)
+    l.parts ≡ l.initial.parts ++ flat_map (stmt_parts l.names) (take l.statement-index l.b.statements)
 
 abbrev pub invariant-add_others-loop-other : goal.invariant-add_others-loop-other
 invariant-add_others-loop-other l =

@@ -8,5 +8,5 @@ abbrev pub invariant-loop-d : goal.invariant-loop-d
 invariant-loop-d l =
     record {
       names : l.names ≡ names_of_written (written_list l.list);
-      list : written_list l.list ≡ fold with_written [] (flat_map function_in (take l.d-index l.m.declarations.items));
+      list : written_list l.list ≡ fold with_written [] (flat_map function_in (take l.d-index l.m.declarations));
     }

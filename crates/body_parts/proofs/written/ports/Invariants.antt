@@ -4,4 +4,4 @@ use Rattle.body_parts.specs.Written.{written_list}
 use Rattle.body_parts.proofs.written.ports.Given as goal
 
 abbrev pub invariant-loop-d : goal.invariant-loop-d
-invariant-loop-d l = written_list l.list ≡ flat_map port_in (take l.d-index l.m.declarations.items)
+invariant-loop-d l = written_list l.list ≡ flat_map port_in (take l.d-index l.m.declarations)

@@ -15,7 +15,7 @@ returns-in-Structure c =
     let scope = scope_of c.in-Structure.scope in
     let found : c.destination_among.result ≡ receivers_field trees (Some (type_of c.args.t)) =
     c.destination_among.ensures
-    ∙ ap (λ (ms : List Member). position (is_destination trees scope) (filter (λ (m : Member). is_field (member m)) ms)) c.deref.ensures.value
+    ∙ ap (λ (ms : List Member). position (is_destination trees scope) (filter (λ (m : Member). is_field (member m)) ms)) c.deref.ensures
     ∙ ap (λ (t : KnownType). receivers_field trees (Some (type_of t))) (sym c.in-Structure.is) in
     let P : Option ℕ → Type 0 = λ place. IfOk c.kept.result (λ field. field ≡ place) in
     subst P found c.kept.ensures

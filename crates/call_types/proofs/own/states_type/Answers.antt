@@ -7,8 +7,8 @@ use Rattle.call_types.proofs.own.states_type.Goals as goal
 
 pub returns-in-None : goal.returns-in-None
 returns-in-None c =
-    states_known c.args.m.now None (c.in-None.ensures ∙ ap (λ ds. find is_states (flat_map named_declarations ds)) c.deref.ensures.value)
+    states_known c.args.m.now None (c.in-None.ensures ∙ ap (λ ds. find is_states (flat_map named_declarations ds)) c.deref.ensures)
 
 pub returns-in-Some : goal.returns-in-Some
 returns-in-Some c =
-    states_known c.args.m.now (Some (states c.in-Some.s.now)) (c.in-Some.ensures ∙ ap (λ ds. find is_states (flat_map named_declarations ds)) c.deref.ensures.value)
+    states_known c.args.m.now (Some (states c.in-Some.s.now)) (c.in-Some.ensures ∙ ap (λ ds. find is_states (flat_map named_declarations ds)) c.deref.ensures)

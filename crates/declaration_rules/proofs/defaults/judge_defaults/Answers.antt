@@ -9,4 +9,4 @@ use Rattle.declaration_rules.proofs.defaults.judge_defaults.Goals as goal
 pub returns : goal.returns
 returns c =
     c.judge_pairs.ensures
-    ∙ ap (first_after c.args.first) (by_each_pair (codes "default") (is_right_default (machine_names c.args.scopes.now.trees.now) c.args.own.now (type_of c.args.t)) c.deref.result.now c.args.pairs.now c.deref.ensures.value)
+    ∙ ap (first_after c.args.first) (by_each_pair (codes "default") (is_right_default (machine_names c.args.scopes.now.trees.now) c.args.own.now (type_of c.args.t)) c.deref.result.now c.args.pairs.now c.deref.ensures)

@@ -14,5 +14,5 @@ returns-in-Plain c =
     (one_before (unknown_use trees scope) (use_of c.in-Plain.kind) (formal_uses (has_no_body c.in-Plain.body) c.in-Plain.formals)
     c.args.first c.judge_type-first.result c.judge_formals.result c.judge_type-first.ensures
     (c.judge_formals.ensures
-    ∙ ap (λ fs. first_after c.judge_type-first.result (unknown_uses trees scope (map (formal_use c.is_none.result) fs))) c.deref.ensures.value
+    ∙ ap (λ fs. first_after c.judge_type-first.result (unknown_uses trees scope (map (formal_use c.is_none.result) fs))) c.deref.ensures
     ∙ ap (λ b. first_after c.judge_type-first.result (unknown_uses trees scope (formal_uses b c.in-Plain.formals))) (none_told c.in-Plain.body c.is_none.result c.is_none.ensures)))

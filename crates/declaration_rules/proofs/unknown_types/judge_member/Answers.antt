@@ -13,4 +13,4 @@ returns-in-Method c =
     rw c.in-Method.is
     (one_before (unknown_use trees scope) (use_of c.in-Method.kind) (formal_uses true c.in-Method.formals)
     c.args.first c.judge_type-first.result c.judge_formals.result c.judge_type-first.ensures
-    (c.judge_formals.ensures ∙ ap (λ fs. first_after c.judge_type-first.result (unknown_uses trees scope (map (formal_use true) fs))) c.deref.ensures.value))
+    (c.judge_formals.ensures ∙ ap (λ fs. first_after c.judge_type-first.result (unknown_uses trees scope (map (formal_use true) fs))) c.deref.ensures))

@@ -7,5 +7,5 @@ use Rattle.return_rules.proofs.ending.+endings.Goals as goal
 
 pub ends-returns-in-Peek : goal.ends-returns-in-Peek
 ends-returns-in-Peek t c =
-    let same : ends c.args.s.now ≡ list_any ends c.in-Peek.body.statements.items = search (rules, the_lemmas, ending_row) in
-    c.statements_end.ensures ∙ ap (list_any ends) c.deref.ensures.value ∙ sym same
+    let same : ends c.args.s.now ≡ list_any ends c.in-Peek.body.statements = search (rules, the_lemmas, ending_row) in
+    c.statements_end.ensures ∙ ap (list_any ends) c.deref.ensures ∙ sym same

@@ -8,9 +8,9 @@ use Rattle.return_rules.proofs.returning.+returning.Goals as goal
 
 pub wrong_return-returns-in-Peek : goal.wrong_return-returns-in-Peek
 wrong_return-returns-in-Peek t c =
-    let same : returns_in c.args.s.now ≡ flat_map returns_in c.in-Peek.body.statements.items = search (rules, the_lemmas, returning_row) in
+    let same : returns_in c.args.s.now ≡ flat_map returns_in c.in-Peek.body.statements = search (rules, the_lemmas, returning_row) in
     c.wrong_in_statements.ensures
-    ∙ ap (λ ss. first_of (wrong_among c.args.is_wanted (flat_map returns_in ss))) c.deref.ensures.value
+    ∙ ap (λ ss. first_of (wrong_among c.args.is_wanted (flat_map returns_in ss))) c.deref.ensures
     ∙ ap (λ rs. first_of (wrong_among c.args.is_wanted rs)) (sym same)
 
 pub wrong_in_statements-loop-s-preserved : goal.wrong_in_statements-loop-s-preserved
@@ -22,5 +22,5 @@ pub wrong_in_others-loop-other-preserved : goal.wrong_in_others-loop-other-prese
 wrong_in_others-loop-other-preserved t c =
     wrong_step c.args.is_wanted arm_returns c.args.others.now c.loop-other.other-index c.other-item.result c.loop-other.first c.wrong_in_statements.result c.earlier_of_two-first.result
     c.loop-other-test.true c.other-item.is c.earlier_of_two-first.ensures
-    (c.wrong_in_statements.ensures ∙ ap (λ ss. first_of (wrong_among c.args.is_wanted (flat_map returns_in ss))) c.deref.ensures.value)
+    (c.wrong_in_statements.ensures ∙ ap (λ ss. first_of (wrong_among c.args.is_wanted (flat_map returns_in ss))) c.deref.ensures)
     c.loop-other.invariant

@@ -15,4 +15,4 @@ returns-then-is_name c =
     (λ fault is. fault_in_present (sym c.if-is_name.ensures) (in_alternative formals 0 refl (sym c.if-is_name.ensures) is))
 
 pub returns : goal.returns
-returns c = absent_read (of formals done) (sym c.if-is_name.ensures) (spelled c.span-span.ensures (no_formals c.new-items.result.items c.args.tokens.now c.new-items.ensures.items))
+returns c = absent_read (of formals done) (sym c.if-is_name.ensures) (spelled c.span-span.ensures (no_formals c.new-items.result c.args.tokens.now c.new-items.ensures))

@@ -32,5 +32,6 @@ returns-in-Err-next_formal c = fault_in_further (sym c.commas-test.ensures) c.in
 
 pub returns : goal.returns
 returns c =
-    as_tree (node c.span-span.result (formal_list c.commas.items.items)) (ap (λ p. node c.span-span.result p) (sym (formals_onto_none c.commas.items.items)))
-    (as_node c.span-span.result c.span-span.ensures (all_separated formals_onto each_formal (sym c.commas-test.ensures) c.commas.invariant))
+    rw c.of-items.ensures
+    (as_tree (node c.span-span.result (formal_list c.commas.items.items)) (ap (λ p. node c.span-span.result p) (sym (formals_onto_none c.commas.items.items)))
+    (as_node c.span-span.result c.span-span.ensures (all_separated formals_onto each_formal (sym c.commas-test.ensures) c.commas.invariant)))

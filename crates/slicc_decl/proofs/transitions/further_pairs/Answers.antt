@@ -23,7 +23,8 @@ returns-in-Err c = fault_in_one (sym c.commas-test.ensures) c.in-Err.ensures.rea
 
 pub returns : goal.returns
 returns c =
-    all_from c.span-span.result (pair_list c.commas.items.items) (each_pair c.commas.items.items) (sym c.commas-test.ensures) c.span-span.ensures c.commas.invariant
+    rw c.of-items.ensures
+    (all_from c.span-span.result (pair_list c.commas.items.items) (each_pair c.commas.items.items) (sym c.commas-test.ensures) c.span-span.ensures c.commas.invariant)
 
 pub commas-init : goal.commas-init
 commas-init c =

@@ -9,7 +9,7 @@ use Rattle.slicc_decl.proofs.transitions.optional_end.Goals as goal
 
 pub returns-then-not-is_sign : goal.returns-then-not-is_sign
 returns-then-not-is_sign c =
-    as_part (absent_read ((comma ▸ of transition_end) done) (sym c.if-not-is_sign.ensures) (no_pairs c.new-items.result.items c.new-items.ensures.items c.span-span.ensures))
+    as_part (absent_read ((comma ▸ of transition_end) done) (sym c.if-not-is_sign.ensures) (no_pairs c.new-items.result c.new-items.ensures c.span-span.ensures))
 
 pub returns-in-Ok : goal.returns-in-Ok
 returns-in-Ok c =

@@ -29,7 +29,7 @@ if_branch-returns-in-Err-clause-read t c =
 pub conditional-returns-in-Ok-other_branches-clause-read : goal.conditional-returns-in-Ok-other_branches-clause-read
 conditional-returns-in-Ok-other_branches-clause-read t c =
     let whole = as_node c.span-span.result c.span-span.ensures (c.in-Ok.ensures.read then c.in-Ok-other_branches.ensures) in
-    of_alternative Form.conditional 0 refl c.requires (read_tree whole (search (rules, the_lemmas, if_is)))
+    of_alternative Form.conditional 0 refl c.requires (read_tree whole (search (rules, the_lemmas, if_is, c.of-others.ensures)))
 
 pub conditional-returns-in-Err-other_branches-clause-read : goal.conditional-returns-in-Err-other_branches-clause-read
 conditional-returns-in-Err-other_branches-clause-read t c =
@@ -193,11 +193,11 @@ statement_block-returns-in-Err-clause-read t c =
 
 pub statements-more-init : goal.statements-more-init
 statements-more-init t c =
-    none_yet stmt_parts c.args.room (of Form.statement) c.args.tokens.now c.new-items.result.items c.new-items.ensures.items
+    none_yet stmt_parts c.args.room (of Form.statement) c.args.tokens.now c.new-items.result c.new-items.ensures
 
 pub statements-more-preserved : goal.statements-more-preserved
 statements-more-preserved t c =
-    one_more c.more.items.items c.in-Ok.next c.push.new.self.items c.in-Ok-push.ensures.items (sym c.more-test.ensures) (as_part c.in-Ok.ensures.read) c.more.invariant
+    one_more c.more.items c.in-Ok.next c.push.new.self c.in-Ok-push.ensures.ok (sym c.more-test.ensures) (as_part c.in-Ok.ensures.read) c.more.invariant
 
 pub statements-returns-in-Err-push : goal.statements-returns-in-Err-push
 statements-returns-in-Err-push t c =
@@ -209,8 +209,8 @@ statements-returns-in-Err t c =
 
 pub statements-returns-in-Ok-sign : goal.statements-returns-in-Ok-sign
 statements-returns-in-Ok-sign t c =
-    all_read (stmt_list c.more.items.items) (each_stmt c.more.items.items) (sym c.more-test.ensures) c.more.invariant then c.in-Ok-sign.ensures.read
+    all_read (stmt_list c.more.items) (each_stmt c.more.items) (sym c.more-test.ensures) c.more.invariant then c.in-Ok-sign.ensures.read
 
 pub statements-returns : goal.statements-returns
 statements-returns t c =
-    behind (all_read (stmt_list c.more.items.items) (each_stmt c.more.items.items) (sym c.more-test.ensures) c.more.invariant) c.in-Err-sign.ensures.read
+    behind (all_read (stmt_list c.more.items) (each_stmt c.more.items) (sym c.more-test.ensures) c.more.invariant) c.in-Err-sign.ensures.read

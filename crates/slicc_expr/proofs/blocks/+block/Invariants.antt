@@ -53,7 +53,7 @@ abbrev pub decreases-else_ifs-branches : goal.decreases-else_ifs-branches
 decreases-else_ifs-branches l = length l.left
 
 abbrev pub invariant-statements-more : goal.invariant-statements-more
-invariant-statements-more l = AreRepeated stmt_parts l.room (of Form.statement) l.tokens l.tokens l.items.items l.left
+invariant-statements-more l = AreRepeated stmt_parts l.room (of Form.statement) l.tokens l.tokens l.items l.left
 
 abbrev pub decreases-statements-more : goal.decreases-statements-more
 decreases-statements-more l = length l.left

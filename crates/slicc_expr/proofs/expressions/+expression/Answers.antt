@@ -1,4 +1,4 @@
-use Rattle.std.proofs.Common.{refl, sym, arith, ◌∷◌, []}
+use Rattle.std.proofs.Common.{refl, sym, arith, ◌∷◌, [], ◌∙◌}
 use Rattle.grammar_rows.specs.Grammar.Row.{done, form}
 use Rattle.slicc_ast.specs.declared.tree.token.Sign.TheVariants.{CloseParenthesis, Dot, OpenBracket}
 use Rattle.slicc_grammar.specs.TokenKinds.{sign_kind}
@@ -24,7 +24,7 @@ after_name-returns-in-Err-clause-read t c =
 
 pub argument_list-returns-then-not-begins_expression : goal.argument_list-returns-then-not-begins_expression
 argument_list-returns-then-not-begins_expression t c =
-    no_items c.span-span.result c.new-items.result.items c.new-items.ensures.items c.span-span.ensures (sym c.if-not-begins_expression.ensures)
+    no_items c.span-span.result c.of-items.result (c.of-items.ensures ∙ c.new-items.ensures.items) c.span-span.ensures (sym c.if-not-begins_expression.ensures)
 
 pub argument_list-returns-in-Err : goal.argument_list-returns-in-Err
 argument_list-returns-in-Err t c =
@@ -52,7 +52,7 @@ argument_list-returns-in-Err-next_argument t c =
 
 pub argument_list-returns : goal.argument_list-returns
 argument_list-returns t c =
-    items_end c.span-span-2.result c.commas.items.items (sym c.if-not-begins_expression.ensures) (sym c.commas-test.ensures) c.span-span-2.ensures c.commas.invariant
+    rw c.of-items-2.ensures (items_end c.span-span-2.result c.commas.items.items (sym c.if-not-begins_expression.ensures) (sym c.commas-test.ensures) c.span-span-2.ensures c.commas.invariant)
 
 pub arguments-returns-in-Ok-sign-clause-read : goal.arguments-returns-in-Ok-sign-clause-read
 arguments-returns-in-Ok-sign-clause-read t c =

@@ -1,4 +1,4 @@
-use Rattle.std.proofs.Common.{ℕ, ◌≤◌, [], refl, subst, sym, All, length}
+use Rattle.std.proofs.Common.{◌≤◌, [], refl, subst, sym, All, length}
 use Rattle.std.proofs.lemmas.List.Elements.{All-nil}
 use Rattle.slicc_files.specs.Gathering.{IsAllowed}
 use Rattle.slicc_files.specs.Gathering.IsGathered.{no_memory}

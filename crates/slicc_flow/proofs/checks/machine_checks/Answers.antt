@@ -4,5 +4,5 @@ use Rattle.slicc_flow.proofs.checks.machine_checks.Goals as goal
 
 pub returns : goal.returns
 returns c =
-    checks_all c.args.names.now c.args.actions.now c.args.m.now.declarations.items c.loop-d.d-index c.loop-d.list
-    (subst (λ xs. length xs ≤ c.loop-d.d-index) c.deref-d-items.ensures.value c.loop-d-test.false) c.loop-d.invariant
+    checks_all c.args.names.now c.args.actions.now c.args.m.now.declarations c.loop-d.d-index c.loop-d.list
+    (subst (λ xs. length xs ≤ c.loop-d.d-index) c.as_slice-d-items.ensures c.loop-d-test.false) c.loop-d.invariant

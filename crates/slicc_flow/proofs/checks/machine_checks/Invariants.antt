@@ -3,4 +3,4 @@ use Rattle.slicc_flow.specs.Checks.{decl_checks}
 use Rattle.slicc_flow.proofs.checks.machine_checks.Given as goal
 
 abbrev pub invariant-loop-d : goal.invariant-loop-d
-invariant-loop-d l = l.list ≡ flat_map (decl_checks l.names l.actions) (take l.d-index l.m.declarations.items)
+invariant-loop-d l = l.list ≡ flat_map (decl_checks l.names l.actions) (take l.d-index l.m.declarations)

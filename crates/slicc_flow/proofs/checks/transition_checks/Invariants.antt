@@ -6,4 +6,4 @@ use Rattle.slicc_flow.proofs.checks.transition_checks.Given as goal
 
 abbrev pub invariant-loop-action : goal.invariant-loop-action
 invariant-loop-action l =
-    l.checks ≡ flat_map (λ (action : Name). checks_at l.actions (number_in l.names action.text)) (take l.action-index l.t.actions.items)
+    l.checks ≡ flat_map (λ (action : Name). checks_at l.actions (number_in l.names action.text)) (take l.action-index l.t.actions)

@@ -13,27 +13,27 @@ use Rattle.slicc_names.proofs.blocks.+blocks.Goals as goal
 pub in_block-returns : goal.in_block-returns
 in_block-returns t c =
     IfOk-weaker c.in_statements.result _ _
-    (λ r told. told_in_body (flat_map local_of c.args.b.now.statements.items) (flat_map blocks_in c.args.b.now.statements.items) c.args.first c.in_ok-first.first r
-    (c.in_ok-first.ensures ∙ ap (λ ss. first_after c.args.first (repeated (flat_map local_of ss))) c.deref.ensures.value)
-    (told ∙ ap (λ ss. first_after c.in_ok-first.first (flat_map repeated (flat_map blocks_in ss))) c.deref-2.ensures.value))
+    (λ r told. told_in_body (flat_map local_of c.args.b.now.statements) (flat_map blocks_in c.args.b.now.statements) c.args.first c.in_ok-first.first r
+    (c.in_ok-first.ensures ∙ ap (λ ss. first_after c.args.first (repeated (flat_map local_of ss))) c.deref.ensures)
+    (told ∙ ap (λ ss. first_after c.in_ok-first.first (flat_map repeated (flat_map blocks_in ss))) c.deref-2.ensures))
     c.in_statements.ensures
 
 pub in_if-returns-in-Some : goal.in_if-returns-in-Some
 in_if-returns-in-Some t c =
     IfOk-weaker c.in_block-in-Some.result _ _
     (λ r told.
-    told_in_three (body_scopes [] (out-If c.args.i.now).then) (flat_map else_if_scopes (out-If c.args.i.now).others.items) (body_scopes [] c.in-Some.block) c.args.first c.in_ok-first.first c.in_ok-first-2.first r
-    c.in_ok-first.ensures (c.in_ok-first-2.ensures ∙ ap (λ es. first_after c.in_ok-first.first (flat_map repeated (flat_map else_if_scopes es))) c.deref.ensures.value) told
-    ∙ ap (λ o. first_after c.args.first (flat_map repeated (body_scopes [] (out-If c.args.i.now).then ++ flat_map else_if_scopes (out-If c.args.i.now).others.items ++ optional_scopes o))) (sym c.in-Some.is)
+    told_in_three (body_scopes [] (out-If c.args.i.now).then) (flat_map else_if_scopes (out-If c.args.i.now).others) (body_scopes [] c.in-Some.block) c.args.first c.in_ok-first.first c.in_ok-first-2.first r
+    c.in_ok-first.ensures (c.in_ok-first-2.ensures ∙ ap (λ es. first_after c.in_ok-first.first (flat_map repeated (flat_map else_if_scopes es))) c.deref.ensures) told
+    ∙ ap (λ o. first_after c.args.first (flat_map repeated (body_scopes [] (out-If c.args.i.now).then ++ flat_map else_if_scopes (out-If c.args.i.now).others ++ optional_scopes o))) (sym c.in-Some.is)
     ∙ ap (λ xs. first_after c.args.first (flat_map repeated xs)) (sym (if_scopes c.args.i.now)))
     c.in_block-in-Some.ensures
 
 pub in_if-returns-in-None : goal.in_if-returns-in-None
 in_if-returns-in-None t c =
-    told_in_both (body_scopes [] (out-If c.args.i.now).then) (flat_map else_if_scopes (out-If c.args.i.now).others.items) c.args.first c.in_ok-first.first c.in_ok-first-2.first
-    c.in_ok-first.ensures (c.in_ok-first-2.ensures ∙ ap (λ es. first_after c.in_ok-first.first (flat_map repeated (flat_map else_if_scopes es))) c.deref.ensures.value)
-    ∙ ap (λ xs. first_after c.args.first (flat_map repeated xs)) (sym (append-nil (body_scopes [] (out-If c.args.i.now).then ++ flat_map else_if_scopes (out-If c.args.i.now).others.items)))
-    ∙ ap (λ o. first_after c.args.first (flat_map repeated (body_scopes [] (out-If c.args.i.now).then ++ flat_map else_if_scopes (out-If c.args.i.now).others.items ++ optional_scopes o))) (sym c.in-None.is)
+    told_in_both (body_scopes [] (out-If c.args.i.now).then) (flat_map else_if_scopes (out-If c.args.i.now).others) c.args.first c.in_ok-first.first c.in_ok-first-2.first
+    c.in_ok-first.ensures (c.in_ok-first-2.ensures ∙ ap (λ es. first_after c.in_ok-first.first (flat_map repeated (flat_map else_if_scopes es))) c.deref.ensures)
+    ∙ ap (λ xs. first_after c.args.first (flat_map repeated xs)) (sym (append-nil (body_scopes [] (out-If c.args.i.now).then ++ flat_map else_if_scopes (out-If c.args.i.now).others)))
+    ∙ ap (λ o. first_after c.args.first (flat_map repeated (body_scopes [] (out-If c.args.i.now).then ++ flat_map else_if_scopes (out-If c.args.i.now).others ++ optional_scopes o))) (sym c.in-None.is)
     ∙ ap (λ xs. first_after c.args.first (flat_map repeated xs)) (sym (if_scopes c.args.i.now))
 
 pub in_others-loop-other-preserved : goal.in_others-loop-other-preserved

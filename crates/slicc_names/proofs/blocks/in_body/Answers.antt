@@ -10,7 +10,7 @@ use Rattle.slicc_names.proofs.blocks.in_body.Goals as goal
 pub returns : goal.returns
 returns c =
     IfOk-weaker c.in_statements.result _ _
-    (λ r told. told_in_body (flat_map one_formal c.args.formals.now ++ flat_map local_of c.args.b.now.statements.items) (flat_map blocks_in c.args.b.now.statements.items) c.args.first c.in_ok-first.first r
-    (c.in_ok-first.ensures ∙ ap (λ ss. first_after c.args.first (repeated (flat_map one_formal c.args.formals.now ++ flat_map local_of ss))) c.deref.ensures.value)
-    (told ∙ ap (λ ss. first_after c.in_ok-first.first (flat_map repeated (flat_map blocks_in ss))) c.deref-2.ensures.value))
+    (λ r told. told_in_body (flat_map one_formal c.args.formals.now ++ flat_map local_of c.args.b.now.statements) (flat_map blocks_in c.args.b.now.statements) c.args.first c.in_ok-first.first r
+    (c.in_ok-first.ensures ∙ ap (λ ss. first_after c.args.first (repeated (flat_map one_formal c.args.formals.now ++ flat_map local_of ss))) c.deref.ensures)
+    (told ∙ ap (λ ss. first_after c.in_ok-first.first (flat_map repeated (flat_map blocks_in ss))) c.deref-2.ensures))
     c.in_statements.ensures

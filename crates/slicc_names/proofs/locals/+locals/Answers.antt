@@ -10,28 +10,28 @@ use Rattle.slicc_names.proofs.locals.+locals.Goals as goal
 
 pub count_locals-returns : goal.count_locals-returns
 count_locals-returns t c =
-    c.in_statements.ensures ∙ ap (λ ss. found_in c.args.left (flat_map local_places ss)) c.deref.ensures.value
+    c.in_statements.ensures ∙ ap (λ ss. found_in c.args.left (flat_map local_places ss)) c.deref.ensures
     ∙ ap (found_in c.args.left) (sym (body_places c.args.b.now))
 
 pub in_if-returns-in-At : goal.in_if-returns-in-At
 in_if-returns-in-At t c =
-    found_before c.args.left c.in-At.p (map place_of (body_locals (out-If c.args.i.now).then) ++ flat_map else_if_places (out-If c.args.i.now).others.items) (optional_places (out-If c.args.i.now).otherwise)
-    (found_before c.args.left c.in-At.p (map place_of (body_locals (out-If c.args.i.now).then)) (flat_map else_if_places (out-If c.args.i.now).others.items) c.in-At.ensures)
+    found_before c.args.left c.in-At.p (map place_of (body_locals (out-If c.args.i.now).then) ++ flat_map else_if_places (out-If c.args.i.now).others) (optional_places (out-If c.args.i.now).otherwise)
+    (found_before c.args.left c.in-At.p (map place_of (body_locals (out-If c.args.i.now).then)) (flat_map else_if_places (out-If c.args.i.now).others) c.in-At.ensures)
     ∙ ap (found_in c.args.left) (sym (if_places c.args.i.now))
 
 pub in_if-returns-in-At-in_others : goal.in_if-returns-in-At-in_others
 in_if-returns-in-At-in_others t c =
-    found_before c.args.left c.in-At-in_others.p (map place_of (body_locals (out-If c.args.i.now).then) ++ flat_map else_if_places (out-If c.args.i.now).others.items) (optional_places (out-If c.args.i.now).otherwise)
-    (c.in-At-in_others.ensures ∙ ap (λ es. found_in c.in-Left.l (flat_map else_if_places es)) c.deref.ensures.value
-    ∙ found_behind c.args.left c.in-Left.l (map place_of (body_locals (out-If c.args.i.now).then)) (flat_map else_if_places (out-If c.args.i.now).others.items) c.in-Left.ensures)
+    found_before c.args.left c.in-At-in_others.p (map place_of (body_locals (out-If c.args.i.now).then) ++ flat_map else_if_places (out-If c.args.i.now).others) (optional_places (out-If c.args.i.now).otherwise)
+    (c.in-At-in_others.ensures ∙ ap (λ es. found_in c.in-Left.l (flat_map else_if_places es)) c.deref.ensures
+    ∙ found_behind c.args.left c.in-Left.l (map place_of (body_locals (out-If c.args.i.now).then)) (flat_map else_if_places (out-If c.args.i.now).others) c.in-Left.ensures)
     ∙ ap (found_in c.args.left) (sym (if_places c.args.i.now))
 
 pub in_if-returns-in-Left-in_others : goal.in_if-returns-in-Left-in_others
 in_if-returns-in-Left-in_others t c =
     c.in_otherwise.ensures
-    ∙ found_behind c.args.left c.in-Left-in_others.l (map place_of (body_locals (out-If c.args.i.now).then) ++ flat_map else_if_places (out-If c.args.i.now).others.items) (optional_places (out-If c.args.i.now).otherwise)
-    (c.in-Left-in_others.ensures ∙ ap (λ es. found_in c.in-Left.l (flat_map else_if_places es)) c.deref.ensures.value
-    ∙ found_behind c.args.left c.in-Left.l (map place_of (body_locals (out-If c.args.i.now).then)) (flat_map else_if_places (out-If c.args.i.now).others.items) c.in-Left.ensures)
+    ∙ found_behind c.args.left c.in-Left-in_others.l (map place_of (body_locals (out-If c.args.i.now).then) ++ flat_map else_if_places (out-If c.args.i.now).others) (optional_places (out-If c.args.i.now).otherwise)
+    (c.in-Left-in_others.ensures ∙ ap (λ es. found_in c.in-Left.l (flat_map else_if_places es)) c.deref.ensures
+    ∙ found_behind c.args.left c.in-Left.l (map place_of (body_locals (out-If c.args.i.now).then)) (flat_map else_if_places (out-If c.args.i.now).others) c.in-Left.ensures)
     ∙ ap (found_in c.args.left) (sym (if_places c.args.i.now))
 
 pub in_others-returns-in-At : goal.in_others-returns-in-At

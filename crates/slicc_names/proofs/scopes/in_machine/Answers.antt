@@ -13,6 +13,6 @@ returns c =
     IfOk-weaker c.in_decls.result _ _
     (λ r told.
     told_in_body (machine_declarations c.args.m.now) (flat_map inner_scopes (machine_declarations c.args.m.now)) c.args.first c.in_ok-first.first r c.in_ok-first.ensures
-    (told ∙ ap (λ ds. first_after c.in_ok-first.first (flat_map repeated (flat_map inner_scopes (flat_map named_declarations ds)))) c.deref.ensures.value
+    (told ∙ ap (λ ds. first_after c.in_ok-first.first (flat_map repeated (flat_map inner_scopes (flat_map named_declarations ds)))) c.deref.ensures
     ∙ ap (λ xs. first_after c.in_ok-first.first (flat_map repeated xs)) (sym (machine_inside c.args.m.now))))
     c.in_decls.ensures

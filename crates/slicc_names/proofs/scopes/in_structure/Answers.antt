@@ -14,10 +14,10 @@ returns c =
     let here : is_external c.args.s.now ≡ false = sym c.is_external.ensures ∙ c.if-is_external.false in
     IfOk-weaker c.in_members.result _ _
     (λ r told.
-    told_in_body (map member c.args.s.now.members.items) (flat_map member_scopes c.args.s.now.members.items) c.args.first c.in_ok-first.first r
+    told_in_body (map member c.args.s.now.members) (flat_map member_scopes c.args.s.now.members) c.args.first c.in_ok-first.first r
     (c.in_ok-first.ensures ∙ ap (first_after c.args.first) (append-nil (repeated (flat_map one_member c.deref.result.now)))
-    ∙ ap (λ ms. first_after c.args.first (repeated (flat_map one_member ms))) c.deref.ensures.value
-    ∙ ap (λ ds. first_after c.args.first (repeated ds)) (each_member c.args.s.now.members.items))
-    (told ∙ ap (λ ms. first_after c.in_ok-first.first (flat_map repeated (flat_map member_scopes ms))) c.deref-2.ensures.value)
-    ∙ ap (λ b. first_after c.args.first (flat_map repeated (cond b [] (map member c.args.s.now.members.items ∷ flat_map member_scopes c.args.s.now.members.items)))) (sym here))
+    ∙ ap (λ ms. first_after c.args.first (repeated (flat_map one_member ms))) c.deref.ensures
+    ∙ ap (λ ds. first_after c.args.first (repeated ds)) (each_member c.args.s.now.members))
+    (told ∙ ap (λ ms. first_after c.in_ok-first.first (flat_map repeated (flat_map member_scopes ms))) c.deref-2.ensures)
+    ∙ ap (λ b. first_after c.args.first (flat_map repeated (cond b [] (map member c.args.s.now.members ∷ flat_map member_scopes c.args.s.now.members)))) (sym here))
     c.in_members.ensures

@@ -9,7 +9,7 @@ use Rattle.slicc_names.proofs.scopes.in_trees.Goals as goal
 pub loop-t-preserved : goal.loop-t-preserved
 loop-t-preserved c =
     told_in_taken tree_scopes c.args.trees.now c.loop-t.t-index c.t-item.result c.args.first c.loop-t.first c.in_ok-first.first
-    c.loop-t-test.true c.t-item.is c.loop-t.invariant (c.in_ok-first.ensures ∙ ap (λ is. first_after c.loop-t.first (flat_map repeated (flat_map item_scopes is))) c.deref.ensures.value)
+    c.loop-t-test.true c.t-item.is c.loop-t.invariant (c.in_ok-first.ensures ∙ ap (λ is. first_after c.loop-t.first (flat_map repeated (flat_map item_scopes is))) c.deref.ensures)
 
 pub returns : goal.returns
 returns c =

@@ -14,7 +14,7 @@ returns c =
     (λ r told.
     two_lists (flat_map one_parameter c.deref.result.now) (flat_map named_declarations c.deref-2.result.now) c.new-scope.result c.declare_all.new.self c.args.first c.in_ok-first.first r
     c.new-scope.ensures c.in_ok-first.ensures.told c.in_ok-first.ensures.names told
-    ∙ ap (λ ps. first_after c.args.first (repeated (flat_map one_parameter ps ++ flat_map named_declarations c.deref-2.result.now))) c.deref.ensures.value
-    ∙ ap (λ ds. first_after c.args.first (repeated (flat_map one_parameter c.args.m.now.parameters.items ++ flat_map named_declarations ds))) c.deref-2.ensures.value
-    ∙ ap (λ ps. first_after c.args.first (repeated (ps ++ flat_map named_declarations c.args.m.now.declarations.items))) (each_parameter c.args.m.now.parameters.items))
+    ∙ ap (λ ps. first_after c.args.first (repeated (flat_map one_parameter ps ++ flat_map named_declarations c.deref-2.result.now))) c.deref.ensures
+    ∙ ap (λ ds. first_after c.args.first (repeated (flat_map one_parameter c.args.m.now.parameters ++ flat_map named_declarations ds))) c.deref-2.ensures
+    ∙ ap (λ ps. first_after c.args.first (repeated (ps ++ flat_map named_declarations c.args.m.now.declarations))) (each_parameter c.args.m.now.parameters))
     c.declare_all-2.ensures.told

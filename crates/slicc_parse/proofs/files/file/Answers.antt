@@ -10,10 +10,11 @@ returns-then-not-begins_file c = at_no_alternative file (sym c.if-not-begins_fil
 
 pub returns-in-Ok-end_place : goal.returns-in-Ok-end_place
 returns-in-Ok-end_place c =
-    file_read c.args.room
-    (record { protocol = c.in-Ok.protocol; items = c.in-Ok.items; span = record { file = c.first_file.result; start = 0; end = c.in-Ok-end_place.end } })
+    rw c.of-items.ensures
+    (file_read c.args.room
+    (record { protocol = c.in-Ok.protocol; items = c.in-Ok.items.items; span = record { file = c.first_file.result; start = 0; end = c.in-Ok-end_place.end } })
     c.args.tokens.now c.in-Ok.behind.now c.in-Ok-end_place.left.now (sym c.if-not-begins_file.ensures) c.in-Ok.ensures.read c.in-Ok.ensures.some c.in-Ok-end_place.ensures
-    (ap (λ n. record { file = n; start = 0; end = c.in-Ok-end_place.end }) c.first_file.ensures)
+    (ap (λ n. record { file = n; start = 0; end = c.in-Ok-end_place.end }) c.first_file.ensures))
 
 pub returns-in-Err-end_place : goal.returns-in-Err-end_place
 returns-in-Err-end_place c = in_alternative file 0 refl (sym c.if-not-begins_file.ensures) (behind c.in-Ok.ensures.read c.in-Err-end_place.ensures)

@@ -10,8 +10,10 @@ returns-then-not-is_word c = at_no_alternative machine (sym c.if-not-is_word.ens
 
 pub returns-in-Ok-machine_end : goal.returns-in-Ok-machine_end
 returns-in-Ok-machine_end c =
-    of_alternative machine 0 refl (sym c.if-not-is_word.ensures)
-    (as_node c.span-span.result c.span-span.ensures (c.in-Ok.ensures.read then c.in-Ok-machine_head.ensures then c.in-Ok-machine_end.ensures))
+    rw c.of-parameters.ensures
+    (rw c.of-declarations.ensures
+    (of_alternative machine 0 refl (sym c.if-not-is_word.ensures)
+    (as_node c.span-span.result c.span-span.ensures (c.in-Ok.ensures.read then c.in-Ok-machine_head.ensures then c.in-Ok-machine_end.ensures))))
 
 pub returns-in-Err-machine_end : goal.returns-in-Err-machine_end
 returns-in-Err-machine_end c =

@@ -17,4 +17,4 @@ pub returns-in-Err : goal.returns-in-Err
 returns-in-Err c = fault_in_pairs (sym c.commas-test.ensures) c.in-Err.ensures.read c.commas.invariant
 
 pub returns : goal.returns
-returns c = pairs_end c.span-span.result c.commas.items.items (sym c.commas-test.ensures) c.span-span.ensures c.commas.invariant
+returns c = rw c.of-items.ensures (pairs_end c.span-span.result c.commas.items.items (sym c.commas-test.ensures) c.span-span.ensures c.commas.invariant)

@@ -20,7 +20,7 @@ balanced-returns-in-Err t c = fault_in_one (sym c.parts-test.ensures) c.in-Err.e
 
 pub balanced-returns : goal.balanced-returns
 balanced-returns t c =
-    all_from c.span-span.result _ (each_part c.parts.parts.items) (sym c.parts-test.ensures) c.span-span.ensures c.parts.invariant
+    rw c.of-parts.ensures (all_from c.span-span.result _ (each_part c.parts.parts.items) (sym c.parts-test.ensures) c.span-span.ensures c.parts.invariant)
 
 pub bracketed-returns-in-Ok-sign-clause-read : goal.bracketed-returns-in-Ok-sign-clause-read
 bracketed-returns-in-Ok-sign-clause-read t c =

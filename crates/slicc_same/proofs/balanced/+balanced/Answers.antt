@@ -8,7 +8,7 @@ use Rattle.slicc_same.proofs.balanced.+balanced.Goals as goal
 
 pub same_balanced-returns : goal.same_balanced-returns
 same_balanced-returns t c =
-    listed alike_part c.args.a.now.parts.items c.args.b.now.parts.items _ _ _ _ c.all_same_parts.ensures c.deref.ensures.value c.deref-2.ensures.value (balanced_alike c.args.a.now.parts.items c.args.b.now.parts.items)
+    listed alike_part c.args.a.now.parts c.args.b.now.parts _ _ _ _ c.all_same_parts.ensures c.deref.ensures c.deref-2.ensures (balanced_alike c.args.a.now.parts c.args.b.now.parts)
 
 pub same_part-returns-in-Parentheses-Parentheses : goal.same_part-returns-in-Parentheses-Parentheses
 same_part-returns-in-Parentheses-Parentheses t c = search (rules, the_lemmas, list_of_row, balanced_alike, and_true, and_false)

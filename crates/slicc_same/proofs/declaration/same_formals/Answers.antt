@@ -6,5 +6,5 @@ use Rattle.slicc_same.proofs.declaration.same_formals.Goals as goal
 
 pub returns : goal.returns
 returns c =
-    listed (λ a b. same_shape (formal a) (formal b)) c.args.a.now.items.items c.args.b.now.items.items _ _ _ _ c.all_same.ensures c.deref.ensures.value c.deref-2.ensures.value
-    (formals_alike c.args.a.now.items.items c.args.b.now.items.items)
+    listed (λ a b. same_shape (formal a) (formal b)) c.args.a.now.items c.args.b.now.items _ _ _ _ c.all_same.ensures c.deref.ensures c.deref-2.ensures
+    (formals_alike c.args.a.now.items c.args.b.now.items)

@@ -7,8 +7,8 @@ use Rattle.slicc_same.proofs.statement.+statement.Goals as goal
 
 pub same_block-returns : goal.same_block-returns
 same_block-returns t c =
-    listed alike_stmt c.args.a.now.statements.items c.args.b.now.statements.items _ _ _ _ c.all_same_statements.ensures c.deref.ensures.value c.deref-2.ensures.value
-    (statements_alike c.args.a.now.statements.items c.args.b.now.statements.items)
+    listed alike_stmt c.args.a.now.statements c.args.b.now.statements _ _ _ _ c.all_same_statements.ensures c.deref.ensures c.deref-2.ensures
+    (statements_alike c.args.a.now.statements c.args.b.now.statements)
 
 pub same_if-returns-else-all_same_else_ifs : goal.same_if-returns-else-all_same_else_ifs
 same_if-returns-else-all_same_else_ifs t c = search (rules, the_lemmas, if_alike)

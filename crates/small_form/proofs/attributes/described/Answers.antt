@@ -10,5 +10,5 @@ use Rattle.small_form.proofs.attributes.described.Goals as goal
 
 pub returns-in-None : goal.returns-in-None
 returns-in-None c = unfound _ described (λ text same.
-    let one = one_mapped (λ (p : Pair). shape_of (pair p)) c.args.attributes.now.items.items _ same in
-    none-some one.0 (c.in-None.ensures.only one.0 (c.as_slice.ensures.value ∙ one.1)))
+    let one = one_mapped (λ (p : Pair). shape_of (pair p)) c.args.attributes.now.items _ same in
+    none-some one.0 (c.in-None.ensures.only one.0 (c.as_slice.ensures ∙ one.1)))

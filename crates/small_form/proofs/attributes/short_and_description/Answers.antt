@@ -8,10 +8,10 @@ use Rattle.small_form.proofs.attributes.short_and_description.Goals as goal
 
 pub returns-in_default : goal.returns-in_default
 returns-in_default c = λ d e same.
-    let two = two_mapped (λ (p : Pair). shape_of (pair p)) c.args.attributes.now.items.items _ _ same in
-    c.in_default.ensures two.0 two.1 (c.as_slice.ensures.value ∙ two.2)
+    let two = two_mapped (λ (p : Pair). shape_of (pair p)) c.args.attributes.now.items _ _ same in
+    c.in_default.ensures two.0 two.1 (c.as_slice.ensures ∙ two.2)
 
 pub returns-in-None : goal.returns-in-None
 returns-in-None c = λ d e same.
     none-some e (c.in-None.ensures.only e
-    (second_mapped (λ (p : Pair). shape_of (pair p)) c.args.attributes.now.items.items _ _ _ _ (sym c.as_slice.ensures.value ∙ c.in-Some.ensures) same))
+    (second_mapped (λ (p : Pair). shape_of (pair p)) c.args.attributes.now.items _ _ _ _ (sym c.as_slice.ensures ∙ c.in-Some.ensures) same))

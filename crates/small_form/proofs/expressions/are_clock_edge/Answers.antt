@@ -7,6 +7,6 @@ pub returns-in-None : goal.returns-in-None
 returns-in-None c = (
   λ no. absurd (cc no),
   λ same.
-      let one = one_argument c.args.arguments.now.items.items _ same in
-      absurd (none-some one.0 (c.in-None.ensures.only one.0 (c.as_slice.ensures.value ∙ one.1))),
+      let one = one_argument c.args.arguments.now.items _ same in
+      absurd (none-some one.0 (c.in-None.ensures.only one.0 (c.as_slice.ensures ∙ one.1))),
 )

@@ -8,5 +8,5 @@ use Rattle.small_form.proofs.expressions.is_asking.Goals as goal
 
 pub returns-then-is_word : goal.returns-then-is_word
 returns-then-is_word c =
-    let same : shape_of (suffix c.args.suffix.now) ≡ method c.in-Method.name.text (shape_in (args_list c.in-Method.arguments.items.items)) = search (rules, the_lemmas, args_of_row) in
+    let same : shape_of (suffix c.args.suffix.now) ≡ method c.in-Method.name.text (shape_in (args_list c.in-Method.arguments.items)) = search (rules, the_lemmas, args_of_row) in
     asking_if _ c.in-Method.name.text c.args.method.now _ c.are_clock_edge.result same (c.if-is_word.ensures.0 refl) c.are_clock_edge.ensures

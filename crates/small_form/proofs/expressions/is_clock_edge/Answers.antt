@@ -10,9 +10,9 @@ use Rattle.small_form.proofs.expressions.is_clock_edge.Goals as goal
 
 pub returns-then-is_word : goal.returns-then-is_word
 returns-then-is_word c =
-    let same : shape_of (expr c.args.e.now) ≡ call c.in-Call.name.text (shape_in (args_list c.in-Call.arguments.items.items)) = search (rules, the_lemmas, args_of_row) in
-    clock_edge_if _ c.in-Call.name.text c.in-Call.arguments.items.items c.are_none.result same (c.if-is_word.ensures.0 refl)
-    (subst (λ es. (IsTrue c.are_none.result → es ≡ []) × (es ≡ [] → IsTrue c.are_none.result)) c.as_slice.ensures.value c.are_none.ensures)
+    let same : shape_of (expr c.args.e.now) ≡ call c.in-Call.name.text (shape_in (args_list c.in-Call.arguments.items)) = search (rules, the_lemmas, args_of_row) in
+    clock_edge_if _ c.in-Call.name.text c.in-Call.arguments.items c.are_none.result same (c.if-is_word.ensures.0 refl)
+    (subst (λ es. (IsTrue c.are_none.result → es ≡ []) × (es ≡ [] → IsTrue c.are_none.result)) c.as_slice.ensures c.are_none.ensures)
 
 pub returns-in_default : goal.returns-in_default
 returns-in_default c = (λ no. absurd (cc no), λ same. absurd (not_call c.args.e.now (codes "clockEdge") none c.in_default.not-Call same))

@@ -13,9 +13,9 @@ use Rattle.small_form.proofs.expressions.triggered.Goals as goal
 
 pub returns-then-is_word : goal.returns-then-is_word
 returns-then-is_word c =
-    let same : shape_of (expr c.args.e.now) ≡ call c.in-Call.name.text (shape_in (args_list c.in-Call.arguments.items.items)) = search (rules, the_lemmas, args_of_row) in
+    let same : shape_of (expr c.args.e.now) ≡ call c.in-Call.name.text (shape_in (args_list c.in-Call.arguments.items)) = search (rules, the_lemmas, args_of_row) in
     called_found _ c.in-Call.name.text (codes "trigger") _ event_arguments _ same (c.if-is_word.ensures.0 refl)
-    (subst (λ es. IsFound (shape_in (args_list es)) event_arguments (option_copied c.event_argument.result)) c.as_slice.ensures.value c.event_argument.ensures)
+    (subst (λ es. IsFound (shape_in (args_list es)) event_arguments (option_copied c.event_argument.result)) c.as_slice.ensures c.event_argument.ensures)
 
 pub returns-in_default : goal.returns-in_default
 returns-in_default c =

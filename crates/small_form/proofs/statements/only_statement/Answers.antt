@@ -7,5 +7,5 @@ use Rattle.small_form.proofs.statements.only_statement.Goals as goal
 
 pub returns : goal.returns
 returns c =
-    only_statement_found c.args.body.now.statements.items (option_copied c.only_item.result)
-    (subst (λ (ss : List Stmt). IsFound ss (λ (s : Stmt). s ∷ []) (option_copied c.only_item.result)) c.as_slice.ensures.value c.only_item.ensures)
+    only_statement_found c.args.body.now.statements (option_copied c.only_item.result)
+    (subst (λ (ss : List Stmt). IsFound ss (λ (s : Stmt). s ∷ []) (option_copied c.only_item.result)) c.as_slice.ensures c.only_item.ensures)

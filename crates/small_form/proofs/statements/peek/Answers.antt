@@ -22,7 +22,7 @@ returns-then-not-is_word c =
 pub returns-then-not-are_none : goal.returns-then-not-are_none
 returns-then-not-are_none c =
     let same : shape_of (stmt c.args.statement.now) ≡ peeked c.in-Peek.port.text c.in-Peek.message.text (outlines c.in-Peek.pairs) (shape_of (block_outline c.in-Peek.body)) = search (rules, the_lemmas, stmts_of_row, pairs_shape) in
-    no_peek _ _ _ _ _ same (λ p is. false≢true (c.if-not-are_none.ensures.1 (c.as_slice.ensures.value ∙ none_mapped _ _ is.no_attributes)))
+    no_peek _ _ _ _ _ same (λ p is. false≢true (c.if-not-are_none.ensures.1 (c.as_slice.ensures ∙ none_mapped _ _ is.no_attributes)))
 
 pub returns-in_default-triggered_in : goal.returns-in_default-triggered_in
 returns-in_default-triggered_in c =
@@ -35,7 +35,7 @@ returns c =
     a_peek _ _ _ _ _ _ same (record {
       port_is = sym c.in_ok-port.ensures;
       message_is = c.if-not-is_word.ensures.0 refl;
-      no_attributes = ap (map (λ (q : Pair). shape_of (pair q))) (sym c.as_slice.ensures.value ∙ c.if-not-are_none.ensures.0 refl);
+      no_attributes = ap (map (λ (q : Pair). shape_of (pair q))) (sym c.as_slice.ensures ∙ c.if-not-are_none.ensures.0 refl);
       body_is = c.in-Some.ensures.sound ∙ ap (λ event. block (triggered event)) (sym c.in_ok-event.ensures);
     })
 

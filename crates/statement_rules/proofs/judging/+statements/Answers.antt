@@ -21,7 +21,7 @@ pub if_judged-arm_judged-requires : goal.if_judged-arm_judged-requires
 if_judged-arm_judged-requires t c = (search (rules, the_lemmas), c.requires)
 
 pub if_judged-others_judged-requires : goal.if_judged-others_judged-requires
-if_judged-others_judged-requires t c = (search (rules, the_lemmas, c.deref.ensures.value), c.requires)
+if_judged-others_judged-requires t c = (search (rules, the_lemmas, c.deref.ensures), c.requires)
 
 pub if_judged-returns-in-None-clause-first : goal.if_judged-returns-in-None-clause-first
 if_judged-returns-in-None-clause-first t c =
@@ -30,8 +30,8 @@ if_judged-returns-in-None-clause-first t c =
     ∙ if_none (at c.args.env names) c.args.i.now c.in_ok-condition.condition c.in_ok-then.then c.in_ok-others.others c.in-None.is
     (c.in_ok-condition.ensures ∙ ap (λ e. first_of (broken_where e (of_built_in Boolean) (out-If c.args.i.now).condition)) (c.with_names-here.ensures.is ∙ ap (λ xs. at c.args.env xs) c.as_slice.ensures.value))
     c.in_ok-then.ensures.first
-    (c.in_ok-others.ensures.first ∙ ap (λ es. first_of (flat_map (else_if_judged (at c.args.env c.arm_judged.new.bound.items)) es)) c.deref.ensures.value
-    ∙ ap (λ xs. first_of (flat_map (else_if_judged (at c.args.env xs)) (out-If c.args.i.now).others.items)) c.in_ok-then.ensures.kept)
+    (c.in_ok-others.ensures.first ∙ ap (λ es. first_of (flat_map (else_if_judged (at c.args.env c.arm_judged.new.bound.items)) es)) c.deref.ensures
+    ∙ ap (λ xs. first_of (flat_map (else_if_judged (at c.args.env xs)) (out-If c.args.i.now).others)) c.in_ok-then.ensures.kept)
 
 pub if_judged-returns-in_ok-otherwise-in-Some-clause-first : goal.if_judged-returns-in_ok-otherwise-in-Some-clause-first
 if_judged-returns-in_ok-otherwise-in-Some-clause-first t c =
@@ -40,30 +40,30 @@ if_judged-returns-in_ok-otherwise-in-Some-clause-first t c =
     ∙ if_some (at c.args.env names) c.args.i.now c.in-Some.block c.in_ok-condition.condition c.in_ok-then.then c.in_ok-others.others c.in_ok-otherwise-in-Some.otherwise c.in-Some.is
     (c.in_ok-condition.ensures ∙ ap (λ e. first_of (broken_where e (of_built_in Boolean) (out-If c.args.i.now).condition)) (c.with_names-here.ensures.is ∙ ap (λ xs. at c.args.env xs) c.as_slice.ensures.value))
     c.in_ok-then.ensures.first
-    (c.in_ok-others.ensures.first ∙ ap (λ es. first_of (flat_map (else_if_judged (at c.args.env c.arm_judged.new.bound.items)) es)) c.deref.ensures.value
-    ∙ ap (λ xs. first_of (flat_map (else_if_judged (at c.args.env xs)) (out-If c.args.i.now).others.items)) c.in_ok-then.ensures.kept)
-    (c.in_ok-otherwise-in-Some.ensures.first ∙ ap (λ ss. first_of (statements_judged (at c.args.env c.others_judged.new.bound.items) ss)) c.deref-in-Some.ensures.value
-    ∙ ap (λ xs. first_of (statements_judged (at c.args.env xs) c.in-Some.block.statements.items)) (c.in_ok-others.ensures.kept ∙ c.in_ok-then.ensures.kept))
+    (c.in_ok-others.ensures.first ∙ ap (λ es. first_of (flat_map (else_if_judged (at c.args.env c.arm_judged.new.bound.items)) es)) c.deref.ensures
+    ∙ ap (λ xs. first_of (flat_map (else_if_judged (at c.args.env xs)) (out-If c.args.i.now).others)) c.in_ok-then.ensures.kept)
+    (c.in_ok-otherwise-in-Some.ensures.first ∙ ap (λ ss. first_of (statements_judged (at c.args.env c.others_judged.new.bound.items) ss)) c.deref-in-Some.ensures
+    ∙ ap (λ xs. first_of (statements_judged (at c.args.env xs) c.in-Some.block.statements)) (c.in_ok-others.ensures.kept ∙ c.in_ok-then.ensures.kept))
 
 pub judged-returns-in_ok-then-in-Peek-clause-first : goal.judged-returns-in_ok-then-in-Peek-clause-first
 judged-returns-in_ok-then-in-Peek-clause-first t c =
     let env : Environment = at c.args.env c.args.bound.now.items in
     let head = peeked env c.in-Peek.span c.in-Peek.port c.in-Peek.message in
-    let held = statements_judged (in_peek env c.in-Peek.port) c.in-Peek.body.statements.items in
+    let held = statements_judged (in_peek env c.in-Peek.port) c.in-Peek.body.statements in
     let row = judged_row (in_peek env c.in-Peek.port) in
     let same : judged env c.args.s.now ≡ head ++ held = search (rules, the_lemmas, row) in
     let here = c.with_names-here.ensures.is ∙ ap (λ xs. at c.args.env xs) c.as_slice.ensures.value in
     c.earlier_of_two.ensures
     ∙ ap (λ o. earlier_of_both o c.in_ok-then-in-Peek.then) (c.peeked-own.ensures ∙ ap (λ e. first_of (peeked e c.in-Peek.span c.in-Peek.port c.in-Peek.message)) here)
     ∙ ap (earlier_of_both (first_of head)) (c.in_ok-then-in-Peek.ensures.first
-    ∙ ap (λ m. first_of (statements_judged (binding env (fixed (codes "in_msg") m)) c.in-Peek.body.statements.items)) (c.incoming-meaning.ensures ∙ ap (λ e. incoming_of_type (in_type (meaning_named e c.in-Peek.port.text))) here))
+    ∙ ap (λ m. first_of (statements_judged (binding env (fixed (codes "in_msg") m)) c.in-Peek.body.statements)) (c.incoming-meaning.ensures ∙ ap (λ e. incoming_of_type (in_type (meaning_named e c.in-Peek.port.text))) here))
     ∙ sym (first_of-append head held) ∙ ap first_of (sym same)
 
 pub judged-returns-in_ok-then-in-Enqueue-clause-first : goal.judged-returns-in_ok-then-in-Enqueue-clause-first
 judged-returns-in_ok-then-in-Enqueue-clause-first t c =
     let env : Environment = at c.args.env c.args.bound.now.items in
     let head = enqueued env c.in-Enqueue.span c.in-Enqueue.port c.in-Enqueue.message c.in-Enqueue.latency in
-    let held = statements_judged (in_enqueue env c.in-Enqueue.port) c.in-Enqueue.body.statements.items in
+    let held = statements_judged (in_enqueue env c.in-Enqueue.port) c.in-Enqueue.body.statements in
     let row = judged_row (in_enqueue env c.in-Enqueue.port) in
     let same : judged env c.args.s.now ≡ head ++ held = search (rules, the_lemmas, row) in
     let here = c.with_names-here.ensures.is ∙ ap (λ xs. at c.args.env xs) c.as_slice.ensures.value in
@@ -72,7 +72,7 @@ judged-returns-in_ok-then-in-Enqueue-clause-first t c =
     ∙ ap (λ l. first_of (enqueued (environment_of c.with_names-here.result) c.in-Enqueue.span c.in-Enqueue.port c.in-Enqueue.message l)) c.as_ref-in-Enqueue.ensures.value
     ∙ ap (λ e. first_of (enqueued e c.in-Enqueue.span c.in-Enqueue.port c.in-Enqueue.message c.in-Enqueue.latency)) here)
     ∙ ap (earlier_of_both (first_of head)) (c.in_ok-then-in-Enqueue.ensures.first
-    ∙ ap (λ m. first_of (statements_judged (binding env (fixed (codes "out_msg") m)) c.in-Enqueue.body.statements.items)) (c.outgoing-meaning.ensures ∙ ap (λ e. outgoing_of_type (out_type (meaning_named e c.in-Enqueue.port.text))) here))
+    ∙ ap (λ m. first_of (statements_judged (binding env (fixed (codes "out_msg") m)) c.in-Enqueue.body.statements)) (c.outgoing-meaning.ensures ∙ ap (λ e. outgoing_of_type (out_type (meaning_named e c.in-Enqueue.port.text))) here))
     ∙ sym (first_of-append head held) ∙ ap first_of (sym same)
 
 pub others_judged-loop-other-preserved : goal.others_judged-loop-other-preserved
@@ -82,8 +82,8 @@ others_judged-loop-other-preserved t c =
       found = c.earlier_of_two-first.ensures ∙ ap (λ o. earlier_of_both o c.in_ok-then.then) c.earlier_of_two.ensures
           ∙ others_item (at c.args.env c.args.bound.now.items) c.args.others.now c.loop-other.other-index c.other-item.result c.loop-other.first c.in_ok-condition.condition c.in_ok-then.then c.loop-other-test.true c.other-item.is
           (c.in_ok-condition.ensures ∙ ap (λ e. first_of (broken_where e (of_built_in Boolean) c.other-item.result.condition)) (c.with_names-here.ensures.is ∙ ap (λ xs. at c.args.env xs) (c.as_slice.ensures.value ∙ kept)))
-          (c.in_ok-then.ensures.first ∙ ap (λ ss. first_of (statements_judged (at c.args.env c.loop-other.bound.items) ss)) c.deref.ensures.value
-          ∙ ap (λ xs. first_of (statements_judged (at c.args.env xs) c.other-item.result.then.statements.items)) kept)
+          (c.in_ok-then.ensures.first ∙ ap (λ ss. first_of (statements_judged (at c.args.env c.loop-other.bound.items) ss)) c.deref.ensures
+          ∙ ap (λ xs. first_of (statements_judged (at c.args.env xs) c.other-item.result.then.statements)) kept)
           c.loop-other.invariant.found;
       kept = c.in_ok-then.ensures.kept ∙ kept;
     }

@@ -22,7 +22,7 @@ returns c =
     let states : reached ≡ first_after first (flat_map s (names_in t.states ++ listed_name t.next)) =
     one_list_before first left reached (flat_map s (names_in t.states)) (flat_map s (listed_name t.next)) c.judge_names-left.ensures c.judge_next-reached.ensures
     ∙ ap (first_after first) (sym (flat_map-append s (names_in t.states) (listed_name t.next))) in
-    let actions : all ≡ first_after answered (flat_map a t.actions.items) =
-    c.judge_several.ensures ∙ ap (λ ns. first_after answered (flat_map a ns)) c.deref.ensures.value in
-    one_list_before first answered all (flat_map s (names_in t.states ++ listed_name t.next) ++ flat_map e (names_in t.events)) (flat_map a t.actions.items)
+    let actions : all ≡ first_after answered (flat_map a t.actions) =
+    c.judge_several.ensures ∙ ap (λ ns. first_after answered (flat_map a ns)) c.deref.ensures in
+    one_list_before first answered all (flat_map s (names_in t.states ++ listed_name t.next) ++ flat_map e (names_in t.events)) (flat_map a t.actions)
     (one_list_before first reached answered (flat_map s (names_in t.states ++ listed_name t.next)) (flat_map e (names_in t.events)) states c.judge_names-answered.ensures) actions

@@ -7,14 +7,14 @@ pub returns-in-Some : goal.returns-in-Some
 returns-in-Some c =
     let p = is_named c.args.name.now in
     let m = c.args.m.now in
-    found_first p (map parameter m.parameters.items) (flat_map named_declarations m.declarations.items) (Some (parameter c.in-Some.p.now))
-    (c.in-Some.ensures ∙ ap (λ ps. find p (map parameter ps)) c.deref.ensures.value)
+    found_first p (map parameter m.parameters) (flat_map named_declarations m.declarations) (Some (parameter c.in-Some.p.now))
+    (c.in-Some.ensures ∙ ap (λ ps. find p (map parameter ps)) c.deref.ensures)
 
 pub returns-in-None : goal.returns-in-None
 returns-in-None c =
     let p = is_named c.args.name.now in
     let m = c.args.m.now in
     c.first_declaration.ensures
-    ∙ ap (λ ds. find p (flat_map named_declarations ds)) c.deref-in-None.ensures.value
-    ∙ found_first p (map parameter m.parameters.items) (flat_map named_declarations m.declarations.items) None
-    (c.in-None.ensures ∙ ap (λ ps. find p (map parameter ps)) c.deref.ensures.value)
+    ∙ ap (λ ds. find p (flat_map named_declarations ds)) c.deref-in-None.ensures
+    ∙ found_first p (map parameter m.parameters) (flat_map named_declarations m.declarations) None
+    (c.in-None.ensures ∙ ap (λ ps. find p (map parameter ps)) c.deref.ensures)

@@ -8,4 +8,4 @@ use Rattle.type_numbers.proofs.members.state_number.Goals as goal
 pub returns : goal.returns
 returns c =
     let d = c.args.d.now in
-    c.state_place.ensures ∙ sym (position_map (is_default_of (scope_of c.args.scope) d.name.text c.args.value.now) (λ (s : State). s.name.text) d.members.items)
+    c.state_place.ensures ∙ sym (position_map (is_default_of (scope_of c.args.scope) d.name.text c.args.value.now) (λ (s : State). s.name.text) d.members)

@@ -8,4 +8,4 @@ use Rattle.type_numbers.proofs.members.symbol_number.Goals as goal
 pub returns : goal.returns
 returns c =
     let e = c.args.e.now in
-    c.symbol_place.ensures ∙ sym (position_map (is_default_of (scope_of c.args.scope) e.name.text c.args.value.now) (λ (s : Symbol). s.name.text) e.members.items)
+    c.symbol_place.ensures ∙ sym (position_map (is_default_of (scope_of c.args.scope) e.name.text c.args.value.now) (λ (s : Symbol). s.name.text) e.members)

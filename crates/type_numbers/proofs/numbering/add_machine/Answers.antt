@@ -10,4 +10,4 @@ pub returns : goal.returns
 returns c =
     let found = λ (d : Decl). filter (has_sort c.args.sort) (map (made_in (within c.args.m.now)) (named_declarations d)) in
     let Q : List ScopedDeclaration → Type 0 = λ ys. OnOk c.add_all_named.result (map scoped_of c.add_all_named.new.list ≡ map scoped_of c.args.list.now ++ ys) in
-    subst Q (ap (flat_map found) c.deref.ensures.value ∙ sym (machine_types c.args.sort c.args.m.now)) c.add_all_named.ensures
+    subst Q (ap (flat_map found) c.deref.ensures ∙ sym (machine_types c.args.sort c.args.m.now)) c.add_all_named.ensures

@@ -8,6 +8,6 @@ use Rattle.slicc_ast.proofs.node_spans.declaration.add_formals.Goals as goal
 pub returns : goal.returns
 returns c =
     on_ok_weaker c.add_each.result
-    (λ after. added_list (λ x. spans_of (formal x)) c.args.spans.now c.args.f.now.span c.args.f.now.items.items c.deref.result.now _ _ _
-    c.in_ok-push.ensures.ok c.deref.ensures.value after (formal_list_spans c.args.f.now.items.items))
+    (λ after. added_list (λ x. spans_of (formal x)) c.args.spans.now c.args.f.now.span c.args.f.now.items c.deref.result.now _ _ _
+    c.in_ok-push.ensures.ok c.deref.ensures after (formal_list_spans c.args.f.now.items))
     c.add_each.ensures

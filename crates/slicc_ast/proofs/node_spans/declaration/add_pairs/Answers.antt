@@ -8,6 +8,6 @@ use Rattle.slicc_ast.proofs.node_spans.declaration.add_pairs.Goals as goal
 pub returns : goal.returns
 returns c =
     on_ok_weaker c.add_each.result
-    (λ after. added_list (λ x. spans_of (pair x)) c.args.spans.now c.args.p.now.span c.args.p.now.items.items c.deref.result.now _ _ _
-    c.in_ok-push.ensures.ok c.deref.ensures.value after (pair_list_spans c.args.p.now.items.items))
+    (λ after. added_list (λ x. spans_of (pair x)) c.args.spans.now c.args.p.now.span c.args.p.now.items c.deref.result.now _ _ _
+    c.in_ok-push.ensures.ok c.deref.ensures after (pair_list_spans c.args.p.now.items))
     c.add_each.ensures

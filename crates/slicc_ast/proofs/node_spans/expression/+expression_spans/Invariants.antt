@@ -6,7 +6,7 @@ use Rattle.slicc_ast.specs.Spans.{operand_spans, suffix_spans}
 use Rattle.slicc_ast.proofs.node_spans.expression.+expression_spans.Given as goal
 
 abbrev pub invariant-add_args-loop-item : goal.invariant-add_args-loop-item
-invariant-add_args-loop-item l = l.spans ≡ l.initial.spans ++ flat_map (λ e. spans_of (expr e)) (take l.item-index l.a.items.items)
+invariant-add_args-loop-item l = l.spans ≡ l.initial.spans ++ flat_map (λ e. spans_of (expr e)) (take l.item-index l.a.items)
 
 abbrev pub invariant-add_operands-loop-operand : goal.invariant-add_operands-loop-operand
 invariant-add_operands-loop-operand l = l.spans ≡ l.initial.spans ++ flat_map operand_spans (take l.operand-index l.operands)

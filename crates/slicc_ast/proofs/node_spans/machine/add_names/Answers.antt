@@ -10,7 +10,7 @@ use Rattle.slicc_ast.proofs.node_spans.machine.add_names.Goals as goal
 pub returns-in_ok-push-in-Several : goal.returns-in_ok-push-in-Several
 returns-in_ok-push-in-Several c =
     on_ok_weaker c.add_each.result
-    (λ after. added_behind (λ (n : Name). n.span ∷ []) c.args.spans.now (c.in-Several.span ∷ []) c.in-Several.names.items c.deref.result.now _ _ _
-    c.in_ok-push-in-Several.ensures.ok c.deref.ensures.value after
-    (ap (λ n. spans_in (names n none)) c.in-Several.is ∙ several_spans c.in-Several.names.items c.in-Several.span))
+    (λ after. added_behind (λ (n : Name). n.span ∷ []) c.args.spans.now (c.in-Several.span ∷ []) c.in-Several.names c.deref.result.now _ _ _
+    c.in_ok-push-in-Several.ensures.ok c.deref.ensures after
+    (ap (λ n. spans_in (names n none)) c.in-Several.is ∙ several_spans c.in-Several.names c.in-Several.span))
     c.add_each.ensures

@@ -10,11 +10,11 @@ use Rattle.small_form.proofs.members.EventFromTreeSymbol.from_tree.Goals as goal
 pub returns-in_default : goal.returns-in_default
 returns-in_default c =
     no_event _ c.args.tree.now.name.text _
-    (ap (λ parts. named c.args.tree.now.name.text (part (node no_span parts) (sign Semicolon none))) (pairs_shape c.args.tree.now.pairs.items.items))
+    (ap (λ parts. named c.args.tree.now.name.text (part (node no_span parts) (sign Semicolon none))) (pairs_shape c.args.tree.now.pairs.items))
     c.in_default.ensures
 
 pub returns : goal.returns
 returns c =
     an_event _ c.args.tree.now.name.text _ _ _
-    (ap (λ parts. named c.args.tree.now.name.text (part (node no_span parts) (sign Semicolon none))) (pairs_shape c.args.tree.now.pairs.items.items))
+    (ap (λ parts. named c.args.tree.now.name.text (part (node no_span parts) (sign Semicolon none))) (pairs_shape c.args.tree.now.pairs.items))
     c.in-Some.ensures c.in_ok-name.ensures c.in_ok-description.ensures

@@ -17,10 +17,10 @@ with s attributes =
 pub returns-in_default : goal.returns-in_default
 returns-in_default c =
     no_state _ c.args.tree.now.name.text c.args.tree.now.owner.text c.args.tree.now.permission.text _
-    (ap (with c.args.tree.now) (pairs_shape c.args.tree.now.pairs.items.items)) c.in_default.ensures
+    (ap (with c.args.tree.now) (pairs_shape c.args.tree.now.pairs.items)) c.in_default.ensures
 
 pub returns : goal.returns
 returns c =
     a_state _ c.args.tree.now.name.text c.args.tree.now.owner.text c.args.tree.now.permission.text _ _ _
-    (ap (with c.args.tree.now) (pairs_shape c.args.tree.now.pairs.items.items)) (c.if-not-is_word.ensures.0 refl) c.in-Some.ensures
+    (ap (with c.args.tree.now) (pairs_shape c.args.tree.now.pairs.items)) (c.if-not-is_word.ensures.0 refl) c.in-Some.ensures
     c.in_ok-name.ensures c.in_ok-permission.ensures c.in_ok-description.ensures

@@ -1,4 +1,4 @@
-use Rattle.std.proofs.Common.{rules, ◌≡◌, ◌∷◌, ◌++◌, ◌∙◌, ap, append-nil}
+use Rattle.std.proofs.Common.{rules, ◌≡◌, ◌∷◌, ◌++◌, subst, append-nil}
 use Rattle.std.specs.List.{flat_map}
 use Rattle.std.proofs.lemmas.Result.{on_ok_weaker}
 use Rattle.slicc_ast.specs.Declarations.{pair_list}
@@ -10,11 +10,13 @@ use Rattle.slicc_ast.proofs.node_spans.machine.MachineSpanned.add_to.Goals as go
 pub returns : goal.returns
 returns c =
     let m = c.args.self.now in
-    let same : spans_of (machine m) ≡ m.span ∷ m.name.span ∷ ((m.pairs.span ∷ spans_in (pair_list m.pairs.items.items)) ++ (flat_map (λ p. spans_of (parameter p)) m.parameters.items ++ flat_map (λ d. spans_of (decl d)) m.declarations.items)) =
+    let same : spans_of (machine m) ≡ m.span ∷ m.name.span ∷ ((m.pairs.span ∷ spans_in (pair_list m.pairs.items)) ++ (flat_map (λ p. spans_of (parameter p)) m.parameters ++ flat_map (λ d. spans_of (decl d)) m.declarations)) =
     search (rules, type_spans, parameter_list_spans, decl_list_spans, append-nil) in
+    let three : c.add_each.new.spans ≡ c.add_pairs.new.spans ++ flat_map (λ p. spans_of (parameter p)) m.parameters =
+    subst (λ xs. c.add_each.new.spans ≡ c.add_pairs.new.spans ++ flat_map (λ p. spans_of (parameter p)) xs) c.as_slice.ensures c.in_ok-add_each.ensures in
     on_ok_weaker c.add_each-2.result
-    (λ after. added_machine c.args.spans.now m.span m.name.span _ _ _ _ _ _ _ _ _
-    c.in_ok-push.ensures.ok c.in_ok-push-2.ensures.ok c.in_ok-add_pairs.ensures
-    (c.in_ok-add_each.ensures ∙ ap (λ xs. c.add_pairs.new.spans ++ flat_map (λ p. spans_of (parameter p)) xs) c.deref.ensures.value)
-    (after ∙ ap (λ xs. c.add_each.new.spans ++ flat_map (λ d. spans_of (decl d)) xs) c.deref-2.ensures.value) same)
+    (λ after. added_machine c.args.spans.now m.span m.name.span (m.pairs.span ∷ spans_in (pair_list m.pairs.items)) (flat_map (λ p. spans_of (parameter p)) m.parameters) (flat_map (λ d. spans_of (decl d)) m.declarations)
+    c.push.new.self c.push-2.new.self c.add_pairs.new.spans c.add_each.new.spans c.add_each-2.new.spans (spans_of (machine m))
+    c.in_ok-push.ensures.ok c.in_ok-push-2.ensures.ok c.in_ok-add_pairs.ensures three
+    (subst (λ xs. c.add_each-2.new.spans ≡ c.add_each.new.spans ++ flat_map (λ d. spans_of (decl d)) xs) c.as_slice-2.ensures after) same)
     c.add_each-2.ensures

@@ -11,10 +11,10 @@ use Rattle.slicc_ast.proofs.node_spans.machine.TransitionSpanned.add_to.Goals as
 pub returns : goal.returns
 returns c =
     let t = c.args.self.now in
-    let same : spans_of (transition t) ≡ t.span ∷ (spans_in (names t.states none) ++ (spans_in (names t.events none) ++ (spans_in (next_parts t.next none) ++ ((t.pairs.span ∷ spans_in (pair_list t.pairs.items.items)) ++ flat_map (λ (n : Name). n.span ∷ []) t.actions.items)))) =
+    let same : spans_of (transition t) ≡ t.span ∷ (spans_in (names t.states none) ++ (spans_in (names t.events none) ++ (spans_in (next_parts t.next none) ++ ((t.pairs.span ∷ spans_in (pair_list t.pairs.items)) ++ flat_map (λ (n : Name). n.span ∷ []) t.actions)))) =
     search (rules, names_behind, next_behind, action_list_spans, append-nil) in
     on_ok_weaker c.add_each.result
     (λ after. added_transition c.args.spans.now t.span _ _ _ _ _ _ _ _ _ _ _ _
     c.in_ok-push.ensures.ok c.in_ok-add_names.ensures c.in_ok-add_names-2.ensures c.in_ok-add_next.ensures c.in_ok-add_pairs.ensures
-    (after ∙ ap (λ xs. c.add_pairs.new.spans ++ flat_map (λ (n : Name). n.span ∷ []) xs) c.deref.ensures.value) same)
+    (after ∙ ap (λ xs. c.add_pairs.new.spans ++ flat_map (λ (n : Name). n.span ∷ []) xs) c.deref.ensures) same)
     c.add_each.ensures

@@ -1,0 +1,68 @@
+-- What is told of an expression that has another one in a box, and where it is.
+use Rattle.std.proofs.Common.{rules, ◌≡◌, ◌∙◌, ap, List, ℕ, Option}
+use Rattle.slicc_ast.specs.declared.tree.span.Span.{Span}
+use Rattle.slicc_ast.specs.declared.tree.name.TypeName.{TypeName}
+use Rattle.slicc_ast.specs.declared.tree.expression.Expr.{Expr}
+use Rattle.slicc_ast.specs.declared.tree.expression.Operand.{Operand}
+use Rattle.slicc_ast.specs.declared.tree.expression.Suffix.{Suffix}
+use Rattle.slicc_ast.specs.declared.tree.expression.Expr.TheViews as views
+use Rattle.slicc_ast.specs.declared.tree.expression.Expr.TheViews.{the_lemmas}
+use Rattle.slicc_ast.proofs.Boxes.{Operation_is, Postfix_is, Not_is, Negate_is, IsValid_is, IsInvalid_is, Cast_is, Group_is}
+use Rattle.slicc_plan.specs.declared.built_in.BuiltInType.TheVariants.{Int, Bool as Boolean}
+use Rattle.slicc_plan.specs.Environment.{Environment, type_named}
+use Rattle.slicc_plan.specs.ExpressionTypes.{cast_to, from_operand, given_at, span_of, typed}
+use Rattle.slicc_plan.specs.Meanings.{any_line, of_built_in}
+use Rattle.expression_types.specs.Lists.{all_operands, all_suffixes}
+use Rattle.expression_types.proofs.Rows.{operands_of_row, suffixes_of_row}
+
+pub span_of_Operation : (e : Expr) (others : List Operand) (span : Span) → span_of (views.Operation e others span) ≡ span
+span_of_Operation e others span = ap span_of (Operation_is e others span)
+
+pub span_of_Not : (e : Expr) (span : Span) → span_of (views.Not e span) ≡ span
+span_of_Not e span = ap span_of (Not_is e span)
+
+pub span_of_Negate : (e : Expr) (span : Span) → span_of (views.Negate e span) ≡ span
+span_of_Negate e span = ap span_of (Negate_is e span)
+
+pub span_of_Postfix : (e : Expr) (suffixes : List Suffix) (span : Span) → span_of (views.Postfix e suffixes span) ≡ span
+span_of_Postfix e suffixes span = ap span_of (Postfix_is e suffixes span)
+
+pub span_of_IsValid : (e : Expr) (span : Span) → span_of (views.IsValid e span) ≡ span
+span_of_IsValid e span = ap span_of (IsValid_is e span)
+
+pub span_of_IsInvalid : (e : Expr) (span : Span) → span_of (views.IsInvalid e span) ≡ span
+span_of_IsInvalid e span = ap span_of (IsInvalid_is e span)
+
+pub span_of_Cast : (target : TypeName) (mode : Option (List ℕ)) (e : Expr) (span : Span) → span_of (views.Cast target mode e span) ≡ span
+span_of_Cast target mode e span = ap span_of (Cast_is target mode e span)
+
+pub span_of_Group : (e : Expr) (span : Span) → span_of (views.Group e span) ≡ span
+span_of_Group e span = ap span_of (Group_is e span)
+
+pub ruleset span_of_boxes = (span_of_Operation, span_of_Not, span_of_Negate, span_of_Postfix, span_of_IsValid, span_of_IsInvalid, span_of_Cast, span_of_Group)
+
+pub typed_of_Operation : (env : Environment) (e : Expr) (others : List Operand) (span : Span) → typed env (views.Operation e others span) ≡ all_operands env (span_of e) (typed env e) others
+typed_of_Operation env e others span =
+    ap (typed env) (Operation_is e others span) ∙ search (rules, the_lemmas, operands_of_row env)
+
+pub typed_of_Not : (env : Environment) (e : Expr) (span : Span) → typed env (views.Not e span) ≡ from_operand env (of_built_in Boolean) Boolean (given_at (span_of e) (typed env e))
+typed_of_Not env e span = ap (typed env) (Not_is e span)
+
+pub typed_of_Negate : (env : Environment) (e : Expr) (span : Span) → typed env (views.Negate e span) ≡ from_operand env (of_built_in Int) Int (given_at (span_of e) (typed env e))
+typed_of_Negate env e span = ap (typed env) (Negate_is e span)
+
+pub typed_of_Postfix : (env : Environment) (e : Expr) (suffixes : List Suffix) (span : Span) → typed env (views.Postfix e suffixes span) ≡ all_suffixes env span (typed env e) suffixes
+typed_of_Postfix env e suffixes span =
+    ap (typed env) (Postfix_is e suffixes span) ∙ search (rules, the_lemmas, suffixes_of_row env)
+
+pub typed_of_IsValid : (env : Environment) (e : Expr) (span : Span) → typed env (views.IsValid e span) ≡ from_operand env any_line Boolean (given_at (span_of e) (typed env e))
+typed_of_IsValid env e span = ap (typed env) (IsValid_is e span)
+
+pub typed_of_IsInvalid : (env : Environment) (e : Expr) (span : Span) → typed env (views.IsInvalid e span) ≡ from_operand env any_line Boolean (given_at (span_of e) (typed env e))
+typed_of_IsInvalid env e span = ap (typed env) (IsInvalid_is e span)
+
+pub typed_of_Cast : (env : Environment) (target : TypeName) (mode : Option (List ℕ)) (e : Expr) (span : Span) → typed env (views.Cast target mode e span) ≡ cast_to env target (given_at (span_of e) (typed env e)) (type_named env target.text)
+typed_of_Cast env target mode e span = ap (typed env) (Cast_is target mode e span)
+
+pub typed_of_Group : (env : Environment) (e : Expr) (span : Span) → typed env (views.Group e span) ≡ typed env e
+typed_of_Group env e span = ap (typed env) (Group_is e span)

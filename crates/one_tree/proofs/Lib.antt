@@ -1,0 +1,11 @@
+pub mod Bare
+pub mod Rows
+pub mod Places
+pub mod FromNames
+pub mod FromBalanced
+pub mod FromDeclarations
+pub mod FromExpressions
+pub mod FromStatements
+pub mod FromMachines
+pub mod FromTrees
+pub mod OneTree

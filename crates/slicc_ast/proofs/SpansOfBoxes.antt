@@ -1,0 +1,42 @@
+-- The spans of an expression that has another one in a box.
+use Rattle.std.proofs.Common.{rules, ◌≡◌, ◌++◌, ◌∷◌, ◌∙◌, ap, Option, List, ℕ, None, Some}
+use Rattle.std.specs.List.{flat_map}
+use Rattle.slicc_ast.specs.declared.tree.span.Span.{Span}
+use Rattle.slicc_ast.specs.declared.tree.name.TypeName.{TypeName}
+use Rattle.slicc_ast.specs.declared.tree.expression.Expr.{Expr}
+use Rattle.slicc_ast.specs.declared.tree.expression.Operand.{Operand}
+use Rattle.slicc_ast.specs.declared.tree.expression.Suffix.{Suffix}
+use Rattle.slicc_ast.specs.declared.tree.expression.Expr.TheViews as views
+use Rattle.slicc_ast.specs.declared.tree.expression.Expr.TheViews.{the_lemmas}
+use Rattle.slicc_ast.proofs.Boxes.{boxes, Operation_is, Postfix_is}
+use Rattle.slicc_ast.specs.Expressions.{expr}
+use Rattle.slicc_ast.specs.Outline.{spans_of}
+use Rattle.slicc_ast.specs.Spans.{operand_spans, suffix_spans}
+use Rattle.slicc_ast.proofs.SpansOfLists.{operand_row_spans, suffix_row_spans}
+
+pub spans_of_Not : (e : Expr) (span : Span) → spans_of (expr (views.Not e span)) ≡ span ∷ spans_of (expr e)
+spans_of_Not e span = search (rules, the_lemmas, boxes)
+
+pub spans_of_Negate : (e : Expr) (span : Span) → spans_of (expr (views.Negate e span)) ≡ span ∷ spans_of (expr e)
+spans_of_Negate e span = search (rules, the_lemmas, boxes)
+
+pub spans_of_IsValid : (e : Expr) (span : Span) → spans_of (expr (views.IsValid e span)) ≡ span ∷ spans_of (expr e)
+spans_of_IsValid e span = search (rules, the_lemmas, boxes)
+
+pub spans_of_IsInvalid : (e : Expr) (span : Span) → spans_of (expr (views.IsInvalid e span)) ≡ span ∷ spans_of (expr e)
+spans_of_IsInvalid e span = search (rules, the_lemmas, boxes)
+
+pub spans_of_Group : (e : Expr) (span : Span) → spans_of (expr (views.Group e span)) ≡ span ∷ spans_of (expr e)
+spans_of_Group e span = search (rules, the_lemmas, boxes)
+
+pub spans_of_Cast : (target : TypeName) (mode : Option (List ℕ)) (e : Expr) (span : Span) → spans_of (expr (views.Cast target mode e span)) ≡ span ∷ target.span ∷ spans_of (expr e)
+spans_of_Cast target None e span = search (rules, the_lemmas, boxes)
+spans_of_Cast target (Some text) e span = search (rules, the_lemmas, boxes)
+
+pub spans_of_Operation : (e : Expr) (others : List Operand) (span : Span) → spans_of (expr (views.Operation e others span)) ≡ (span ∷ spans_of (expr e)) ++ flat_map operand_spans others
+spans_of_Operation e others span = ap (λ x. spans_of (expr x)) (Operation_is e others span) ∙ search (rules, the_lemmas, operand_row_spans)
+
+pub spans_of_Postfix : (e : Expr) (suffixes : List Suffix) (span : Span) → spans_of (expr (views.Postfix e suffixes span)) ≡ (span ∷ spans_of (expr e)) ++ flat_map suffix_spans suffixes
+spans_of_Postfix e suffixes span = ap (λ x. spans_of (expr x)) (Postfix_is e suffixes span) ∙ search (rules, the_lemmas, suffix_row_spans)
+
+pub ruleset spans_of_boxes = (spans_of_Not, spans_of_Negate, spans_of_IsValid, spans_of_IsInvalid, spans_of_Group, spans_of_Cast, spans_of_Operation, spans_of_Postfix)
