@@ -1,19 +1,39 @@
-//! How much a protocol has that keeps all rules.
-ghost use Rattle.std.specs.Prelude.{◌≡◌, IfOk};
-ghost use Rattle.slicc_plan.specs.AllRules.{IsAccepted};
+//! Pairs that have two transitions, and how much a protocol has, by the same tables.
+ghost use Rattle.std.specs.Prelude.{◌≡◌, [], None, IfOk};
 ghost use Rattle.slicc_plan.specs.Counts.{counts_of};
+ghost use Rattle.slicc_plan.specs.Order.{first_after};
+ghost use Rattle.slicc_plan.specs.TwoTransitions.{shared_pairs};
 
 use machine_table::{counts, tabulate};
 use ruby_base::NoMemory;
 use slicc_ast::tree::Tree;
-use slicc_plan::Counts;
+use slicc_plan::{Broken, Counts};
 use std::alloc::Global;
 
-/// How many machines a protocol has, and how many states, events and pairs with a written transition, summed over them.
-pub fn counted(alloc: Global, trees: &[Tree]) -> Result<Counts, NoMemory>
-    requires { IsAccepted trees.now }
-    ensures { IfOk result (λ c. c ≡ counts_of trees.now) }
+/// Of the transitions that share a pair with an earlier one of their machine, and of what was found before, the one that is told;
+/// and where there is none, how many machines, states, events and pairs with a written transition a protocol has.
+pub fn shared_or_counted(
+    alloc: Global,
+    first: Option<Broken>,
+    trees: &[Tree],
+) -> Result<(Option<Broken>, Counts), NoMemory>
+    ensures first { IfOk result (λ r. r.0 ≡ first_after first (shared_pairs trees.now)) }
+    ensures counts { IfOk result (λ r. first ≡ None → shared_pairs trees.now ≡ [] → r.1 ≡ counts_of trees.now) }
 {
-    let (_, tables) = tabulate(alloc, None, trees)?;
-    counts(alloc, trees, &tables)
+    let (found, tables) = tabulate(alloc, first, trees)?;
+    match found {
+        Some(b) => Ok((
+            Some(b),
+            Counts {
+                machines: 0,
+                states: 0,
+                events: 0,
+                pairs: 0,
+            },
+        )),
+        None => {
+            let counts = counts(alloc, trees, &tables)?;
+            Ok((None, counts))
+        }
+    }
 }

@@ -5,7 +5,6 @@ ghost use Rattle.slicc_plan.specs.BrokenBodies.{broken_bodies};
 ghost use Rattle.slicc_plan.specs.BrokenDeclarations.{broken_declarations};
 ghost use Rattle.slicc_types.specs.Judged.{IsCounted, IsJudged};
 
-use crate::counting::counted;
 use crate::machines::broken_machines;
 use body_rules::broken_bodies;
 use declared_types::Scopes;
@@ -16,38 +15,41 @@ use slicc_plan::{Broken, Counts, Plan, Refusal};
 use std::alloc::Global;
 
 // What is told where no rule of declarations or of bodies is broken.
-fn told_of_machines(alloc: Global, scopes: &Scopes<'_>) -> Result<Option<Broken>, NoMemory>
+fn told_of_machines(alloc: Global, scopes: &Scopes<'_>) -> Result<Result<Counts, Broken>, NoMemory>
     requires declarations { broken_declarations scopes.now.trees.now ≡ [] }
     requires bodies { broken_bodies scopes.now.trees.now ≡ [] }
     ensures { IfOk result (IsJudged scopes.now.trees.now) }
 {
-    let first = broken_machines(alloc, scopes)?;
-    Ok(first)
+    let (first, counts) = broken_machines(alloc, scopes)?;
+    match first {
+        Some(b) => Ok(Err(b)),
+        None => Ok(Ok(counts)),
+    }
 }
 
 // What is told where no rule of declarations is broken.
-fn told_of_bodies(alloc: Global, scopes: &Scopes<'_>) -> Result<Option<Broken>, NoMemory>
+fn told_of_bodies(alloc: Global, scopes: &Scopes<'_>) -> Result<Result<Counts, Broken>, NoMemory>
     requires { broken_declarations scopes.now.trees.now ≡ [] }
     ensures { IfOk result (IsJudged scopes.now.trees.now) }
 {
     match broken_bodies(alloc, scopes)? {
-        Some(b) => Ok(Some(b)),
+        Some(b) => Ok(Err(b)),
         None => told_of_machines(alloc, scopes),
     }
 }
 
 // What is told of the protocol of these scopes.
-fn told_of(alloc: Global, scopes: &Scopes<'_>) -> Result<Option<Broken>, NoMemory>
+fn told_of(alloc: Global, scopes: &Scopes<'_>) -> Result<Result<Counts, Broken>, NoMemory>
     ensures { IfOk result (IsJudged scopes.now.trees.now) }
 {
     match broken_declarations(alloc, scopes)? {
-        Some(b) => Ok(Some(b)),
+        Some(b) => Ok(Err(b)),
         None => told_of_bodies(alloc, scopes),
     }
 }
 
-/// Of the rules that a protocol with these trees breaks the one that is told, or `None` where it keeps them all.
-pub fn told(alloc: Global, trees: &[Tree]) -> Result<Option<Broken>, NoMemory>
+/// How much the protocol with these trees has, where it keeps all rules; else the one that is told of those that it breaks.
+pub fn told(alloc: Global, trees: &[Tree]) -> Result<Result<Counts, Broken>, NoMemory>
     ensures { IfOk result (IsJudged trees.now) }
 {
     let scopes = Scopes::new(alloc, trees)?;
@@ -59,11 +61,8 @@ fn accept(alloc: Global, trees: &[Tree]) -> Result<Counts, Refusal>
     ensures { MatchResult result (IsCounted trees.now) (λ r. IsPlanOf trees.now (Err r)) }
 {
     match told(alloc, trees) {
-        Ok(None) => match counted(alloc, trees) {
-            Ok(counts) => Ok(counts),
-            Err(NoMemory) => Err(Refusal::NoMemory),
-        },
-        Ok(Some(b)) => Err(refusal(b)),
+        Ok(Ok(counts)) => Ok(counts),
+        Ok(Err(b)) => Err(refusal(b)),
         Err(NoMemory) => Err(Refusal::NoMemory),
     }
 }
