@@ -23,7 +23,7 @@ fn status_line(alloc: Global, status: u8) -> Result<Text, NoMemory>
 }
 
 /// What is printed of a call, by its text and its status.
-pub fn row_of(alloc: Global, call: &str, text: &[u8], status: u8) -> Result<Text, NoMemory>
+pub(crate) fn row_of(alloc: Global, call: &str, text: &[u8], status: u8) -> Result<Text, NoMemory>
     ensures { IfOk result (λ row. row ≡ row_of_call call.now text.now status) }
 {
     let last = status_line(alloc, status)?;

@@ -47,7 +47,7 @@ fn row<R: Threads + Wait + Sync, L: Library>(
 
 /// Makes the call that is in each line of a list, over a library, and writes the rows to a sink, until one isn't written whole.
 /// A line without a word, and one whose first word begins with `#`, are no calls. It answers whether all rows were written.
-pub fn write_rows<R: Threads + Wait + Sync, L: Library, S: Sink>(
+pub(crate) fn write_rows<R: Threads + Wait + Sync, L: Library, S: Sink>(
     rt: &R,
     alloc: Global,
     calls: &str,

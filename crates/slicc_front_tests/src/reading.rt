@@ -5,7 +5,7 @@ use slicc_parse::parse;
 use std::alloc::Global;
 
 /// The tree of one file.
-pub fn tree_of(alloc: Global, file: u16, text: &[u8]) -> Option<Tree> {
+pub(crate) fn tree_of(alloc: Global, file: u16, text: &[u8]) -> Option<Tree> {
     if text.len() > 1_048_576 {
         return None;
     }
