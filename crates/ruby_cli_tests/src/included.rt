@@ -1,4 +1,4 @@
-// Calls over protocols of several files.
+// Calls over protocols of several files, of which one read fails: it is told, or comes after all that are made.
 use ruby_base::{NoMemory, Seq, Text};
 use ruby_cli::ruby;
 use ruby_outside::{MemLibrary, MemSink, OpenGate};
@@ -19,12 +19,6 @@ const INTERFACES: Files = &[(
     "include \"RubySlicc_interfaces.slicc\"; enumeration(E) { x; }",
 )];
 
-const IN_FOLDERS: Files = &[
-    ("c/d/m.sm", "include \"a\";"),
-    ("c/d/a", "include \"e/b\";"),
-    ("c/d/e/b", "include \"gone.sm\";"),
-];
-
 const SEVERAL: Files = &[
     ("m.sm", "include \"a\"; include \"b\"; include \"c\";"),
     ("a", "include \"c\"; include \"m.sm\";"),
@@ -32,51 +26,18 @@ const SEVERAL: Files = &[
     ("c", "enumeration(C) { x; }"),
 ];
 
-const BAD_BYTE: Files = &[
-    ("m.sm", "include \"a\"; ?"),
-    ("a", "enumeration(E) {\n  ? }"),
-];
-
-const BAD_BYTE_LATER: Files = &[("m.sm", "include \"a\";"), ("a", "enumeration(E) {\n  ? }")];
-
-const BAD_TOKEN: Files = &[("m.sm", "include \"a\";"), ("a", "\nenumeration(E) { x, }")];
-
-const DECLARED_TWICE: Files = &[
-    ("m.sm", "include \"a\"; structure(S) { }"),
-    ("a", "\nstructure(S) { }"),
-];
-
-/// Two transitions of a pair, and an unknown type after them.
-const TWO_RULES: Files = &[(
-    "m.sm",
-    "machine(M, \"m\") : { state_declaration(State) { A, AccessPermission:Busy; } enumeration(Event) { Go; } transition(A, Go) { } transition(A, Go) { } Nope f() { } }",
-)];
-
 /// The files, the failing read, the protocol, the status, and what is written.
 type Row<'a> = (Files<'a>, u64, &'a str, u8, &'a str);
 
 const ROWS: &[Row] = &[
-    (GONE, 99, "m.sm", 6, "absent gone.sm\n"),
     (GONE, 2, "m.sm", 5, "library fault gone.sm\n"),
     (GONE, 1, "m.sm", 5, "library fault m.sm\n"),
     (ITSELF, 2, "m.sm", 3, "refused m.sm:1:38 R18\n"),
     (INTERFACES, 2, "m.sm", 3, "refused m.sm:1:60 R18\n"),
-    (IN_FOLDERS, 99, "c/d/m.sm", 6, "absent c/d/gone.sm\n"),
     (SEVERAL, 2, "m.sm", 5, "library fault a\n"),
     (SEVERAL, 3, "m.sm", 5, "library fault c\n"),
     (SEVERAL, 4, "m.sm", 5, "library fault b\n"),
     (SEVERAL, 5, "m.sm", 3, "refused m.sm:1:39 R18\n"),
-    (
-        DECLARED_TWICE,
-        99,
-        "m.sm",
-        3,
-        "refused a:2:11 R1 also m.sm:1:24\n",
-    ),
-    (TWO_RULES, 99, "m.sm", 3, "refused m.sm:1:147 R2\n"),
-    (BAD_BYTE, 99, "m.sm", 3, "refused m.sm:1:14 L1\n"),
-    (BAD_BYTE_LATER, 99, "m.sm", 3, "refused a:2:3 L1\n"),
-    (BAD_TOKEN, 99, "m.sm", 3, "refused a:2:21 P1\n"),
 ];
 
 fn library(alloc: Global, files: Files, fails: u64) -> Result<MemLibrary, NoMemory> {
@@ -115,30 +76,5 @@ fn reads_each_file_once_and_depth_first(rt: HostRuntime) -> Result<(), Fail> {
         let answer = answered(&rt, rt.alloc(), &mut library, row.2, row.4)?;
         assert_eq!(rt; answer, (row.3, true), "{}", row.4);
     }
-    Ok(())
-}
-
-/// So many files, each of which includes the next one.
-fn chain(alloc: Global, count: u64) -> Result<MemLibrary, NoMemory> {
-    let mut all = Seq::new(alloc);
-    for i in 0..count {
-        let name = format!(in alloc; "f{i}")?;
-        let next = if i < count - 1 { i + 1 } else { 0 };
-        let line = format!(in alloc; "\n include \"f{next}\";")?;
-        let name = Text::copied(alloc, name.as_bytes())?;
-        let bytes = Text::copied(alloc, line.as_bytes())?;
-        all.push((name, bytes))?;
-    }
-    Ok(MemLibrary::new(alloc, all, Seq::new(alloc)))
-}
-
-#[test]
-fn takes_64_files_and_not_one_more(rt: HostRuntime) -> Result<(), Fail> {
-    let mut library = chain(rt.alloc(), 64)?;
-    let answer = answered(&rt, rt.alloc(), &mut library, "f0", "refused f0:2:15 R18\n")?;
-    assert_eq!(rt; answer, (3, true));
-    let mut library = chain(rt.alloc(), 65)?;
-    let answer = answered(&rt, rt.alloc(), &mut library, "f0", "refused f63:2:2 R3\n")?;
-    assert_eq!(rt; answer, (3, true));
     Ok(())
 }

@@ -1,7 +1,16 @@
-//! Files that come to a plan, and plans of one protocol.
+//! What no printed text shows of a protocol: whether two are the same, what is known of its names, transitions and tables, and the
+//! parts of a machine of the small form. And how many of a sort there may be, where the text is long.
 #![tactic(auto)]
 
 #[cfg(test)]
+mod limits;
+#[cfg(test)]
+mod machine;
+#[cfg(test)]
 mod msi;
+#[cfg(test)]
+mod reading;
+#[cfg(test)]
+mod tables;
 #[cfg(test)]
 mod tests;

@@ -5,12 +5,12 @@ use crate::msi::MSI;
 use ruby_base::{NoMemory, Seq, Text};
 use ruby_outside::MemLibrary;
 use slicc_front::{Front, front};
-use slicc_plan::{Counts, Plan, copy_plan, counts, same_plan};
+use slicc_plan::{Plan, copy_plan, same_plan};
 use std::alloc::Global;
 use std::test::Fail;
 
 /// The ticker.
-const TICK: &str = "machine(MachineType:Node, \"ticker\")
+pub(crate) const TICK: &str = "machine(MachineType:Node, \"ticker\")
   : MessageBuffer * mandatoryQueue;
 {
   state_declaration(State, desc=\"states\", default=\"Node_State_A\") {
@@ -78,14 +78,14 @@ const HALF: &str = "machine(MachineType:Node, \"ticker\")
 /// The ticker's file, which includes another.
 const INCLUDING: &str = "include \"other.sm\";";
 
-fn name(alloc: Global, text: &str) -> Result<Text, NoMemory>
+pub(crate) fn name(alloc: Global, text: &str) -> Result<Text, NoMemory>
     ensures { IfOk result (λ name. IsUtf8 name) }
 {
     Text::copied(alloc, text.as_bytes())
 }
 
 /// The library of `p.sm` with this text, and of `other.sm`, which is the ticker.
-fn library(alloc: Global, text: &str) -> Result<MemLibrary, NoMemory> {
+pub(crate) fn library(alloc: Global, text: &str) -> Result<MemLibrary, NoMemory> {
     let mut files = Seq::new(alloc);
     files.push((name(alloc, "p.sm")?, name(alloc, text)?))?;
     files.push((name(alloc, "other.sm")?, name(alloc, TICK)?))?;
@@ -144,33 +144,5 @@ fn plans_of_one_protocol_are_the_same(rt: HostRuntime) -> Result<(), Fail> {
         assert_eq!(rt; same, row.2);
     }
     assert_eq!(rt; is_same_as_copy(rt.alloc(), MSI)?, true);
-    Ok(())
-}
-
-/// How much there is in the protocol with this text, nothing where it isn't accepted.
-fn counted(alloc: Global, text: &str) -> Result<Counts, NoMemory> {
-    match plan_of(alloc, text)? {
-        None => Ok(Counts {
-            machines: 0,
-            states: 0,
-            events: 0,
-            pairs: 0,
-        }),
-        Some(plan) => Ok(counts(&plan)),
-    }
-}
-
-#[test]
-fn protocols_have_these_counts(rt: HostRuntime) -> Result<(), Fail> {
-    let msi = counted(rt.alloc(), MSI)?;
-    assert_eq!(rt;
-        (msi.machines, msi.states, msi.events, msi.pairs),
-        (2, 11, 10, 32)
-    );
-    let half = counted(rt.alloc(), HALF)?;
-    assert_eq!(rt;
-        (half.machines, half.states, half.events, half.pairs),
-        (1, 2, 1, 1)
-    );
     Ok(())
 }

@@ -1,12 +1,11 @@
 ghost use Rattle.std.specs.Prelude.{◌≤◌, length};
 
-use crate::fault_rows::{NESTS, Nest, REFUSED};
 use crate::read_rows::READ;
 use slicc_ast::spans;
 use slicc_ast::tree::{Span, Tree};
 use slicc_lex::lex;
 use slicc_parse::{SyntaxFault, parse};
-use std::alloc::{AllocError, Global};
+use std::alloc::Global;
 use std::test::Fail;
 
 fn is_span(span: &Span, place: &[u32]) -> bool {
@@ -47,61 +46,9 @@ fn is_read(alloc: Global, row: &(&[u8], &[u32])) -> bool {
     }
 }
 
-/// Whether the text is read, where there is no fault, or has this one.
-fn is_answer(alloc: Global, text: &[u8], fault: Option<SyntaxFault>) -> bool {
-    if text.len() > 1_048_576 {
-        return false;
-    }
-    match (parsed(alloc, text), fault) {
-        (Some(Ok(_)), None) => true,
-        (Some(Err(found)), Some(expected)) => found == expected,
-        _ => false,
-    }
-}
-
-fn nested(alloc: Global, row: &Nest) -> Result<Vec<u8>, AllocError> {
-    let mut text = Vec::new(alloc);
-    text.extend_from_slice(row.before)?;
-    for _ in 0..row.count {
-        text.extend_from_slice(row.opening)?;
-    }
-    text.extend_from_slice(row.inside)?;
-    for _ in 0..row.count {
-        text.extend_from_slice(row.closing)?;
-    }
-    text.extend_from_slice(row.behind)?;
-    Ok(text)
-}
-
-fn is_nested(alloc: Global, row: &Nest) -> bool {
-    match nested(alloc, row) {
-        Ok(text) => is_answer(alloc, text.as_slice(), row.fault),
-        Err(_) => false,
-    }
-}
-
 #[test]
 fn each_text_has_the_spans_of_its_row(rt: HostRuntime) -> Result<(), Fail> {
     let alloc = rt.alloc();
     assert_eq!(rt; READ.iter().position(|row| !is_read(alloc, row)), None);
-    Ok(())
-}
-
-#[test]
-fn each_text_is_refused_at_the_token_of_its_row(rt: HostRuntime) -> Result<(), Fail> {
-    let alloc = rt.alloc();
-    assert_eq!(rt;
-        REFUSED
-            .iter()
-            .position(|row| !is_answer(alloc, row.0, Some(row.1))),
-        None
-    );
-    Ok(())
-}
-
-#[test]
-fn each_text_nests_as_deep_as_its_row_says(rt: HostRuntime) -> Result<(), Fail> {
-    let alloc = rt.alloc();
-    assert_eq!(rt; NESTS.iter().position(|row| !is_nested(alloc, row)), None);
     Ok(())
 }
