@@ -3,13 +3,13 @@ ghost use Rattle.std.specs.Prelude.{◌≡◌, ◌↔◌, ◌^◌, ◌<◌, IsTr
 ghost use Rattle.ctl_face.specs.LocalView.{SameScan};
 
 use crate::came::{Came, count, done, first, found, reference, refused, value};
-use crate::node::one_field;
 use ctl_face::{
     Block, Fields, Local, MachineSetup, NoMemory, Ref, Value, deallocates, has_field, is_cache,
     is_tbe_table, looks_up, receives, sends, takes_field, takes_message,
 };
 use ctl_store::Draft;
 use ruby_value::NetDest;
+use sample_controllers::one_field;
 use std::alloc::Global;
 
 /// A local that shows what its machine is to it, so that what its calls require can be tested.

@@ -1,9 +1,7 @@
 // The machine and the routes on which the tests run: a controller of number 54 among 64, all of one machine.
-use ctl_face::{
-    BufferPlace, BufferSetup, Fields, MachineSetup, NoMemory, Routes, Seq, TableSetup, TableSize,
-    Value,
-};
+use ctl_face::{BufferPlace, MachineSetup, NoMemory, Routes, TableSize};
 use ruby_value::Kind;
+use sample_controllers::{BufferRow, MachineRow, Network, TableRow};
 use std::alloc::Global;
 
 pub(crate) const ME: u32 = 54;
@@ -36,117 +34,105 @@ pub(crate) const ORDERED_IN: u16 = 5;
 
 pub(crate) const NOWHERE: u16 = 6;
 
-/// The fields that have this value alone.
-pub(crate) fn one_field(alloc: Global, value: Value) -> Result<Fields, NoMemory> {
-    let mut values = Vec::new(alloc);
-    values.push(value)?;
-    Ok(Fields::of(values))
-}
+const PARAMETERS_TABLE: TableRow = TableRow {
+    size: TableSize::Parameters,
+    structure: 7,
+    kinds: &[Kind::Int],
+    first: Some(40),
+};
 
-fn table(
-    alloc: Global,
-    structure: u16,
-    size: TableSize,
-    initial: i64,
-) -> Result<TableSetup, NoMemory> {
-    Ok(TableSetup {
-        structure,
-        size,
-        kinds: Seq::copied(alloc, &[Kind::Int])?,
-        initial: one_field(alloc, Value::Int(initial))?,
-    })
-}
+const TABLES: &[TableRow] = &[
+    TableRow {
+        size: TableSize::Cache { sets: 1, ways: 2 },
+        structure: 4,
+        first: None,
+        ..PARAMETERS_TABLE
+    },
+    TableRow {
+        size: TableSize::Directory,
+        structure: 5,
+        first: Some(7),
+        ..PARAMETERS_TABLE
+    },
+    TableRow {
+        size: TableSize::Tbe { entries: 1 },
+        structure: 6,
+        first: None,
+        ..PARAMETERS_TABLE
+    },
+    PARAMETERS_TABLE,
+];
 
-fn tables(alloc: Global) -> Result<Seq<TableSetup>, NoMemory> {
-    let mut all = Seq::new(alloc);
-    for (structure, size, initial) in [
-        (4, TableSize::Cache { sets: 1, ways: 2 }, 0),
-        (5, TableSize::Directory, 7),
-        (6, TableSize::Tbe { entries: 1 }, 0),
-        (7, TableSize::Parameters, 40),
-    ] {
-        all.push(table(alloc, structure, size, initial)?)?;
-    }
-    Ok(all)
-}
+const LOCAL: BufferRow = BufferRow {
+    place: BufferPlace::Local,
+    ordered: false,
+    kinds: &[Kind::Addr],
+};
 
-const fn to(network: u16) -> BufferPlace {
-    BufferPlace::To {
-        network,
+// A buffer of messages that name their receivers.
+const TO_NOWHERE: BufferRow = BufferRow {
+    place: BufferPlace::To {
+        network: 2,
         destination: Some(0),
-    }
-}
+    },
+    ordered: false,
+    kinds: &[Kind::Dest],
+};
 
-fn buffers(alloc: Global) -> Result<Seq<BufferSetup>, NoMemory> {
-    let mut all = Seq::new(alloc);
-    for (place, ordered, kind) in [
-        (BufferPlace::Local, false, Kind::Addr),
-        (BufferPlace::Local, true, Kind::Addr),
-        (to(0), false, Kind::Dest),
-        (BufferPlace::From { network: 0 }, false, Kind::Dest),
-        (to(1), true, Kind::Dest),
-        (BufferPlace::From { network: 1 }, true, Kind::Dest),
-        (to(2), false, Kind::Dest),
-    ] {
-        let kinds = Seq::copied(alloc, &[kind])?;
-        all.push(BufferSetup {
-            place,
-            ordered,
-            kinds,
-        })?;
-    }
-    Ok(all)
-}
+const BUFFERS: &[BufferRow] = &[
+    LOCAL,
+    BufferRow {
+        ordered: true,
+        ..LOCAL
+    },
+    BufferRow {
+        place: BufferPlace::To {
+            network: 0,
+            destination: Some(0),
+        },
+        ..TO_NOWHERE
+    },
+    BufferRow {
+        place: BufferPlace::From { network: 0 },
+        ..TO_NOWHERE
+    },
+    BufferRow {
+        place: BufferPlace::To {
+            network: 1,
+            destination: Some(0),
+        },
+        ordered: true,
+        ..TO_NOWHERE
+    },
+    BufferRow {
+        place: BufferPlace::From { network: 1 },
+        ordered: true,
+        ..TO_NOWHERE
+    },
+    TO_NOWHERE,
+];
+
+const MACHINE: MachineRow = MachineRow {
+    tables: TABLES,
+    buffers: BUFFERS,
+    default_state: Some(9),
+    has_sequencer: true,
+};
 
 /// What the machine is to its controllers.
 pub(crate) fn machine(alloc: Global) -> Result<MachineSetup, NoMemory> {
-    Ok(MachineSetup {
-        tables: tables(alloc)?,
-        buffers: buffers(alloc)?,
-        default_state: Some(9),
-        has_sequencer: true,
-    })
+    sample_controllers::machine(alloc, &MACHINE)
 }
 
-// The path to oneself is 0, and each other one 3.
-fn paths_from(alloc: Global, sender: u32) -> Result<Seq<u64>, NoMemory> {
-    let mut from = Seq::new(alloc);
-    for receiver in 0..COUNT {
-        from.push(if sender == receiver { 0 } else { 3 })?;
-    }
-    Ok(from)
-}
-
-fn paths(alloc: Global) -> Result<Seq<Seq<u64>>, NoMemory> {
-    let mut all = Seq::new(alloc);
-    for sender in 0..COUNT {
-        all.push(paths_from(alloc, sender)?)?;
-    }
-    Ok(all)
-}
-
-fn receiving(alloc: Global) -> Result<Seq<Seq<Option<u16>>>, NoMemory> {
-    let mut all = Seq::new(alloc);
-    for _controller in 0..COUNT {
-        all.push(Seq::copied(alloc, &[Some(IN), Some(ORDERED_IN)])?)?;
-    }
-    Ok(all)
-}
-
-fn ordered(alloc: Global) -> Result<Seq<bool>, NoMemory> {
-    let mut all = Seq::new(alloc);
-    for network in 0..16u16 {
-        all.push(network == 1)?;
-    }
-    Ok(all)
-}
+const RECEIVING: &[Option<u16>] = &[Some(IN), Some(ORDERED_IN)];
 
 /// The routes, with this much jitter.
 pub(crate) fn routes(alloc: Global, jitter: u64) -> Result<Routes, NoMemory> {
-    Ok(Routes {
-        paths: paths(alloc)?,
+    let network = Network {
+        own_path: 0,
+        path: 3,
         jitter,
-        ordered: ordered(alloc)?,
-        receiving: receiving(alloc)?,
-    })
+        in_order: true,
+    };
+    sample_controllers::routes(alloc, &network, &[RECEIVING; COUNT as usize])
 }

@@ -8,9 +8,10 @@ use crate::calls::of_line;
 use crate::node::{COUNT, ME, QUEUE, machine, routes};
 use crate::scans::{FIRST_CYCLE, Scan, first_wrong};
 use crate::told::Wrong;
-use ctl_face::{Fields, Message, Routes, has_routes, is_machine, receives, takes_message};
+use ctl_face::{Routes, has_routes, is_machine, receives, takes_message};
 use ctl_store::Store;
 use ruby_value::{Ask, Asked, MsgNo};
+use sample_controllers::message;
 use std::alloc::Global;
 use std::process::Abort;
 use std::test::Fail;
@@ -25,25 +26,6 @@ pub(crate) struct Play {
     pub(crate) scans: &'static [Scan],
     /// Of each answer its line and the byte at offset 5.
     pub(crate) answers: &'static [(u64, u8)],
-}
-
-// A message of a driver.
-fn message(fields: Fields, count: u64, arrival: u64) -> Message
-    ensures sender { result.number.sender ≡ COUNT }
-    ensures count { result.number.count ≡ count }
-    ensures buffer { result.buffer ≡ QUEUE }
-    ensures fields { result.fields ≡ fields }
-{
-    Message {
-        number: MsgNo {
-            sender: COUNT,
-            count,
-        },
-        buffer: QUEUE,
-        arrival,
-        recycled: false,
-        fields,
-    }
 }
 
 // Whether a message could be taken in, of a count that is above those of all messages.
@@ -66,7 +48,11 @@ fn is_delivered(alloc: Global, store: &mut Store, count: u64, arrival: u64) -> b
     if store.room(1).is_err() {
         return false;
     }
-    store.arrive(message(fields, count, arrival));
+    let number = MsgNo {
+        sender: COUNT,
+        count,
+    };
+    store.arrive(message(number, QUEUE, arrival, fields));
     true
 }
 
@@ -180,10 +166,11 @@ fn wrong_in_play<R: Abort>(
 }
 
 /// Plays from the beginning of a run on.
-pub(crate) fn played<R: Abort>(rt: &R, alloc: Global, play: &Play) -> Result<(), Fail> {
+pub(crate) fn played<R: Abort>(rt: &R, alloc: Global, name: &str, play: &Play) -> Result<(), Fail> {
     let routes = routes(alloc, play.jitter)?;
     let mut store = opened(rt, alloc)?;
-    assert_eq!(rt; wrong_in_play(rt, alloc, &mut store, &routes, play), None);
-    assert!(rt; has_answers(&mut store, play.answers));
+    let wrong = wrong_in_play(rt, alloc, &mut store, &routes, play);
+    assert!(rt; wrong.is_none(), "{name}: {wrong:?}");
+    assert!(rt; has_answers(&mut store, play.answers), "{name}");
     Ok(())
 }

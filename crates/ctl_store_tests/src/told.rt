@@ -39,7 +39,7 @@ pub(crate) struct Told {
 }
 
 /// What isn't as it must be.
-#[derive(Clone, Copy, Debug, PartialEq, Eq)]
+#[derive(Clone, Copy, Debug)]
 pub(crate) enum Wrong {
     /// The call at this place, among those before the others.
     Before(usize),

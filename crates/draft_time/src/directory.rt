@@ -1,8 +1,7 @@
 // A machine like a directory of a protocol with three states, and the routes of a controller that is alone.
-use ctl_face::{
-    BufferPlace, BufferSetup, MachineSetup, NoMemory, Routes, Seq, TableSetup, TableSize,
-};
+use ctl_face::{BufferPlace, MachineSetup, NoMemory, Routes, TableSize};
 use ruby_value::{Block, Fields, Kind, NetDest, Value};
+use sample_controllers::{BufferRow, MachineRow, Network, TableRow};
 use std::alloc::Global;
 
 /// The controller's actor number, which has no other beside it.
@@ -34,99 +33,66 @@ pub(crate) fn message(alloc: Global, line: u64, requestor: u32) -> Result<Fields
     Ok(Fields::of(values))
 }
 
-fn message_kinds(alloc: Global) -> Result<Seq<Kind>, NoMemory> {
-    Seq::copied(
-        alloc,
-        &[
-            Kind::Addr,
-            Kind::Enum(10, 0),
-            Kind::Machine,
-            Kind::Dest,
-            Kind::Block,
-        ],
-    )
-}
+const FROM_NETWORK: BufferRow = BufferRow {
+    place: BufferPlace::From { network: 1 },
+    ordered: false,
+    kinds: &[
+        Kind::Addr,
+        Kind::Enum(10, 0),
+        Kind::Machine,
+        Kind::Dest,
+        Kind::Block,
+    ],
+};
 
-fn lines(alloc: Global) -> Result<TableSetup, NoMemory> {
-    let kinds = Seq::copied(
-        alloc,
-        &[
-            Kind::Enum(11, 0),
-            Kind::Dest,
-            Kind::Machine,
-            Kind::Int,
-            Kind::Block,
-        ],
-    )?;
-    let initial = Fields::of_kinds(alloc, &kinds)?;
-    Ok(TableSetup {
-        size: TableSize::Directory,
-        structure: 3,
-        kinds,
-        initial,
-    })
-}
-
-fn parameters(alloc: Global) -> Result<TableSetup, NoMemory> {
-    let kinds = Seq::copied(alloc, &[Kind::Int])?;
-    let initial = Fields::of_kinds(alloc, &kinds)?;
-    Ok(TableSetup {
-        size: TableSize::Parameters,
-        structure: 4,
-        kinds,
-        initial,
-    })
-}
+const DIRECTORY: MachineRow = MachineRow {
+    tables: &[
+        TableRow {
+            size: TableSize::Directory,
+            structure: 3,
+            kinds: &[
+                Kind::Enum(11, 0),
+                Kind::Dest,
+                Kind::Machine,
+                Kind::Int,
+                Kind::Block,
+            ],
+            first: None,
+        },
+        TableRow {
+            size: TableSize::Parameters,
+            structure: 4,
+            kinds: &[Kind::Int],
+            first: None,
+        },
+    ],
+    buffers: &[
+        FROM_NETWORK,
+        BufferRow {
+            place: BufferPlace::To {
+                network: 1,
+                destination: Some(3),
+            },
+            ordered: true,
+            ..FROM_NETWORK
+        },
+    ],
+    default_state: None,
+    has_sequencer: false,
+};
 
 /// The directory's machine.
 pub(crate) fn directory(alloc: Global) -> Result<MachineSetup, NoMemory> {
-    let mut tables = Seq::new(alloc);
-    tables.push(lines(alloc)?)?;
-    tables.push(parameters(alloc)?)?;
-    let mut buffers = Seq::new(alloc);
-    buffers.push(BufferSetup {
-        place: BufferPlace::From { network: 1 },
-        ordered: false,
-        kinds: message_kinds(alloc)?,
-    })?;
-    buffers.push(BufferSetup {
-        place: BufferPlace::To {
-            network: 1,
-            destination: Some(3),
-        },
-        ordered: true,
-        kinds: message_kinds(alloc)?,
-    })?;
-    Ok(MachineSetup {
-        tables,
-        buffers,
-        default_state: None,
-        has_sequencer: false,
-    })
-}
-
-fn receiving(alloc: Global) -> Result<Seq<Seq<Option<u16>>>, NoMemory> {
-    let mut all = Seq::new(alloc);
-    all.push(Seq::copied(alloc, &[None, Some(INCOMING)])?)?;
-    Ok(all)
-}
-
-fn ordered(alloc: Global) -> Result<Seq<bool>, NoMemory> {
-    let mut all = Seq::new(alloc);
-    for network in 0..16_u16 {
-        all.push(network == 1)?;
-    }
-    Ok(all)
+    sample_controllers::machine(alloc, &DIRECTORY)
 }
 
 /// The routes: what the controller sends on network 1, which is ordered, comes to itself.
 pub(crate) fn routes(alloc: Global) -> Result<Routes, NoMemory> {
-    let mut paths = Seq::new(alloc);
-    paths.push(Seq::copied(alloc, &[0])?)?;
-    Ok(Routes {
-        paths,
+    let network = Network {
+        own_path: 0,
+        path: 0,
         jitter: 0,
-        ordered: ordered(alloc)?,
-        receiving: receiving(alloc)?,
-    })
+        in_order: true,
+    };
+    sample_controllers::routes(alloc, &network, &[&[None, Some(INCOMING)]])
 }

@@ -1,0 +1,15 @@
+//! Texts, and what is read in them: their tokens, declarations, expressions and blocks, or the first fault.
+#![tactic(auto)]
+
+#[cfg(test)]
+mod blocks;
+#[cfg(test)]
+mod declarations;
+#[cfg(test)]
+mod expressions;
+#[cfg(test)]
+mod refusals;
+#[cfg(test)]
+mod texts;
+#[cfg(test)]
+mod tokens;

@@ -1,0 +1,20 @@
+ghost use Rattle.std.specs.Prelude.{◌≤◌, length, IfSome};
+ghost use Rattle.slicc_lex.specs.Syntax.{AreEnded};
+
+use ruby_base::Seq;
+use slicc_lex::{Token, lex};
+use std::alloc::Global;
+
+/// The tokens of a text that is small enough, if it has no fault.
+pub(crate) fn tokens_of(alloc: Global, text: &[u8]) -> Option<Seq<Token>>
+    ensures ended { IfSome result (λ tokens. AreEnded tokens) }
+    ensures size { IfSome result (λ tokens. length tokens ≤ 1048577) }
+{
+    if text.len() > 1_048_576 {
+        return None;
+    }
+    match lex(alloc, 0, text) {
+        Ok(tokens) => Some(tokens),
+        Err(_) => None,
+    }
+}

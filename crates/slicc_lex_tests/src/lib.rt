@@ -1,5 +1,0 @@
-//! Texts and their tokens or faults.
-#![tactic(auto)]
-
-#[cfg(test)]
-mod tests;
