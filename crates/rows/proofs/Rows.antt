@@ -1,5 +1,5 @@
 -- The row of a call, from what the call did with its sink and from what is printed of it.
-use Rattle.std.proofs.Common.{◌≡◌, ℕ, List, [], Result, Ok, Err, IfOk, tt, subst, ap, ◌∙◌}
+use Rattle.std.proofs.Common.{◌≡◌, ℕ, List, [], Result, Ok, Err, IfOk, subst, ap, ◌∙◌}
 use Rattle.ruby_outside.specs.declared.library.Got.{Got}
 use Rattle.ruby_outside.specs.Plan.{begun}
 use Rattle.ruby_outside.specs.Sink.{SinkState, IsPlannedWrite}
