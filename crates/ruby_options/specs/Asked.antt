@@ -1,7 +1,7 @@
 -- What the words of a command line ask for, which are those after the program's name: the options, or why there are none.
 -- Words that `clap` takes begin with a command of the table and as many names as it has; then each number is within its
 -- bounds. A generated protocol runs with the default of every option. All this is this project's own.
-use Rattle.std.specs.Prelude.{◌≡◌, ◌⊎◌, ◌==◌, ◌&&◌, ℕ, Bool, true, false, Option, Some, None, Result, Ok, Err, List, [], length, find, codes, is_some, slice_get, unwrap_or, option_and_then, option_map, if◌then◌else◌}
+use Rattle.std.specs.Prelude.{◌≡◌, ◌⊎◌, ◌==◌, ◌&&◌, ℕ, Bool, true, false, Option, Some, None, Result, Ok, Err, List, [], length, find, codes, is_some, slice_get, unwrap_or, option_and_then, option_map, map, if◌then◌else◌}
 use Rattle.std.specs.List.{list_all}
 use Rattle.std.specs.Option.{option_map_or}
 use Rattle.std.specs.Str.{bytes_eq}
@@ -13,7 +13,7 @@ use Rattle.ruby_options.specs.declared.options.OptionFault.{OptionFault}
 use Rattle.ruby_options.specs.declared.options.OptionFault.TheVariants.{Words, Range, NoMemory}
 use Rattle.ruby_options.specs.declared.tables.TheConstants.{COMMAND, COMMANDS, NAMES, NUMBERS, REQUESTS, GENERATED, SEED, CHECKS, LINES, CYCLES, WORKERS, DEADLOCK, LIMIT}
 use Rattle.ruby_options.specs.CommandLine.{found_in, is_taken, line_of}
-use Rattle.ruby_options.specs.Numbers.{are_digits, number_in, number_of, number_within, trace_in}
+use Rattle.ruby_options.specs.Numbers.{are_digits, number_in, number_of, number_within, option_row, trace_in}
 
 -- ---- the command and its names
 
@@ -26,10 +26,13 @@ abbrev pub by_names : Command → List Text → Command
 by_names Run names = if are_digits (name_at names 1) then Plain else Run
 by_names command names = command
 
--- the command of the table with this word and so many names
-abbrev pub command_named : Text → ℕ → Option Command
-command_named word count =
-    option_map (λ row. row.2) (find (λ row. bytes_eq row.0.now word && (row.1 == count)) COMMANDS)
+-- the command of these rows with this word and so many names
+abbrev pub command_among : List (Text × ℕ × Command) → Text → ℕ → Option Command
+command_among rows word count =
+    option_map (λ row. row.2) (find (λ row. bytes_eq row.0 word && (row.1 == count)) rows)
+
+unfoldable pub command_named : Text → ℕ → Option Command
+command_named word count = command_among (map (λ row. (row.0.now, row.1, row.2)) COMMANDS) word count
 
 -- no words ask for compiled code, as long as there is none
 abbrev pub is_there : Command → Bool
@@ -65,11 +68,13 @@ counting command found = found
 
 -- all work is done by the calling thread, as long as there are no workers
 abbrev pub has_no_workers : List Row → Bool
-has_no_workers found = number_of found WORKERS == 0
+has_no_workers found = number_of found (option_row WORKERS) == 0
 
-abbrev pub are_in_range : List Row → Bool
-are_in_range found =
-    list_all (λ o. is_some (number_in found o)) NUMBERS && (is_some (trace_in found) && has_no_workers found)
+unfoldable pub numbers_in_range : List Row → Bool
+numbers_in_range found = list_all (λ o. is_some (number_in found (option_row o))) NUMBERS
+
+unfoldable pub are_in_range : List Row → Bool
+are_in_range found = numbers_in_range found && (is_some (trace_in found) && has_no_workers found)
 
 abbrev pub options_of : Command → List Text → ℕ → List Row → Options
 options_of command names count found =
@@ -78,14 +83,14 @@ options_of command names count found =
       protocol = protocol_of command names;
       topology = topology_of command names;
       count = count;
-      seed = number_of found SEED;
-      checks = number_of found CHECKS;
-      lines = number_of found LINES;
-      cycles = number_of found CYCLES;
-      workers = number_of found WORKERS;
+      seed = number_of found (option_row SEED);
+      checks = number_of found (option_row CHECKS);
+      lines = number_of found (option_row LINES);
+      cycles = number_of found (option_row CYCLES);
+      workers = number_of found (option_row WORKERS);
       trace = unwrap_or (trace_in found) true;
-      deadlock = number_of found DEADLOCK;
-      limit = number_of found LIMIT;
+      deadlock = number_of found (option_row DEADLOCK);
+      limit = number_of found (option_row LIMIT);
     }
 
 -- ---- what is asked
@@ -111,5 +116,5 @@ abbrev pub asked : List Text → Result Options OptionFault
 asked words = if is_taken (line_of words) then asked_of (found_in (line_of words)) else Err Words
 
 -- want of memory is the one answer that the words don't decide
-abbrev pub IsAsked : List Text → Result Options OptionFault → Type 0
-IsAsked words r = (r ≡ Err NoMemory) ⊎ (r ≡ asked words)
+abbrev pub IsRead : Result Options OptionFault → Result Options OptionFault → Type 0
+IsRead asked r = (r ≡ Err NoMemory) ⊎ (r ≡ asked)

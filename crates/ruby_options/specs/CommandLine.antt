@@ -2,7 +2,7 @@
 -- argument. The command has a positional argument for the command's word, a last one of one or more names, and an option
 -- with one value for each of the tables; `clap` adds a flag for help, which it always refuses. How `clap` reads a line, its
 -- own definitions say; the command is this project's own.
-use Rattle.std.specs.Prelude.{ℕ, Bool, Option, Some, None, List, [], ◌∷◌, ◌++◌, fold, map}
+use Rattle.std.specs.Prelude.{ℕ, Bool, Option, Some, None, List, [], ◌∷◌, fold, map}
 use Rattle.std.specs.Borrow.{Bor}
 use Rattle.clap.specs.Lexer.{usize_max}
 use Rattle.clap.specs.Walk.{Row, Rule, Text, is_empty, rows_of}
@@ -26,15 +26,13 @@ option_rule name = record (new_rule name) { long = Some name }
 abbrev pub with_option : App → Text → App
 with_option app name = with_rule app (option_rule name)
 
-abbrev pub option_names : List Text
-option_names = map (λ o. o.0.now) NUMBERS ++ TRACE.now ∷ []
-
--- without its options
+-- the command without its options
 abbrev pub named_command : App
 named_command = with_rule (with_rule (new_app PROGRAM.now) command_rule) names_rule
 
-abbrev pub ruby_command : App
-ruby_command = fold with_option named_command option_names
+-- with the options of the tables
+unfoldable pub ruby_command : App
+ruby_command = with_option (fold with_option named_command (map (λ o. o.0.now) NUMBERS)) TRACE.now
 
 -- the words behind the program's name
 abbrev pub line_of : List Text → List Text

@@ -4,7 +4,6 @@ use Rattle.std.specs.Prelude.{ℕ, Bool, true, false, Option, Some, None, List, 
 use Rattle.std.specs.List.{list_all}
 use Rattle.std.specs.Option.{option_map_or}
 use Rattle.std.specs.Str.{bytes_eq}
-use Rattle.std.specs.Borrow.{Bor}
 use Rattle.clap.specs.Walk.{Row, Text, first_of, is_empty}
 use Rattle.ruby_options.specs.declared.tables.TheConstants.{TRACE}
 
@@ -14,7 +13,11 @@ Between = ℕ × ℕ
 
 -- an option's name, the numbers that it may be, and its default
 abbrev pub OptionRow : Type 0
-OptionRow = Bor Text × Between × ℕ
+OptionRow = Text × Between × ℕ
+
+-- a row of the table as plain data
+abbrev pub option_row : record { now : Text } × Between × ℕ → OptionRow
+option_row o = (o.0.now, o.1, o.2)
 
 abbrev pub is_digit : ℕ → Bool
 is_digit c = nat_le 48 c && nat_le c 57
@@ -36,10 +39,10 @@ abbrev pub number_within : Between → Text → Option ℕ
 number_within bounds word = if is_number_within bounds word then Some (value_of word) else None
 
 -- the number that an option has by what was found, or none where its word is no number within its bounds
-abbrev pub number_in : List Row → OptionRow → Option ℕ
-number_in found o = option_map_or (number_within o.1) (first_of o.0.now found) (Some o.2)
+unfoldable pub number_in : List Row → OptionRow → Option ℕ
+number_in found o = option_map_or (number_within o.1) (first_of o.0 found) (Some o.2)
 
-abbrev pub number_of : List Row → OptionRow → ℕ
+unfoldable pub number_of : List Row → OptionRow → ℕ
 number_of found o = unwrap_or (number_in found o) o.2
 
 abbrev pub switch_of : Text → Option Bool
@@ -47,5 +50,5 @@ switch_of word =
     if bytes_eq word (codes "on") then Some true else (if bytes_eq word (codes "off") then Some false else None)
 
 -- whether a run is traced, or none where the option's word is neither `on` nor `off`
-abbrev pub trace_in : List Row → Option Bool
+unfoldable pub trace_in : List Row → Option Bool
 trace_in found = option_map_or switch_of (first_of TRACE.now found) (Some true)

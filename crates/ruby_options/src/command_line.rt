@@ -1,11 +1,11 @@
 // The command that clap is given, and its reading of a line.
-ghost use Rattle.std.specs.Prelude.{◌≡◌, ◌⊎◌, IfOk, MatchResult, true, false, map, string_bytes};
+ghost use Rattle.std.specs.Prelude.{◌≡◌, ◌⊎◌, IfOk, MatchResult, true, false, fold, map, string_bytes};
 ghost use Rattle.clap.specs.Matches.{found_of};
 ghost use Rattle.clap.specs.Simple.{app_of};
 ghost use Rattle.clap.specs.Walk.{rows_of};
-ghost use Rattle.ruby_options.specs.CommandLine.{found_in, is_taken, line_of, ruby_command, with_option};
+ghost use Rattle.ruby_options.specs.CommandLine.{found_in, is_taken, line_of, named_command, ruby_command, with_option};
 
-use crate::{COMMAND, NAMES, NUMBERS, NoMemory, OptionFault, PROGRAM, TRACE};
+use crate::{COMMAND, NAMES, NUMBERS, NoMemory, NumberOption, OptionFault, PROGRAM, TRACE};
 use clap::error::ErrorKind;
 use clap::{Arg, ArgMatches};
 use std::alloc::Global;
@@ -22,17 +22,34 @@ fn with_option<'a>(
     Ok(command.arg(option)?)
 }
 
+// A command with more options, one after the other.
+fn with_numbers<'a>(
+    alloc: Global,
+    mut command: clap::Command<'a>,
+    options: &[NumberOption],
+) -> Result<clap::Command<'a>, NoMemory>
+    ensures { IfOk result (λ c. app_of c ≡ fold with_option (app_of command.entry) (map (λ o. o.0.now) options.now)) }
+{
+    for option in options {
+        command = with_option(alloc, command, option.0)?;
+    }
+    Ok(command)
+}
+
+// The command of the program without its options.
+fn named_command<'a>(alloc: Global) -> Result<clap::Command<'a>, NoMemory>
+    ensures { IfOk result (λ c. app_of c ≡ named_command) }
+{
+    let command = clap::Command::new(alloc, PROGRAM).arg(Arg::new(alloc, COMMAND))?;
+    Ok(command.arg(Arg::new(alloc, NAMES).num_args(1..))?)
+}
+
 // The command of the program.
 fn ruby_command<'a>(alloc: Global) -> Result<clap::Command<'a>, NoMemory>
     ensures { IfOk result (λ c. app_of c ≡ ruby_command) }
 {
-    let names = Arg::new(alloc, NAMES).num_args(1..);
-    let mut command = clap::Command::new(alloc, PROGRAM)
-        .arg(Arg::new(alloc, COMMAND))?
-        .arg(names)?;
-    for option in &NUMBERS {
-        command = with_option(alloc, command, option.0)?;
-    }
+    let command = named_command(alloc)?;
+    let command = with_numbers(alloc, command, &NUMBERS)?;
     with_option(alloc, command, TRACE)
 }
 

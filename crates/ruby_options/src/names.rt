@@ -1,9 +1,9 @@
 // The command of a line, by its word and names, and what its names are.
 ghost use Rattle.std.specs.Prelude.{◌≡◌, map};
-ghost use Rattle.ruby_options.specs.Asked.{by_names, command_named, command_of, count_in, is_there, name_at, protocol_of, topology_of};
+ghost use Rattle.ruby_options.specs.Asked.{by_names, command_among, command_named, command_of, count_in, is_there, name_at, protocol_of, topology_of};
 
 use crate::numbers::{are_digits, number_within};
-use crate::{COMMANDS, Command, GENERATED, REQUESTS};
+use crate::{COMMANDS, Command, CommandRow, GENERATED, REQUESTS};
 
 // A name by its place, or the empty text where there is none.
 fn name_at<'a>(names: &[&'a str], place: usize) -> &'a str
@@ -80,14 +80,22 @@ impl Command {
     }
 }
 
-// The command of the table with this word and so many names.
-fn command_named(word: &str, names: usize) -> Option<Command>
-    ensures { result ≡ command_named word.now names }
+// The command of these rows with this word and so many names.
+fn command_among(rows: &[CommandRow], word: &str, names: usize) -> Option<Command>
+    ensures { result ≡ command_among (map (λ row. (row.0.now, row.1, row.2)) rows.now) word.now names }
 {
-    for (written, count, command) in &COMMANDS {
-        if *written == word && *count == names {
-            return Some(*command);
+    for row in rows {
+        if row.0 == word && row.1 == names {
+            return Some(row.2);
         }
     }
     None
+}
+
+// The command of the table with this word and so many names.
+#[tactic(auto, unfolding(crate::specs::Asked::command_named))]
+fn command_named(word: &str, names: usize) -> Option<Command>
+    ensures { result ≡ command_named word.now names }
+{
+    command_among(&COMMANDS, word, names)
 }

@@ -3,7 +3,7 @@ ghost use Rattle.std.specs.Prelude.{◌≡◌, ◌≤◌, ◌<◌, IfSome, IfNon
 ghost use Rattle.std.specs.List.{list_all};
 ghost use Rattle.clap.specs.Walk.{first_of};
 ghost use Rattle.ruby_options.specs.CommandLine.{rows_given};
-ghost use Rattle.ruby_options.specs.Numbers.{are_digits, is_digit, number_in, number_of, number_within, trace_in, value_of};
+ghost use Rattle.ruby_options.specs.Numbers.{are_digits, is_digit, number_in, number_of, number_within, switch_of, trace_in, value_of};
 
 use crate::{Bounds, NumberOption, TRACE};
 use clap::ArgMatches;
@@ -74,8 +74,9 @@ fn word_given<'a>(given: Option<&ArgMatches<'a>>, name: &str) -> Option<&'a str>
 
 /// An option's number: the one that is given, or its default. It is none where the word given is no number within the
 /// option's bounds.
+#[tactic(auto, unfolding(crate::specs::Numbers::number_in))]
 pub(crate) fn number_in(given: Option<&ArgMatches<'_>>, option: NumberOption) -> Option<u64>
-    ensures { result ≡ number_in (rows_given given.entry) option.entry }
+    ensures { result ≡ number_in (rows_given given.entry) (option.entry.0.now, option.entry.1, option.entry.2) }
 {
     let (name, bounds, default) = option;
     match word_given(given, name) {
@@ -85,22 +86,33 @@ pub(crate) fn number_in(given: Option<&ArgMatches<'_>>, option: NumberOption) ->
 }
 
 /// An option's number, or its default where the word given is no number within the option's bounds.
+#[tactic(auto, unfolding(crate::specs::Numbers::number_of))]
 pub(crate) fn number_of(given: Option<&ArgMatches<'_>>, option: NumberOption) -> u64
-    ensures { result ≡ number_of (rows_given given.entry) option.entry }
+    ensures { result ≡ number_of (rows_given given.entry) (option.entry.0.now, option.entry.1, option.entry.2) }
 {
     number_in(given, option).unwrap_or(option.2)
 }
 
+// The switch that a word is.
+fn switch_of(word: &str) -> Option<bool>
+    ensures { result ≡ switch_of word.now }
+{
+    if word.as_bytes() == b"on".as_slice() {
+        Some(true)
+    } else if word.as_bytes() == b"off".as_slice() {
+        Some(false)
+    } else {
+        None
+    }
+}
+
 /// Whether a run is traced: it is, where nothing else is given. It is none where the word given is neither `on` nor `off`.
+#[tactic(auto, unfolding(crate::specs::Numbers::trace_in))]
 pub(crate) fn trace_in(given: Option<&ArgMatches<'_>>) -> Option<bool>
     ensures { result ≡ trace_in (rows_given given.entry) }
 {
-    let Some(word) = word_given(given, TRACE) else {
-        return Some(true);
-    };
-    match word.as_bytes() {
-        b"on" => Some(true),
-        b"off" => Some(false),
-        _ => None,
+    match word_given(given, TRACE) {
+        None => Some(true),
+        Some(word) => switch_of(word),
     }
 }

@@ -57,6 +57,11 @@ pub enum OptionFault {
 }
 
 impl From<NoMemory> for OptionFault {
+    ghost use Rattle.ruby_options.specs.declared.options.OptionFault.TheVariants.{NoMemory as OutOfMemory};
+    ghost use Rattle.std.specs.Prelude.{◌≡◌};
+
+    ghost from_gives = { λ _ fault. fault ≡ OutOfMemory };
+
     fn from(_: NoMemory) -> OptionFault {
         OptionFault::NoMemory
     }

@@ -1,28 +1,58 @@
 // The options that words ask for.
-ghost use Rattle.std.specs.Prelude.{◌≡◌, ◌⊎◌, IfOk, map, string_bytes};
+ghost use Rattle.std.specs.Prelude.{◌≡◌, IfOk, is_some, map, string_bytes};
+ghost use Rattle.std.specs.List.{list_all};
 ghost use Rattle.clap.specs.Matches.{found_of};
 ghost use Rattle.clap.specs.Walk.{rows_of};
-ghost use Rattle.ruby_options.specs.Asked.{IsAsked, are_in_range, asked_of, counting, names_found, options_of, word_found};
+ghost use Rattle.ruby_options.specs.Asked.{IsRead, are_in_range, asked, asked_of, counting, has_no_workers, numbers_in_range, options_of, word_found};
 ghost use Rattle.ruby_options.specs.CommandLine.{rows_given};
+ghost use Rattle.ruby_options.specs.Numbers.{number_in, number_of, option_row, trace_in};
 
 use crate::command_line::{found_in, line_of};
 use crate::numbers::{number_in, number_of, trace_in};
 use crate::{
     CHECKS, COMMAND, CYCLES, Command, DEADLOCK, LIMIT, LINES, NAMES, NUMBERS, NoMemory,
-    OptionFault, Options, SEED, Text, WORKERS,
+    NumberOption, OptionFault, Options, SEED, Text, WORKERS,
 };
 use clap::ArgMatches;
 use std::alloc::Global;
 
-// Whether each option that is given has a value in its range. As long as there are no workers, none may be asked for.
+// Whether each of these options that is given has a number within its bounds.
+fn all_in_range(options: &[NumberOption], matches: &ArgMatches<'_>) -> bool
+    ensures { result ≡ list_all (λ o. is_some (number_in (rows_of (found_of matches.now)) (o.0.now, o.1, o.2))) options.now }
+{
+    options
+        .iter()
+        .all(|option| number_in(Some(matches), *option).is_some())
+}
+
+fn numbers_in_range(matches: &ArgMatches<'_>) -> bool
+    ensures { result ≡ numbers_in_range (rows_of (found_of matches.now)) }
+{
+    all_in_range(&NUMBERS, matches)
+}
+
+// All work is done by the calling thread, as long as there are no workers.
+fn has_no_workers(matches: &ArgMatches<'_>) -> bool
+    ensures { result ≡ has_no_workers (rows_of (found_of matches.now)) }
+{
+    number_of(Some(matches), WORKERS) == 0
+}
+
+fn is_trace_in_range(matches: &ArgMatches<'_>) -> bool
+    ensures { result ≡ is_some (trace_in (rows_of (found_of matches.now))) }
+{
+    trace_in(Some(matches)).is_some()
+}
+
+// Whether each option that is given has a value in its range.
+#[tactic(auto, unfolding(crate::specs::Asked::are_in_range))]
 fn are_in_range(matches: &ArgMatches<'_>) -> bool
     ensures { result ≡ are_in_range (rows_of (found_of matches.now)) }
 {
-    NUMBERS
-        .iter()
-        .all(|option| number_in(Some(matches), *option).is_some())
-        && trace_in(Some(matches)).is_some()
-        && number_of(Some(matches), WORKERS) == 0
+    if !numbers_in_range(matches) {
+        return false;
+    }
+    is_trace_in_range(matches) && has_no_workers(matches)
 }
 
 // What counts of what is given for options: nothing for a generated protocol.
@@ -33,6 +63,14 @@ fn counting<'m, 'a>(command: Command, matches: &'m ArgMatches<'a>) -> Option<&'m
         Command::Gen => None,
         _ => Some(matches),
     }
+}
+
+// The number of workers.
+fn workers_of(given: Option<&ArgMatches<'_>>) -> u32
+    ensures { result ≡ number_of (rows_given given.entry) (option_row WORKERS) }
+{
+    let workers = number_of(given, WORKERS);
+    workers as u32
 }
 
 // The options of a command.
@@ -56,18 +94,28 @@ fn options(
         checks: number_of(given, CHECKS),
         lines: number_of(given, LINES),
         cycles: number_of(given, CYCLES),
-        workers: number_of(given, WORKERS) as u32,
+        workers: workers_of(given),
         trace: trace_in(given).unwrap_or(true),
         deadlock: number_of(given, DEADLOCK),
         limit: number_of(given, LIMIT),
     })
 }
 
-// The options by what clap found.
-fn asked_of(alloc: Global, matches: &ArgMatches<'_>) -> Result<Options, OptionFault>
-    ensures { (result ≡ Err OptionFault.NoMemory) ⊎ (result ≡ asked_of (rows_of (found_of matches.now))) }
+// The command's word, or the empty text where there is none.
+fn word_found<'a>(matches: &ArgMatches<'a>) -> &'a str
+    ensures { result.now ≡ word_found (rows_of (found_of matches.now)) }
 {
-    let word = matches.get_str(COMMAND).unwrap_or("");
+    match matches.get_str(COMMAND) {
+        None => "",
+        Some(word) => word,
+    }
+}
+
+// What is asked by what clap found.
+fn asked_of(alloc: Global, matches: &ArgMatches<'_>) -> Result<Options, OptionFault>
+    ensures { IsRead (asked_of (rows_of (found_of matches.now))) result }
+{
+    let word = word_found(matches);
     let names = matches.get_strs(NAMES).unwrap_or(&[]);
     let Some(command) = Command::of(word, names) else {
         return Err(OptionFault::Words);
@@ -79,15 +127,18 @@ fn asked_of(alloc: Global, matches: &ArgMatches<'_>) -> Result<Options, OptionFa
         return Err(OptionFault::Range);
     }
     let given = counting(command, matches);
-    Ok(options(alloc, command, names, count, given)?)
+    let options = options(alloc, command, names, count, given)?;
+    Ok(options)
 }
 
 /// What the words of a command line ask for, which are those after the program's name. The protocol and the topology are
 /// two of the words, which are UTF-8.
 pub fn read(alloc: Global, words: &[String]) -> Result<Options, OptionFault>
-    ensures { IsAsked (map string_bytes words.now) result }
+    ensures { IsRead (asked (map string_bytes words.now)) result }
 {
     let line = line_of(alloc, words)?;
-    let matches = found_in(alloc, line.as_slice())?;
-    asked_of(alloc, &matches)
+    match found_in(alloc, line.as_slice()) {
+        Err(fault) => Err(fault),
+        Ok(matches) => asked_of(alloc, &matches),
+    }
 }
