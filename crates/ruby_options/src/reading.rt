@@ -1,11 +1,12 @@
 // The options that words ask for.
-ghost use Rattle.std.specs.Prelude.{◌≡◌, IfOk, is_some, map, string_bytes};
+ghost use Rattle.std.specs.Prelude.{◌≡◌, IfOk, IsUtf8, is_some, map, string_bytes};
 ghost use Rattle.std.specs.List.{list_all};
 ghost use Rattle.clap.specs.Matches.{found_of};
 ghost use Rattle.clap.specs.Walk.{rows_of};
 ghost use Rattle.ruby_options.specs.Asked.{IsRead, are_in_range, asked, asked_of, counting, has_no_workers, numbers_in_range, options_of, word_found};
 ghost use Rattle.ruby_options.specs.CommandLine.{rows_given};
 ghost use Rattle.ruby_options.specs.Numbers.{number_in, number_of, option_row, trace_in};
+ghost use Rattle.ruby_options.specs.Within.{IsWithin};
 
 use crate::command_line::{found_in, line_of};
 use crate::numbers::{number_in, number_of, trace_in};
@@ -81,7 +82,8 @@ fn options(
     count: u64,
     given: Option<&ArgMatches<'_>>,
 ) -> Result<Options, NoMemory>
-    ensures { IfOk result (λ o. o ≡ options_of command (map (λ name. name.now) names.now) count (rows_given given.entry)) }
+    ensures options { IfOk result (λ o. o ≡ options_of command (map (λ name. name.now) names.now) count (rows_given given.entry)) }
+    ensures names { IfOk result (λ o. IsUtf8 o.protocol × IsUtf8 o.topology) }
 {
     let protocol = Text::copied(alloc, command.protocol(names).as_bytes())?;
     let topology = Text::copied(alloc, command.topology(names).as_bytes())?;
@@ -113,7 +115,9 @@ fn word_found<'a>(matches: &ArgMatches<'a>) -> &'a str
 
 // What is asked by what clap found.
 fn asked_of(alloc: Global, matches: &ArgMatches<'_>) -> Result<Options, OptionFault>
-    ensures { IsRead (asked_of (rows_of (found_of matches.now))) result }
+    ensures asked { IsRead (asked_of (rows_of (found_of matches.now))) result }
+    ensures names { IfOk result (λ o. IsUtf8 o.protocol × IsUtf8 o.topology) }
+    ensures within { IfOk result IsWithin }
 {
     let word = word_found(matches);
     let names = matches.get_strs(NAMES).unwrap_or(&[]);
@@ -131,10 +135,13 @@ fn asked_of(alloc: Global, matches: &ArgMatches<'_>) -> Result<Options, OptionFa
     Ok(options)
 }
 
-/// What the words of a command line ask for, which are those after the program's name. The protocol and the topology are
-/// two of the words, which are UTF-8.
+/// What the words of a command line ask for, which are those after the program's name.
 pub fn read(alloc: Global, words: &[String]) -> Result<Options, OptionFault>
-    ensures { IsRead (asked (map string_bytes words.now)) result }
+    ensures asked { IsRead (asked (map string_bytes words.now)) result }
+
+    // The names are words, which are text, and the numbers are within the bounds of the tables.
+    ensures names { IfOk result (λ o. IsUtf8 o.protocol × IsUtf8 o.topology) }
+    ensures within { IfOk result IsWithin }
 {
     let line = line_of(alloc, words)?;
     match found_in(alloc, line.as_slice()) {
