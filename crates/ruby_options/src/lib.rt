@@ -1,0 +1,18 @@
+//! What the words of a command line ask for. `read` takes the words after the program's name to the options, or to the
+//! reason why there are none, over the kit's `clap`.
+#![tactic(auto)]
+
+mod command_line;
+mod names;
+mod numbers;
+mod options;
+mod reading;
+mod tables;
+
+pub use options::{Command, OptionFault, Options};
+pub use reading::read;
+pub use ruby_base::{NoMemory, Text};
+pub use tables::{
+    Bounds, CHECKS, COMMAND, COMMANDS, CYCLES, CommandRow, DEADLOCK, GENERATED, LIMIT, LINES,
+    NAMES, NUMBERS, NumberOption, PROGRAM, REQUESTS, SEED, TRACE, WORKERS,
+};
