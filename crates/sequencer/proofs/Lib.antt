@@ -1,5 +1,6 @@
 pub mod Answering
 pub mod CallbackLog
+pub mod FitsByLine
 pub mod Lines
 pub mod Oldest
 pub mod OldestLaw
