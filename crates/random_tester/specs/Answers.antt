@@ -52,7 +52,7 @@ taken-at (s ∷ rest) zero m c a is of =
 taken-at (s ∷ rest) (suc k) m c a is of =
     taken-at rest k m c a is of
     ∙ ap (λ (xs : List Seat). answer_at m c a ∷ finished_from m (drop (suc k) xs))
-      (sym (further s rest k (option_map (changed_seat without_first_answer) (slice_get rest k))))
+    (sym (further s rest k (option_map (changed_seat without_first_answer) (slice_get rest k))))
 
 pub none-at : (seats : List Seat) (k m : ℕ) → k < length seats → first_answer_at seats k ≡ None
     → finished_from m (drop k seats) ≡ finished_from (m + 1) (drop (suc k) seats)

@@ -1,5 +1,5 @@
 -- The random tester keeps the law of drivers.
-use Rattle.std.specs.Prelude.{◌≡◌, ◌≤◌, ◌<◌, ◌+◌, ◌-◌, ◌*◌, ◌/◌, ◌%◌, ◌^◌, ◌==◌, ℕ, zero, suc, Bool, true, false, cond, Option, None, Some, IfSome, IsNone, Contains, List, [], ◌∷◌, ◌++◌, bit_or, is_none, length, map, drop, nat_le, nat_lt, slice_get, slice_set, refl}
+use Rattle.std.specs.Prelude.{◌≡◌, ◌≤◌, ◌<◌, ◌+◌, ◌-◌, ◌*◌, ◌/◌, ◌%◌, ◌^◌, ◌==◌, ℕ, zero, suc, Bool, true, false, cond, Option, None, Some, IfSome, IsNone, Contains, List, [], ◌∷◌, ◌++◌, bit_or, bit_xor, is_none, length, map, drop, nat_le, nat_lt, slice_get, slice_set, refl}
 use Rattle.std.proofs.Common.{arith, add-one, ap, sym, subst, ◌∙◌, ◌⊎◌, inl, inr, ⊎_elim, T}
 use Rattle.std.proofs.lemmas.Bool.Decides.{nat_tests}
 use Rattle.std.proofs.lemmas.List.{length-set}
@@ -169,9 +169,17 @@ first-is P [] all = tt
 first-is P (x ∷ xs) all = All-head P x xs all
 
 -- Issuing: what is drawn is a line and a seat.
+or-small : (n a b : ℕ) → n < 2 ^ 32 → bit_or (n / a) (b % 2 ^ 32) < 2 ^ 32
+or-small n a b lt =
+    let no_more : n / a ≤ n = div-le_self n a in
+    or_of_32 (n / a) (b % 2 ^ 32) (omega (arith, lt, no_more)) (mod_below b (2 ^ 32) (omega arith))
+
 word-small : (seed stream n : ℕ) → word seed stream n < 2 ^ 32
 unfolding word
-word-small seed stream n = or_of_32 _ _ (omega (arith, div-le_self _ _, mod_below _ (2 ^ 32) (omega arith))) (mod_below _ (2 ^ 32) (omega arith))
+word-small seed stream n =
+    let state : ℕ = (generator_after seed stream n).state in
+    let bits : ℕ = bit_xor (state / 2 ^ 18) state / 2 ^ 27 in
+    or-small (bits % 2 ^ 32) _ _ (mod_below bits (2 ^ 32) (omega arith))
 
 abbrev CanAct : ℕ → Seating → Act → Type 0
 CanAct now s a = CanIssue now s a.issued × (length a.issued ≤ 1)
@@ -198,12 +206,12 @@ can-at-seat t line s seat all now true is there at =
     let free : IsNone (outstanding_at all.seats seat line) = is-none (outstanding_at all.seats seat line) is in
     let own : (request_of line s now).line ≡ line = request-line line s now (nat_lt s.stored 4) refl in
     let one : CanIssueOne now all.seats (record { seat = seat; asked = request_of line s now }) =
-        record {
-          seat = there;
-          request = request-is line s now (nat_lt s.stored 4) refl at;
-          cycle = request-now line s now (nat_lt s.stored 4) refl;
-          free = subst (λ (l : ℕ). IsNone (outstanding_at all.seats seat l)) (sym own) free;
-        } in
+    record {
+      seat = there;
+      request = request-is line s now (nat_lt s.stored 4) refl at;
+      cycle = request-now line s now (nat_lt s.stored 4) refl;
+      free = subst (λ (l : ℕ). IsNone (outstanding_at all.seats seat l)) (sym own) free;
+    } in
     rw is ((one, tt), omega arith)
 can-at-seat t line s seat all now false is there at = rw is (tt, omega arith)
 
@@ -262,8 +270,8 @@ late-found : (k : Took) (s : Seating) (now : ℕ) → All FitsSeat s.seats → F
 late-found k s now fit =
     let after : List Seat = after_taking s.seats k.taken in
     let all : All (IsFindingAt s.seats) (late k.tester.deadlock now after) =
-        late-at s.seats k.tester.deadlock now after (fit-after s.seats k.taken fit)
-        (λ c is. subst (λ (cs : List ℕ). Contains cs c) (controllers-kept s.seats k.taken) is) in
+    late-at s.seats k.tester.deadlock now after (fit-after s.seats k.taken fit)
+    (λ c is. subst (λ (cs : List ℕ). Contains cs c) (controllers-kept s.seats k.taken) is) in
     first-is (IsFindingAt s.seats) (late k.tester.deadlock now after) all
 
 tenth-lawful : (k : Took) (s : Seating) (now : ℕ) (b : Bool) → (now % 10 == 0) ≡ b → CanTake s.seats k.taken → FitSeats 1 s.seats
@@ -271,7 +279,7 @@ tenth-lawful : (k : Took) (s : Seating) (now : ℕ) (b : Bool) → (now % 10 == 
 tenth-lawful k s now true is can fit =
     let after : List Seat = after_taking s.seats k.taken in
     let d : Lawful s now (after_wait k after (first_of (late k.tester.deadlock now after)) now) =
-        wait-lawful k s now (first_of (late k.tester.deadlock now after)) can (late-found k s now fit.each) fit.enough is in
+    wait-lawful k s now (first_of (late k.tester.deadlock now after)) can (late-found k s now fit.each) fit.enough is in
     subst (λ (b : Bool). Lawful s now (cond b (after_wait k after (first_of (late k.tester.deadlock now after)) now) (ended k None now))) (sym is) d
 tenth-lawful k s now false is can fit =
     let after : List Seat = after_taking s.seats k.taken in

@@ -3,11 +3,11 @@ use Rattle.std.specs.Prelude.{◌≡◌, ◌<◌, ℕ, zero, suc, Option, None, 
 use Rattle.std.proofs.Common.{arith, ap, sym, subst, ◌∙◌}
 use Rattle.std.proofs.lemmas.List.Elements.{All-cons, All-head, All-tail}
 use Rattle.std.specs.List.{All}
-use Rattle.std.specs.Option.{option_map}
+use Rattle.std.specs.Option.{option_and_then, option_map}
 use Rattle.ruby_value.specs.declared.asked.Answer.{Answer}
 use Rattle.sequencer.specs.Drive.{Taken, after_taking}
-use Rattle.sequencer.specs.Requests.{FitsRequests, IsRequest, Requests, rest_of, without_first_answer}
-use Rattle.sequencer.specs.Seats.{FitsSeat, Seat, changed_seat, with_seat, without_answer_at}
+use Rattle.sequencer.specs.Requests.{IsRequest, Requests, first_of, rest_of, without_first_answer}
+use Rattle.sequencer.specs.Seats.{FitsSeat, Seat, changed_seat, first_answer_at, with_seat, without_answer_at}
 
 abbrev pub controllers : List Seat → List ℕ
 controllers seats = map (λ (s : Seat). s.controller) seats
@@ -15,6 +15,9 @@ controllers seats = map (λ (s : Seat). s.controller) seats
 pub further : (s : Seat) (seats : List Seat) (k : ℕ) (o : Option Seat) → with_seat (s ∷ seats) (suc k) o ≡ s ∷ with_seat seats k o
 further s seats k None = refl
 further s seats k (Some x) = refl
+
+abbrev seat_of : ℕ → Option Requests → Seat
+seat_of c o = record { controller = c; requests = o }
 
 abbrev next_seat : List Seat → ℕ → Option Seat
 next_seat seats k = option_map (changed_seat without_first_answer) (slice_get seats k)
@@ -39,12 +42,24 @@ length-of-one seats k = sym (length-of (without_answer_at seats k)) ∙ ap lengt
 pub length-kept : (seats : List Seat) (ts : List Taken) → length (after_taking seats ts) ≡ length seats
 length-kept seats ts = sym (length-of (after_taking seats ts)) ∙ ap length (controllers-kept seats ts) ∙ length-of seats
 
+rest-none : (answers : List Answer) → first_of answers ≡ None → rest_of answers ≡ answers
+rest-none [] is = refl
+rest-none (a ∷ rest) is = absurd (cc is)
+
+same-seat : (c : ℕ) (o : Option Requests) → option_and_then (λ (r : Requests). first_of r.finished) o ≡ None
+    → seat_of c (option_map without_first_answer o) ≡ seat_of c o
+same-seat c None is = refl
+same-seat c (Some r) is = ap (λ (answers : List Answer). seat_of c (Some (record r { finished = answers }))) (rest-none r.finished is)
+
+-- where a seat has no answer, taking one there leaves the seats as they are
+pub unchanged : (seats : List Seat) (k : ℕ) → first_answer_at seats k ≡ None → without_answer_at seats k ≡ seats
+unchanged [] k is = refl
+unchanged (s ∷ rest) zero is = ap (λ (x : Seat). x ∷ rest) (same-seat s.controller s.requests is)
+unchanged (s ∷ rest) (suc k) is = further s rest k (next_seat rest k) ∙ ap (λ (xs : List Seat). s ∷ xs) (unchanged rest k is)
+
 rest-fits : (answers : List Answer) → All (λ (a : Answer). IsRequest a.asked) answers → All (λ (a : Answer). IsRequest a.asked) (rest_of answers)
 rest-fits [] all = all
 rest-fits (a ∷ rest) all = All-tail (λ (x : Answer). IsRequest x.asked) a rest all
-
-abbrev seat_of : ℕ → Option Requests → Seat
-seat_of c o = record { controller = c; requests = o }
 
 seat-fits : (c : ℕ) (o : Option Requests) → FitsSeat (seat_of c o) → FitsSeat (seat_of c (option_map without_first_answer o))
 seat-fits c None fit = tt

@@ -35,9 +35,9 @@ pub(crate) fn first_late<S: Seats>(deadlock: u64, now: u64, seats: &S) -> Option
     ensures { result ≡ first_of (late deadlock now (S.view seats.now).kept.seats) }
 {
     for k in 0..seats.count() {
-        let found = late_at(deadlock, now, seats, k);
-        if found.is_some() {
-            return found;
+        match late_at(deadlock, now, seats, k) {
+            Some(found) => return Some(found),
+            None => {}
         }
     }
     None

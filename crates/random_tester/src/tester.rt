@@ -116,7 +116,14 @@ impl Tester {
         }
         if slot.stored < 4 {
             let stored = slot.stored + 1;
-            self.put(line, Slot { stored, first: slot.first, waits: None });
+            self.put(
+                line,
+                Slot {
+                    stored,
+                    first: slot.first,
+                    waits: None,
+                },
+            );
             return None;
         }
         match first_difference(slot.first, &a.block.bytes) {
@@ -145,11 +152,11 @@ impl Tester {
     {
         let mut k = 0;
         while k < seats.count() {
+            let controller = seats.controller(k);
             match seats.take_done(k) {
                 Some(a) => {
-                    let found = self.judge(k, seats.controller(k), &a);
-                    if found.is_some() {
-                        return found;
+                    if let Some(found) = self.judge(k, controller, &a) {
+                        return Some(found);
                     }
                 }
                 None => k += 1,
@@ -183,7 +190,14 @@ impl Tester {
         let asked = request_of(line, &Slot { first, ..slot }, now);
         if seats.issue(seat, asked) {
             let waits = Some(Issued { seat, asked });
-            self.put(line, Slot { stored: slot.stored, first, waits });
+            self.put(
+                line,
+                Slot {
+                    stored: slot.stored,
+                    first,
+                    waits,
+                },
+            );
         }
     }
 

@@ -95,8 +95,8 @@ good (e ∷ es) sorted fit =
 pub by_line-fits : (r : Requests) → FitsRequests r → AreRequests (by_line r)
 by_line-fits r fit =
     let all : Good (finite.entries r.outstanding) =
-        good (finite.entries r.outstanding) (finite.entries_sorted r.outstanding)
-        (λ q. subst (λ (o : Option Asked). IfSome o (FitsAt q)) (finite.get-entries r.outstanding q) (fit.outstanding q)) in
+    good (finite.entries r.outstanding) (finite.entries_sorted r.outstanding)
+    (λ q. subst (λ (o : Option Asked). IfSome o (FitsAt q)) (finite.get-entries r.outstanding q) (fit.outstanding q)) in
     record {
       ascend = all.ascend;
       each = All-map IsRequest (λ (e : ℕ × Asked). e.1) (finite.entries r.outstanding)
