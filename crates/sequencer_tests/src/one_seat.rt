@@ -1,5 +1,6 @@
 // One seat, whose controller is number 3, with a sequencer or without one.
 ghost use Rattle.std.specs.Prelude.{◌≤◌, ◌+◌, vec_len, vec_capacity};
+ghost use Rattle.sequencer.specs.Seats.{FitSeats};
 ghost use Rattle.sequencer_tests.specs.OneSeat.{one_seat, room_of};
 
 use sequencer::{Answer, Asked, IssueFault, NoMemory, Seats, Sequencer};
@@ -20,6 +21,16 @@ impl OneSeat {
             sequencer,
             issued: Vec::new(alloc),
             room: 0,
+        }
+    }
+
+    /// A driver may act at this seat. The call does nothing but say so.
+    pub(crate) fn fits(&self)
+        ensures { FitSeats 1 (one_seat self.now.sequencer self.now.issued.items self.now.room).kept.seats }
+    {
+        match &self.sequencer {
+            Some(s) => s.fits(),
+            None => {}
         }
     }
 
