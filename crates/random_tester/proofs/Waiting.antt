@@ -14,6 +14,7 @@ use Rattle.sequencer.specs.Reads.{is_above, next_after}
 use Rattle.sequencer.specs.Requests.{Requests, first_of}
 use Rattle.sequencer.specs.Seats.{FitsSeat, Seat, controller_at, next_at, requests_at}
 use Rattle.sequencer.proofs.FitsByLine.{by_line-fits}
+use Rattle.random_tester.specs.Law.{drop-all}
 use Rattle.random_tester.specs.Turn.{late, late_at, outstanding_of}
 
 abbrev pub has_waited : ℕ → ℕ → Asked → Bool
@@ -199,12 +200,6 @@ late-found deadlock now seats k x lt found so =
     let h = drop-here seats k lt in
     sym (found-first (late_at deadlock now h.0) (late deadlock now (drop (suc k) seats)) x (sym (found h.0 h.1)))
     ∙ ap (λ (xs : List Seat). first_of (late deadlock now xs)) (sym h.2) ∙ so
-
-drop-all : (seats : List Seat) (k : ℕ) → length seats ≤ k → drop k seats ≡ []
-drop-all [] zero le = refl
-drop-all [] (suc k) le = refl
-drop-all (s ∷ rest) zero le = absurd (omega arith)
-drop-all (s ∷ rest) (suc k) le = drop-all rest k (omega arith)
 
 pub late-none : (deadlock now : ℕ) (seats : List Seat) (k : ℕ) → length seats ≤ k → LateFrom deadlock now seats k → None ≡ first_of (late deadlock now seats)
 late-none deadlock now seats k le so = ap (λ (xs : List Seat). first_of (late deadlock now xs)) (sym (drop-all seats k le)) ∙ so

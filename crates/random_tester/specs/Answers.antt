@@ -4,7 +4,8 @@ use Rattle.std.proofs.Common.{arith, ap, sym, ◌∙◌}
 use Rattle.std.specs.Option.{option_and_then, option_map}
 use Rattle.ruby_value.specs.declared.asked.Answer.{Answer}
 use Rattle.sequencer.specs.Requests.{Requests, first_of, rest_of, without_first_answer}
-use Rattle.sequencer.specs.Seats.{Seat, changed_seat, controller_at, first_answer_at, with_seat, without_answer_at}
+use Rattle.sequencer.specs.Seats.{Seat, changed_seat, controller_at, first_answer_at, without_answer_at}
+use Rattle.random_tester.specs.SeatsAfter.{further}
 use Rattle.random_tester.specs.Turn.{Finished, answers_of, finished_at, finished_from}
 
 abbrev seat_of : ℕ → Option Requests → Seat
@@ -37,10 +38,6 @@ none-of m c (b ∷ rest) is = absurd (cc is)
 none-here : (m c : ℕ) (o : Option Requests) → option_and_then (λ (r : Requests). first_of r.finished) o ≡ None → finished_at m (seat_of c o) ≡ []
 none-here m c None is = refl
 none-here m c (Some r) is = none-of m c r.finished is
-
-further : (s : Seat) (seats : List Seat) (k : ℕ) (o : Option Seat) → with_seat (s ∷ seats) (suc k) o ≡ s ∷ with_seat seats k o
-further s seats k None = refl
-further s seats k (Some x) = refl
 
 pub taken-at : (seats : List Seat) (k m c : ℕ) (a : Answer) → first_answer_at seats k ≡ Some a → controller_at seats k ≡ Some c
     → finished_from m (drop k seats) ≡ answer_at m c a ∷ finished_from m (drop k (without_answer_at seats k))

@@ -43,7 +43,7 @@ has-controller [] k lt = absurd (omega arith)
 has-controller (s ∷ rest) zero lt = (s.controller, refl)
 has-controller (s ∷ rest) (suc k) lt = has-controller rest k (omega arith)
 
-drop-all : {X : Type 0} (xs : List X) (k : ℕ) → length xs ≤ k → drop k xs ≡ []
+pub drop-all : {X : Type 0} (xs : List X) (k : ℕ) → length xs ≤ k → drop k xs ≡ []
 drop-all [] zero le = refl
 drop-all [] (suc k) le = refl
 drop-all (x ∷ xs) zero le = absurd (omega arith)
