@@ -4,7 +4,8 @@ use Rattle.std.specs.Option.{option_map}
 use Rattle.ruby_value.specs.declared.asked.Asked.{Asked}
 use Rattle.ruby_value.specs.Roomy.{Roomy}
 use Rattle.sequencer.specs.Requests.{Requests}
-use Rattle.sequencer.specs.Seats.{Issued, Seat, Seating}
+use Rattle.sequencer.specs.declared.issued.Issued.{Issued}
+use Rattle.sequencer.specs.Seats.{Seat, Seating}
 
 abbrev pub issued_here : Asked → Issued
 issued_here a = record { seat = 0; asked = a }

@@ -1,6 +1,7 @@
 // One seat, whose controller is number 3, with a sequencer or without one.
 ghost use Rattle.std.specs.Prelude.{◌≤◌, ◌+◌, vec_len, vec_capacity};
 ghost use Rattle.controller_tests.specs.OneSeat.{one_seat, room_of};
+ghost use Rattle.sequencer.specs.Seats.{FitSeats};
 
 use sequencer::{Answer, Asked, IssueFault, NoMemory, Seats, Sequencer};
 use std::alloc::Global;
@@ -20,6 +21,16 @@ impl OneSeat {
             sequencer,
             issued: Vec::new(alloc),
             room: 0,
+        }
+    }
+
+    /// A driver may act at this seat. The call does nothing but say so.
+    pub(crate) fn fits(&self)
+        ensures { FitSeats 1 (one_seat self.now.sequencer self.now.issued.items self.now.room).kept.seats }
+    {
+        match &self.sequencer {
+            Some(s) => s.fits(),
+            None => {}
         }
     }
 

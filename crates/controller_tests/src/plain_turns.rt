@@ -31,6 +31,7 @@ fn is_so(alloc: Global, row: &Row) -> bool {
         if now > LAST_CYCLE || driver.reserve(now, &mut seat).is_err() {
             return false;
         }
+        seat.fits();
         let end = driver.turn(now, &mut seat);
         next = end.next;
     }

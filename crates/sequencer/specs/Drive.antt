@@ -2,12 +2,13 @@
 -- finds, and the next cycle at which it must act, if any. What the turn makes of its seats follows. Each answer is the first of
 -- its seat as it is taken, and no request's line is outstanding at its seat as it is issued. Answers and requests have no part
 -- in common, so it doesn't matter whether a driver takes before it issues. Drivers are this project's own.
-use Rattle.std.specs.Prelude.{◌≡◌, ◌<◌, ℕ, Option, Some, List, [], ◌∷◌, Contains, IsNone, length, map}
+use Rattle.std.specs.Prelude.{◌≡◌, ◌<◌, ◌≤◌, ℕ, Option, Some, IfSome, List, [], ◌∷◌, Contains, IsNone, length, map}
 use Rattle.ruby_value.specs.declared.asked.Answer.{Answer}
 use Rattle.ruby_value.specs.declared.fault.Finding.{Finding}
 use Rattle.ruby_value.specs.declared.fault.Finding.TheVariants.{Incoherent, Deadlock, Passed}
+use Rattle.sequencer.specs.declared.issued.Issued.{Issued}
 use Rattle.sequencer.specs.Requests.{IsLine, IsRequest}
-use Rattle.sequencer.specs.Seats.{Issued, Seat, Seating, first_answer_at, outstanding_at, with_issued, with_seats, without_answer_at}
+use Rattle.sequencer.specs.Seats.{Seat, Seating, first_answer_at, outstanding_at, with_issued, with_seats, without_answer_at}
 
 -- an answer that was taken at a seat
 pub record Taken : Type 0 where
@@ -61,3 +62,12 @@ IsFindingAt seats (Incoherent controller line offset expected found) =
 IsFindingAt seats (Deadlock controller line issued) =
     IsLine line × Contains (map (λ (s : Seat). s.controller) seats) controller
 IsFindingAt seats (Passed checks) = Unit {0}
+
+-- What a turn may do at these seats in a cycle, where it may issue so many requests: the answers can be taken, the requests can be
+-- issued after that and are no more than these, the next cycle comes later, and what it finds is at one of the seats.
+pub record IsLawful {D : Type 0} (most now : ℕ) (s : Seating) (d : Drive D) : Type 0 where
+  pub taken : CanTake s.seats d.taken
+  pub issued : CanIssue now (seats_after_taking s d) d.issued
+  pub few : length d.issued ≤ most
+  pub ahead : IfSome d.next (λ next. now < next)
+  pub finding : IfSome d.finding (IsFindingAt s.seats)

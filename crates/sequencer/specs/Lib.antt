@@ -5,6 +5,7 @@ pub mod Kept
 pub mod Outstanding
 pub mod Place
 pub mod PlainDriver
+pub mod PlainLaw
 pub mod Reads
 pub mod Requests
 pub mod Seats

@@ -4,8 +4,9 @@
 use Rattle.std.specs.Prelude.{ℕ, ◌+◌, ◌&&◌, Option, None, Some, List, [], ◌∷◌, is_none, nat_lt, if◌then◌else◌}
 use Rattle.ruby_value.specs.declared.asked.Ask.TheVariants.{Load}
 use Rattle.ruby_value.specs.declared.asked.Asked.{Asked}
+use Rattle.sequencer.specs.declared.issued.Issued.{Issued}
 use Rattle.sequencer.specs.Drive.{Drive}
-use Rattle.sequencer.specs.Seats.{Issued, Seat, outstanding_at}
+use Rattle.sequencer.specs.Seats.{Seat, outstanding_at}
 
 abbrev pub plain_load : ℕ → Asked
 plain_load now = record { line = 0; kind = Load; offset = 0; size = 4; byte = 0; issued = now }

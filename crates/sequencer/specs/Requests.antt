@@ -1,9 +1,9 @@
 -- The requests of a sequencer: those that are outstanding, by line, and the finished answers that nobody has taken yet. That
 -- one line has at most one outstanding request is this project's own.
-use Rattle.std.specs.Prelude.{◌+◌, ◌≤◌, ◌<◌, ◌^◌, ℕ, Option, None, Some, List, [], ◌∷◌, ◌++◌, nat_le, nat_lt, refl}
+use Rattle.std.specs.Prelude.{◌≡◌, ◌+◌, ◌≤◌, ◌<◌, ◌^◌, ℕ, Option, None, Some, IfSome, List, [], ◌∷◌, ◌++◌, nat_le, nat_lt, refl}
 use Rattle.std.specs.Coded.{Coded, code_by, coded×, coded_ℕ, coded_list}
 use Rattle.std.specs.FinMap as map
-use Rattle.std.specs.List.{filter}
+use Rattle.std.specs.List.{All, filter}
 use Rattle.std.specs.Ordering.{nat_cmp}
 use Rattle.ruby_value.specs.declared.asked.Answer.{Answer}
 use Rattle.ruby_value.specs.declared.asked.Asked.{Asked}
@@ -37,6 +37,11 @@ no_requests = record { outstanding = map.empty; finished = [] }
 -- the outstanding request of a line
 abbrev pub request_for : Requests → ℕ → Option Asked
 request_for r line = map.get r.outstanding line
+
+-- what always holds of a sequencer's requests: each is under its line, and it and each answer asks for bytes of one line
+pub record FitsRequests (r : Requests) : Type 0 where
+  pub outstanding : (line : ℕ) → IfSome (request_for r line) (λ (a : Asked). (a.line ≡ line) × IsRequest a)
+  pub finished : All (λ (a : Answer). IsRequest a.asked) r.finished
 
 -- a request of a line that has none outstanding goes under its line
 abbrev pub with_request : Requests → Asked → Requests

@@ -1,25 +1,35 @@
 -- The seats of a driver, by their numbers: for each the number of its controller and, where it has a sequencer, the requests of
 -- that. Beside them stand the requests that were issued at them, in their order: a request that is issued at a seat without a
 -- sequencer stands in none, and no line is ever outstanding there. Seats are this project's own.
-use Rattle.std.specs.Prelude.{◌++◌, ℕ, Option, None, Some, List, [], ◌∷◌, slice_get, slice_set}
+use Rattle.std.specs.Prelude.{◌≢◌, ◌≤◌, ◌++◌, ℕ, Option, None, Some, IfSome, List, [], ◌∷◌, length, slice_get, slice_set}
+use Rattle.std.specs.List.{All, AllPairs}
 use Rattle.std.specs.Option.{option_and_then, option_map}
 use Rattle.ruby_value.specs.declared.asked.Answer.{Answer}
 use Rattle.ruby_value.specs.declared.asked.Asked.{Asked}
+use Rattle.sequencer.specs.declared.issued.Issued.{Issued}
 use Rattle.sequencer.specs.Reads.{next_after}
-use Rattle.sequencer.specs.Requests.{Requests, first_of, request_for, with_request, without_first_answer}
+use Rattle.sequencer.specs.Requests.{FitsRequests, Requests, first_of, request_for, with_request, without_first_answer}
 
 pub record Seat : Type 0 where
   pub controller : ℕ
   pub requests : Option Requests
 
--- a request that was issued at a seat
-pub record Issued : Type 0 where
-  pub seat : ℕ
-  pub asked : Asked
-
 pub record Seating : Type 0 where
   pub seats : List Seat
   pub issued : List Issued
+
+abbrev pub AreApart : Seat → Seat → Type 0
+AreApart a b = a.controller ≢ b.controller
+
+abbrev pub FitsSeat : Seat → Type 0
+FitsSeat s = IfSome s.requests FitsRequests
+
+-- Seats at which a driver that needs so many may act: there are enough of them, no two of them are at one controller, and the
+-- requests of each are what a sequencer may have.
+pub record FitSeats (least : ℕ) (seats : List Seat) : Type 0 where
+  pub enough : least ≤ length seats
+  pub apart : AllPairs AreApart seats
+  pub each : All FitsSeat seats
 
 -- with other seats
 abbrev pub with_seats : Seating → List Seat → Seating

@@ -1,5 +1,6 @@
 ghost use Rattle.std.specs.Prelude.{◌≡◌};
 ghost use Rattle.sequencer.specs.PlainDriver.{plain_drive, plain_load, plain_needs};
+ghost use Rattle.sequencer.specs.PlainLaw.{plain_lawful, plain_lasting};
 
 use crate::{Ask, Asked, Driver, DriverEnd, NoMemory, Seats};
 use std::marker::Model;
@@ -50,6 +51,10 @@ impl Driver for PlainDriver {
     ghost least = { λ _. 1 };
 
     ghost opening = { λ d. d };
+
+    ghost lawful = { plain_lawful };
+
+    ghost lasting = { plain_lasting };
 
     fn reserve<S: Seats>(&self, now: u64, seats: &mut S) -> Result<(), NoMemory> {
         if now < self.requests {

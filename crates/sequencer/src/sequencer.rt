@@ -2,7 +2,7 @@ ghost use Rattle.std.specs.Prelude.{◌≡◌, ◌≢◌, ◌≤◌, ◌<◌, �
 ghost use Rattle.std.specs.Option.{option_copied};
 ghost use Rattle.sequencer.specs.Back.{Finishes, block_after_write, read_back, write_back};
 ghost use Rattle.sequencer.specs.Reads.{IsOldest, next_after, oldest};
-ghost use Rattle.sequencer.specs.Requests.{IsRequest, first_of, no_requests, request_for, requests_with_answer, with_request, without_first_answer};
+ghost use Rattle.sequencer.specs.Requests.{FitsRequests, IsRequest, first_of, no_requests, request_for, requests_with_answer, with_request, without_first_answer};
 
 use crate::back::{is_store, stored_block};
 use crate::order::{next_in, oldest_of, put_answer, put_request, request_in, take_request};
@@ -48,6 +48,13 @@ impl Sequencer {
             finished: VecDeque::new(alloc),
             room: 0,
         }
+    }
+
+    /// What always holds of a sequencer's requests, which makes a seat fit for a driver. The call does nothing but say so.
+    pub fn fits(&self)
+        ensures { FitsRequests self.now.kept }
+    {
+        let _ = &self.outstanding;
     }
 
     /// The outstanding request of a line, or `None` exactly where it has none.

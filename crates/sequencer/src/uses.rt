@@ -1,9 +1,9 @@
 // Two generic uses of seats and drivers, which nothing calls: what a turn does after room was made for it, and what a request does
 // after an answer, is proved from the traits alone.
 ghost use Rattle.std.specs.Prelude.{◌≡◌, ◌≤◌, ◌<◌, ◌^◌, IfOk, IsTrue, OnOk, OnErr, length};
-ghost use Rattle.sequencer.specs.Drive.{after_drive};
+ghost use Rattle.sequencer.specs.Drive.{IsLawful, after_drive};
 ghost use Rattle.sequencer.specs.Requests.{IsRequest};
-ghost use Rattle.sequencer.specs.Seats.{with_issued, with_seats, without_answer_at};
+ghost use Rattle.sequencer.specs.Seats.{FitSeats, with_issued, with_seats, without_answer_at};
 
 use crate::{Asked, Driver, DriverEnd, NoMemory, Seats};
 
@@ -12,7 +12,7 @@ fn reserved_turn<D: Driver, S: Seats>(
     now: u64,
     seats: &mut S,
 ) -> Result<DriverEnd, NoMemory>
-    requires seats { D.least driver.old ≤ length (S.view seats.old).kept.seats }
+    requires seats { FitSeats (D.least driver.old) (S.view seats.old).kept.seats }
     requires cycle { now ≤ 10 ^ 12 }
     ensures driver { OnOk result
         (driver.new ≡ (D.drive driver.old (S.view seats.old).kept.seats now).driver) }
@@ -20,6 +20,8 @@ fn reserved_turn<D: Driver, S: Seats>(
         (D.drive driver.old (S.view seats.old).kept.seats now)) }
     ensures next { IfOk result
         (λ end. end.next ≡ (D.drive driver.old (S.view seats.old).kept.seats now).next) }
+    ensures lawful { IsLawful (D.needs driver.old now) now (S.view seats.old).kept
+        (D.drive driver.old (S.view seats.old).kept.seats now) }
     ensures refused { OnErr result (driver.new ≡ driver.old) }
     ensures seats_kept { OnErr result ((S.view seats.new).kept ≡ (S.view seats.old).kept) }
     ensures opening { D.opening driver.new ≡ D.opening driver.old }

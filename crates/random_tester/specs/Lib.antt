@@ -1,0 +1,7 @@
+pub mod Answers
+pub mod Law
+pub mod SeatsAfter
+pub mod Slot
+pub mod State
+pub mod Took
+pub mod Turn
