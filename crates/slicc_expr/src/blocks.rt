@@ -171,7 +171,10 @@ fn enqueue(alloc: Global, room: u32, tokens: &[Token]) -> Result<(Stmt, &[Token]
                     left,
                 ))
             }
-            Err(fault) => Err(fault),
+            Err(fault) => {
+                drop(latency);
+                Err(fault)
+            }
         },
         Err(fault) => Err(fault),
     }
@@ -203,7 +206,10 @@ fn conditional(alloc: Global, room: u32, tokens: &[Token]) -> Result<(If, &[Toke
                     left,
                 ))
             }
-            Err(fault) => Err(fault),
+            Err(fault) => {
+                drop(condition);
+                Err(fault)
+            }
         },
         Err(fault) => Err(fault),
     }
@@ -234,7 +240,10 @@ fn if_branch(alloc: Global, room: u32, tokens: &[Token]) -> Result<(Expr, Block,
     match if_condition(alloc, room, tokens) {
         Ok((condition, behind)) => match statement_block(alloc, room, behind) {
             Ok((then, left)) => Ok((condition, then, left)),
-            Err(fault) => Err(fault),
+            Err(fault) => {
+                drop(condition);
+                Err(fault)
+            }
         },
         Err(fault) => Err(fault),
     }
@@ -275,7 +284,10 @@ fn else_ifs(alloc: Global, room: u32, tokens: &[Token]) -> Result<(Vec<ElseIf>, 
         match else_if(alloc, room, left) {
             Ok((next, after)) => match others.push(next) {
                 Ok(()) => left = after,
-                Err(_) => return Err(Fault::NoMemory),
+                Err(failed) => {
+                    drop(failed);
+                    return Err(Fault::NoMemory);
+                }
             },
             Err(fault) => return Err(fault),
         }

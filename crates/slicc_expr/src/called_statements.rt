@@ -34,7 +34,10 @@ fn port_value_inside(
         Ok(inside) => match port_value(alloc, room - 1, inside) {
             Ok((port, value, after)) => match sign(room - 1, Sign::CloseParenthesis, after) {
                 Ok(left) => Ok((port, value, left)),
-                Err(fault) => Err(fault),
+                Err(fault) => {
+                    drop(value);
+                    Err(fault)
+                }
             },
             Err(fault) => Err(fault),
         },
@@ -62,7 +65,10 @@ fn stall_and_wait(alloc: Global, room: u32, tokens: &[Token]) -> Result<(Stmt, &
                         left,
                     ))
                 }
-                Err(fault) => Err(fault),
+                Err(fault) => {
+                    drop(address);
+                    Err(fault)
+                }
             },
             Err(fault) => Err(fault),
         },
@@ -154,7 +160,10 @@ fn assert(alloc: Global, room: u32, tokens: &[Token]) -> Result<(Stmt, &[Token])
         Ok(behind) => match condition(alloc, room, behind) {
             Ok((claim, after)) => match sign(room, Sign::Semicolon, after) {
                 Ok(left) => Ok((Stmt::Assert(claim, span(tokens, left)), left)),
-                Err(fault) => Err(fault),
+                Err(fault) => {
+                    drop(claim);
+                    Err(fault)
+                }
             },
             Err(fault) => Err(fault),
         },

@@ -130,7 +130,10 @@ fn operation<'t>(
             nodes::operation(alloc, first, others, span(start, left)),
             left
         ),
-        Err(fault) => Err(fault),
+        Err(fault) => {
+            drop(first);
+            Err(fault)
+        }
     }
 }
 
@@ -155,7 +158,10 @@ fn operands<'t>(
         match level(alloc, room, height, behind) {
             Ok((value, after)) => match items.push(Operand { operator, value }) {
                 Ok(()) => left = after,
-                Err(_) => return Err(Fault::NoMemory),
+                Err(failed) => {
+                    drop(failed);
+                    return Err(Fault::NoMemory);
+                }
             },
             Err(fault) => return Err(fault),
         }
@@ -325,7 +331,10 @@ fn argument_list(alloc: Global, room: u32, tokens: &[Token]) -> Result<(Args, &[
     let mut left = match level(alloc, room, LEVELS, tokens) {
         Ok((first, after)) => match items.push(first) {
             Ok(()) => after,
-            Err(_) => return Err(Fault::NoMemory),
+            Err(failed) => {
+                drop(failed);
+                return Err(Fault::NoMemory);
+            }
         },
         Err(fault) => return Err(fault),
     };
@@ -333,7 +342,10 @@ fn argument_list(alloc: Global, room: u32, tokens: &[Token]) -> Result<(Args, &[
         match next_argument(alloc, room, left) {
             Ok((next, after)) => match items.push(next) {
                 Ok(()) => left = after,
-                Err(_) => return Err(Fault::NoMemory),
+                Err(failed) => {
+                    drop(failed);
+                    return Err(Fault::NoMemory);
+                }
             },
             Err(fault) => return Err(fault),
         }
@@ -381,7 +393,10 @@ fn suffixes<'t>(
             nodes::postfix(alloc, value, suffixes, span(start, left)),
             left
         ),
-        Err(fault) => Err(fault),
+        Err(fault) => {
+            drop(value);
+            Err(fault)
+        }
     }
 }
 
@@ -400,7 +415,10 @@ fn suffix_list(alloc: Global, room: u32, tokens: &[Token]) -> Result<(Vec<Suffix
         match suffix(alloc, room, left) {
             Ok((next, after)) => match items.push(next) {
                 Ok(()) => left = after,
-                Err(_) => return Err(Fault::NoMemory),
+                Err(failed) => {
+                    drop(failed);
+                    return Err(Fault::NoMemory);
+                }
             },
             Err(fault) => return Err(fault),
         }
@@ -521,7 +539,10 @@ fn enclosed(
         Ok(behind) => match level(alloc, room - 1, LEVELS, behind) {
             Ok((inner, after)) => match sign(room - 1, closer, after) {
                 Ok(left) => Ok((inner, left)),
-                Err(fault) => Err(fault),
+                Err(fault) => {
+                    drop(inner);
+                    Err(fault)
+                }
             },
             Err(fault) => Err(fault),
         },
@@ -665,7 +686,10 @@ fn converted(
         Ok((target, mode, behind)) => match level(alloc, room, LEVELS, behind) {
             Ok((value, after)) => match sign(room, Sign::CloseParenthesis, after) {
                 Ok(left) => Ok((target, mode, value, left)),
-                Err(fault) => Err(fault),
+                Err(fault) => {
+                    drop(value);
+                    Err(fault)
+                }
             },
             Err(fault) => Err(fault),
         },

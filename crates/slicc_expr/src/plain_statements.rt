@@ -35,7 +35,10 @@ fn behind_expression<'t>(
     if !is_sign(Sign::Assign, tokens) {
         return match sign(room, Sign::Semicolon, tokens) {
             Ok(left) => Ok((Stmt::Evaluate(place, span(start, left)), left)),
-            Err(fault) => Err(fault),
+            Err(fault) => {
+                drop(place);
+                Err(fault)
+            }
         };
     }
     match assigned_value(alloc, room, tokens) {
@@ -44,9 +47,16 @@ fn behind_expression<'t>(
                 let span = span(start, left);
                 Ok((Stmt::Assign { place, value, span }, left))
             }
-            Err(fault) => Err(fault),
+            Err(fault) => {
+                drop(place);
+                drop(value);
+                Err(fault)
+            }
         },
-        Err(fault) => Err(fault),
+        Err(fault) => {
+            drop(place);
+            Err(fault)
+        }
     }
 }
 
@@ -79,7 +89,10 @@ fn declaration<'t>(
                     left,
                 ))
             }
-            Err(fault) => Err(fault),
+            Err(fault) => {
+                drop(value);
+                Err(fault)
+            }
         },
         Err(fault) => Err(fault),
     }
@@ -157,7 +170,10 @@ pub fn return_statement(
         Ok(behind) => match optional_value(alloc, room, behind) {
             Ok((value, after)) => match sign(room, Sign::Semicolon, after) {
                 Ok(left) => Ok((Stmt::Return(value, span(tokens, left)), left)),
-                Err(fault) => Err(fault),
+                Err(fault) => {
+                    drop(value);
+                    Err(fault)
+                }
             },
             Err(fault) => Err(fault),
         },

@@ -144,7 +144,10 @@ fn enqueue_parentheses(
             Ok((port, message, latency, after)) => {
                 match sign(room - 1, Sign::CloseParenthesis, after) {
                     Ok(left) => Ok((port, message, latency, left)),
-                    Err(fault) => Err(fault),
+                    Err(fault) => {
+                        drop(latency);
+                        Err(fault)
+                    }
                 }
             }
             Err(fault) => Err(fault),

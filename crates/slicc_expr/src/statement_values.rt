@@ -111,7 +111,10 @@ pub fn condition(alloc: Global, room: u32, tokens: &[Token]) -> Result<(Expr, &[
         Ok(inside) => match expression(alloc, room - 1, inside) {
             Ok((value, after)) => match sign(room - 1, Sign::CloseParenthesis, after) {
                 Ok(left) => Ok((value, left)),
-                Err(fault) => Err(fault),
+                Err(fault) => {
+                    drop(value);
+                    Err(fault)
+                }
             },
             Err(fault) => Err(fault),
         },
