@@ -166,11 +166,11 @@ fn wrong_in_play<R: Abort>(
 }
 
 /// Plays from the beginning of a run on.
-pub(crate) fn played<R: Abort>(rt: &R, alloc: Global, name: &str, play: &Play) -> Result<(), Fail> {
+pub(crate) fn played<R: Abort>(rt: &R, alloc: Global, play: &Play) -> Result<(), Fail> {
     let routes = routes(alloc, play.jitter)?;
     let mut store = opened(rt, alloc)?;
     let wrong = wrong_in_play(rt, alloc, &mut store, &routes, play);
-    assert!(rt; wrong.is_none(), "{name}: {wrong:?}");
-    assert!(rt; has_answers(&mut store, play.answers), "{name}");
+    assert!(rt; wrong.is_none(), "{wrong:?}");
+    assert!(rt; has_answers(&mut store, play.answers));
     Ok(())
 }

@@ -346,28 +346,43 @@ const DROPPED: Play = Play {
     answers: &[(0, 0)],
 };
 
-/// Each play, and what it shows.
-const PLAYS: &[(&str, &Play)] = &[
-    ("tables answer by their lines", &TABLES),
-    ("messages wait and come back in their order", &WAITING),
-    ("messages wait and come back in their order", &LEFT_WAITING),
-    (
-        "copies arrive after latency and path and in order where it is kept",
-        &SENDS,
-    ),
-    ("each network copy draws its own jitter", &JITTER),
-    ("each network copy draws its own jitter", &JITTER_IN_TWO),
-    ("no more than 4096 copies go out in a cycle", &TOO_MANY),
-    ("requests are finished by their callbacks", &REQUESTS),
-    ("a draft that is dropped has changed nothing", &DROPPED),
-];
+#[test]
+fn tables_answer_by_their_lines(rt: HostRuntime) -> Result<(), Fail> {
+    played(&rt, rt.alloc(), &TABLES)
+}
 
 #[test]
-fn plays_go_as_worked_out_by_hand(rt: HostRuntime) -> Result<(), Fail> {
-    for (name, play) in PLAYS {
-        played(&rt, rt.alloc(), *name, *play)?;
-    }
-    Ok(())
+fn messages_wait_and_come_back_in_their_order(rt: HostRuntime) -> Result<(), Fail> {
+    played(&rt, rt.alloc(), &WAITING)?;
+    played(&rt, rt.alloc(), &LEFT_WAITING)
+}
+
+#[test]
+fn copies_arrive_after_latency_and_path_and_in_order_where_it_is_kept(
+    rt: HostRuntime,
+) -> Result<(), Fail> {
+    played(&rt, rt.alloc(), &SENDS)
+}
+
+#[test]
+fn each_network_copy_draws_its_own_jitter(rt: HostRuntime) -> Result<(), Fail> {
+    played(&rt, rt.alloc(), &JITTER)?;
+    played(&rt, rt.alloc(), &JITTER_IN_TWO)
+}
+
+#[test]
+fn no_more_than_4096_copies_go_out_in_a_cycle(rt: HostRuntime) -> Result<(), Fail> {
+    played(&rt, rt.alloc(), &TOO_MANY)
+}
+
+#[test]
+fn requests_are_finished_by_their_callbacks(rt: HostRuntime) -> Result<(), Fail> {
+    played(&rt, rt.alloc(), &REQUESTS)
+}
+
+#[test]
+fn a_draft_that_is_dropped_has_changed_nothing(rt: HostRuntime) -> Result<(), Fail> {
+    played(&rt, rt.alloc(), &DROPPED)
 }
 
 fn are_marked(store: &mut Store, cycles: &[u64]) -> bool {
