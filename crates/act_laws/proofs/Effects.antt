@@ -248,8 +248,8 @@ send_effect v buffer latency fields = go (send v.machine v.actor v.ctl.mail buff
     go (Err e) sent valid = valid
     go (Ok s) sent valid =
         let kept : KeepsMarks v.ctl.mail.marks v.now s.mail.marks =
-            sent_is v.now (λ inbox marks. KeepsMarks v.ctl.mail.marks v.now marks) (λ inbox marks m later is. marks_with v.ctl.mail.marks marks v.now m.arrival later is)
-            v.machine v.actor v.ctl.mail buffer latency fields s sent (marks_kept v.ctl.mail.marks v.now) in
+        sent_is v.now (λ inbox marks. KeepsMarks v.ctl.mail.marks v.now marks) (λ inbox marks m later is. marks_with v.ctl.mail.marks marks v.now m.arrival later is)
+        v.machine v.actor v.ctl.mail buffer latency fields s sent (marks_kept v.ctl.mail.marks v.now) in
         record {
           scan = record { machine = refl; actor = refl; now = refl; start = refl };
           marks = kept;

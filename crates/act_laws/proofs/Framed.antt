@@ -3,6 +3,7 @@ use Rattle.std.proofs.Common.{◌≡◌, ◌+◌, ◌<◌, ◌∷◌, ℕ, zero,
 use Rattle.std.specs.List.{AllPairs}
 use Rattle.std.specs.Prelude.{count_by}
 use Rattle.std.proofs.lemmas.List.Elements.{All-cons, All-head, All-map, All-nil, All-tail, All-weaker}
+use Rattle.std.proofs.lemmas.List.Sums.{sum_by-cons}
 use Rattle.ruby_value.proofs.Ordered.{All-insert, AllPairs-head, AllPairs-tail}
 use Rattle.std.specs.Option.{ok_or}
 use Rattle.ruby_value.specs.declared.fault.Fault.{Fault}
@@ -140,31 +141,32 @@ all_added (m ∷ ms) cs a v ascends all differ =
 -- what a scan's inbox doesn't have as it begins, it doesn't get but from others
 counted_none : (f : MsgNo → Bool) (xs : List MsgNo) → count_by f xs ≡ 0 → All (λ n. f n ≡ false) xs
 counted_none f [] none = All-nil (λ n. f n ≡ false)
-counted_none f (x ∷ xs) none = go (f x) refl none
+counted_none f (x ∷ xs) none = go (counted_none f xs) (f x) refl (sym (sum_by-cons (λ n. cond (f n) 1 0) x xs) ∙ none)
   where
-    go : (b : Bool) → f x ≡ b → cond b 1 0 + count_by f xs ≡ 0 → All (λ n. f n ≡ false) (x ∷ xs)
-    go true is sum = absurd (omega arith)
-    go false is sum = All-cons (λ n. f n ≡ false) x xs is (counted_none f xs (omega arith))
+    go : (count_by f xs ≡ 0 → All (λ n. f n ≡ false) xs) → (b : Bool) → f x ≡ b → cond b 1 0 + count_by f xs ≡ 0 → All (λ n. f n ≡ false) (x ∷ xs)
+    go rest true is sum = absurd (omega arith)
+    go rest false is sum = All-cons (λ n. f n ≡ false) x xs is (rest (omega arith))
 
 none_counted : (f : MsgNo → Bool) (xs : List MsgNo) → All (λ n. f n ≡ false) xs → count_by f xs ≡ 0
 none_counted f [] all = refl
 none_counted f (x ∷ xs) all =
-    ap (λ (b : Bool). cond b 1 0 + count_by f xs) (All-head (λ n. f n ≡ false) x xs all)
-    ∙ (let rest = none_counted f xs (All-tail (λ n. f n ≡ false) x xs all) in omega arith)
+    let rest : count_by f xs ≡ 0 = none_counted f xs (All-tail (λ n. f n ≡ false) x xs all) in
+    let same : cond (f x) 1 0 + count_by f xs ≡ 0 + count_by f xs = ap (λ (b : Bool). cond b 1 0 + count_by f xs) (All-head (λ n. f n ≡ false) x xs all) in
+    sum_by-cons (λ n. cond (f n) 1 0) x xs ∙ same ∙ omega arith
 
 new_now : (v : LocalView) → IsLawful v → (m : Message) → IsNew v.actor.me v.now v.start.mail.inbox m → IsNew v.actor.me v.now v.ctl.mail.inbox m
 new_now v l m new =
     let f : MsgNo → Bool = λ n. same_number n m.number in
     let number : InboxMessage → MsgNo = λ o. o.message.number in
     let before : count_by f (map number v.start.mail.inbox) ≡ 0 =
-        none_counted f (map number v.start.mail.inbox)
-        (All-map (λ n. f n ≡ false) number v.start.mail.inbox
-        (All-weaker (λ (o : InboxMessage). ¬ (o.message.number ≡ m.number)) (λ (o : InboxMessage). f (number o) ≡ false) (λ o differ. not_same o.message.number m.number differ) v.start.mail.inbox new.unknown)) in
+    none_counted f (map number v.start.mail.inbox)
+    (All-map (λ n. f n ≡ false) number v.start.mail.inbox
+    (All-weaker (λ (o : InboxMessage). ¬ (o.message.number ≡ m.number)) (λ (o : InboxMessage). f (number o) ≡ false) (λ o differ. not_same o.message.number m.number differ) v.start.mail.inbox new.unknown)) in
     let sent : count_by f (map (λ (n : Note). n.number) v.acts.sent) ≡ 0 =
-        ap (count_by f) l.acts.0.numbers
-        ∙ none_counted f (numbers_from v.actor.me v.start.mail.sent (length v.acts.sent))
-        (All-weaker (λ (n : MsgNo). n.sender ≡ v.actor.me) (λ n. f n ≡ false) (λ n own. not_same n m.number (λ same. new.other (sym (ap (λ (k : MsgNo). k.sender) same) ∙ own)))
-        (numbers_from v.actor.me v.start.mail.sent (length v.acts.sent)) (all_of_sender v.actor.me v.start.mail.sent (length v.acts.sent))) in
+    ap (count_by f) l.acts.0.numbers
+    ∙ none_counted f (numbers_from v.actor.me v.start.mail.sent (length v.acts.sent))
+    (All-weaker (λ (n : MsgNo). n.sender ≡ v.actor.me) (λ n. f n ≡ false) (λ n own. not_same n m.number (λ same. new.other (sym (ap (λ (k : MsgNo). k.sender) same) ∙ own)))
+    (numbers_from v.actor.me v.start.mail.sent (length v.acts.sent)) (all_of_sender v.actor.me v.start.mail.sent (length v.acts.sent))) in
     let moves = l.acts.1 f in
     let after : count_by f (map number v.ctl.mail.inbox) ≡ 0 = omega arith in
     record {
@@ -198,7 +200,7 @@ module _ (more : Added) where
   each_act a v w served e =
       let all : All (IsNew v.actor.me v.now v.ctl.mail.inbox) more.messages = λ k d within. new_now v e.lawful _ (e.new.each k d within) in
       let same : does_served a w ≡ after_adding more (does_served a v) =
-          ap (does_served a) e.is ∙ all_added more.messages more.marks a v e.lawful.scan.fits.mail.inbox_ascends all e.new.differ in
+      ap (does_served a) e.is ∙ all_added more.messages more.marks a v e.lawful.scan.fits.mail.inbox_ascends all e.new.differ in
       subst (Agrees IsExtended (does_served a v)) (sym same)
       (agrees_extended v (does_served a v) e.new (lawful_act a v served e.lawful) (act_effect a v))
 

@@ -86,9 +86,6 @@ module _ {A : Type 0} (change : LocalView → LocalView) (v : LocalView) where
   changes_moved x (Err e) other is = ap (changes x) is
 
 module _ (f : List InboxMessage → List InboxMessage) (g : List ℕ → List ℕ) (v : LocalView) where
-  abbrev there : LocalView → LocalView
-  there w = moved f g w
-
   -- on tables
   after_table : (table : ℕ) (r : Result Table Fault) → after_change (moved f g v) table r ≡ after_view (moved f g) (after_change v table r)
   after_table table (Ok t) = refl
@@ -163,22 +160,16 @@ module _ (f : List InboxMessage → List InboxMessage) (g : List ℕ → List �
         (λ m is. ap (λ (inbox : List InboxMessage). record v.ctl.mail { inbox = inbox; marks = g v.ctl.mail.marks }) (passes.changed m (held buffer m is) (message_waiting_under line) (λ o. refl)))
 
     pub recycle_moved : (buffer : ℕ) (latency : ℤ) → recycle (moved f g v) buffer latency ≡ after_view (moved f g) (recycle v buffer latency)
-    recycle_moved buffer latency = go (is_latency latency)
+    recycle_moved buffer latency = go (λ (number : MsgNo). record v.acts { recycled = v.acts.recycled ++ number ∷ [] }) (v.now + nat_abs latency) (is_latency latency)
       where
-        abbrev told : MsgNo → Acts
-        told number = record v.acts { recycled = v.acts.recycled ++ number ∷ [] }
-
-        abbrev arrival : ℕ
-        arrival = v.now + nat_abs latency
-
-        go : (b : Bool) → after_front (moved f g v) told (cond b (at_front (mail_with_recycled (mail_moved f g v.ctl.mail) arrival) (front_now (moved f g v) buffer)) (Err Latency))
+        go : (told : MsgNo → Acts) (arrival : ℕ) (b : Bool) → after_front (moved f g v) told (cond b (at_front (mail_with_recycled (mail_moved f g v.ctl.mail) arrival) (front_now (moved f g v) buffer)) (Err Latency))
             ≡ after_view (moved f g) (after_front v told (cond b (at_front (mail_with_recycled v.ctl.mail arrival) (front_now v buffer)) (Err Latency)))
-        go true =
+        go told arrival true =
             by_front told (mail_with_recycled v.ctl.mail arrival) (mail_with_recycled (mail_moved f g v.ctl.mail) arrival) buffer
             (λ m is.
             ap (λ (inbox : List InboxMessage). record v.ctl.mail { inbox = inbox; marks = with_mark (g v.ctl.mail.marks) arrival }) (passes.changed m (held buffer m is) (message_arriving_again arrival) (λ o. refl))
             ∙ ap (λ (marks : List ℕ). record v.ctl.mail { inbox = f (changed_message v.ctl.mail.inbox m.number (message_arriving_again arrival)); marks = marks }) (passes.mark v.ctl.mail.marks arrival))
-        go false = refl
+        go told arrival false = refl
 
     pub wake_moved : (test : Option ℕ → Bool) → test None ≡ false → with_woken (moved f g v) (λ (o : InboxMessage). test o.waiting) ≡ moved f g (with_woken v (λ (o : InboxMessage). test o.waiting))
     wake_moved test none =

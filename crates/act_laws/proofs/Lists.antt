@@ -10,22 +10,22 @@ module _ {X : Type 0} (p q : X → Bool) where
   -- filters may be swapped
   pub filters_swap : (xs : List X) → filter p (filter q xs) ≡ filter q (filter p xs)
   filters_swap [] = refl
-  filters_swap (x ∷ xs) = go (p x) (q x) refl refl
+  filters_swap (x ∷ xs) = go (filters_swap xs) (p x) (q x) refl refl
     where
-      go : (b c : Bool) → p x ≡ b → q x ≡ c → filter p (cond c (x ∷ filter q xs) (filter q xs)) ≡ filter q (cond b (x ∷ filter p xs) (filter p xs))
-      go true true is_p is_q = ap (λ (t : Bool). cond t (x ∷ filter p (filter q xs)) (filter p (filter q xs))) is_p ∙ ap (λ (ys : List X). x ∷ ys) (filters_swap xs) ∙ ap (λ (t : Bool). cond t (x ∷ filter q (filter p xs)) (filter q (filter p xs))) (sym is_q)
-      go true false is_p is_q = filters_swap xs ∙ ap (λ (t : Bool). cond t (x ∷ filter q (filter p xs)) (filter q (filter p xs))) (sym is_q)
-      go false true is_p is_q = ap (λ (t : Bool). cond t (x ∷ filter p (filter q xs)) (filter p (filter q xs))) is_p ∙ filters_swap xs
-      go false false is_p is_q = filters_swap xs
+      go : filter p (filter q xs) ≡ filter q (filter p xs) → (b c : Bool) → p x ≡ b → q x ≡ c → filter p (cond c (x ∷ filter q xs) (filter q xs)) ≡ filter q (cond b (x ∷ filter p xs) (filter p xs))
+      go rest true true is_p is_q = ap (λ (t : Bool). cond t (x ∷ filter p (filter q xs)) (filter p (filter q xs))) is_p ∙ ap (λ (ys : List X). x ∷ ys) rest ∙ ap (λ (t : Bool). cond t (x ∷ filter q (filter p xs)) (filter q (filter p xs))) (sym is_q)
+      go rest true false is_p is_q = rest ∙ ap (λ (t : Bool). cond t (x ∷ filter q (filter p xs)) (filter q (filter p xs))) (sym is_q)
+      go rest false true is_p is_q = ap (λ (t : Bool). cond t (x ∷ filter p (filter q xs)) (filter p (filter q xs))) is_p ∙ rest
+      go rest false false is_p is_q = rest
 
   -- nothing passes two tests of which the one refuses what the other lets through
   pub none_left : ((x : X) → q x ≡ true → p x ≡ false) → (xs : List X) → filter p (filter q xs) ≡ []
   none_left apart [] = refl
-  none_left apart (x ∷ xs) = go (q x) refl
+  none_left apart (x ∷ xs) = go (none_left apart xs) (q x) refl
     where
-      go : (c : Bool) → q x ≡ c → filter p (cond c (x ∷ filter q xs) (filter q xs)) ≡ []
-      go true is = ap (λ (t : Bool). cond t (x ∷ filter p (filter q xs)) (filter p (filter q xs))) (apart x is) ∙ none_left apart xs
-      go false is = none_left apart xs
+      go : filter p (filter q xs) ≡ [] → (c : Bool) → q x ≡ c → filter p (cond c (x ∷ filter q xs) (filter q xs)) ≡ []
+      go rest true is = ap (λ (t : Bool). cond t (x ∷ filter p (filter q xs)) (filter p (filter q xs))) (apart x is) ∙ rest
+      go rest false is = rest
 
 module _ {X : Type 0} (p : X → Bool) where
   pub all_left : (xs : List X) → All (λ x. p x ≡ true) xs → filter p xs ≡ xs
@@ -43,11 +43,11 @@ module _ {X : Type 0} (p : X → Bool) where
   -- a change that the test doesn't see
   pub filter_map_swap : (change : X → X) → ((x : X) → p (change x) ≡ p x) → (xs : List X) → filter p (map change xs) ≡ map change (filter p xs)
   filter_map_swap change same [] = refl
-  filter_map_swap change same (x ∷ xs) = go (p x) refl
+  filter_map_swap change same (x ∷ xs) = go (filter_map_swap change same xs) (p x) refl
     where
-      go : (b : Bool) → p x ≡ b → cond (p (change x)) (change x ∷ filter p (map change xs)) (filter p (map change xs)) ≡ map change (cond b (x ∷ filter p xs) (filter p xs))
-      go true is = ap (λ (t : Bool). cond t (change x ∷ filter p (map change xs)) (filter p (map change xs))) (same x ∙ is) ∙ ap (λ (ys : List X). change x ∷ ys) (filter_map_swap change same xs)
-      go false is = ap (λ (t : Bool). cond t (change x ∷ filter p (map change xs)) (filter p (map change xs))) (same x ∙ is) ∙ filter_map_swap change same xs
+      go : filter p (map change xs) ≡ map change (filter p xs) → (b : Bool) → p x ≡ b → cond (p (change x)) (change x ∷ filter p (map change xs)) (filter p (map change xs)) ≡ map change (cond b (x ∷ filter p xs) (filter p xs))
+      go rest true is = ap (λ (t : Bool). cond t (change x ∷ filter p (map change xs)) (filter p (map change xs))) (same x ∙ is) ∙ ap (λ (ys : List X). change x ∷ ys) rest
+      go rest false is = ap (λ (t : Bool). cond t (change x ∷ filter p (map change xs)) (filter p (map change xs))) (same x ∙ is) ∙ rest
 
 module _ {X : Type 0} (before : X → X → Bool) where
   -- the item passes the test
@@ -82,19 +82,19 @@ module _ {X : Type 0} (before : X → X → Bool) where
       let low = filter below_a xs in
       let high = filter above_b xs in
       let left_low : filter below_b (inserted before xs a) ≡ filter below_b low ++ a ∷ filter below_b (filter above_a xs) =
-          filter-append below_b low (a ∷ filter above_a xs)
-          ∙ ap (λ (t : Bool). filter below_b low ++ cond t (a ∷ filter below_b (filter above_a xs)) (filter below_b (filter above_a xs))) first in
+      filter-append below_b low (a ∷ filter above_a xs)
+      ∙ ap (λ (t : Bool). filter below_b low ++ cond t (a ∷ filter below_b (filter above_a xs)) (filter below_b (filter above_a xs))) first in
       let left_high : filter above_b (inserted before xs a) ≡ filter above_b (filter above_a xs) =
-          filter-append above_b low (a ∷ filter above_a xs)
-          ∙ ap (λ (t : Bool). filter above_b low ++ cond t (a ∷ filter above_b (filter above_a xs)) (filter above_b (filter above_a xs))) not_after
-          ∙ ap (λ (ys : List X). ys ++ filter above_b (filter above_a xs)) (none_left above_b below_a apart xs) in
+      filter-append above_b low (a ∷ filter above_a xs)
+      ∙ ap (λ (t : Bool). filter above_b low ++ cond t (a ∷ filter above_b (filter above_a xs)) (filter above_b (filter above_a xs))) not_after
+      ∙ ap (λ (ys : List X). ys ++ filter above_b (filter above_a xs)) (none_left above_b below_a apart xs) in
       let right_low : filter below_a (inserted before xs b) ≡ filter below_a (filter below_b xs) ++ [] =
-          filter-append below_a (filter below_b xs) (b ∷ high)
-          ∙ ap (λ (t : Bool). filter below_a (filter below_b xs) ++ cond t (b ∷ filter below_a high) (filter below_a high)) not_after
-          ∙ ap (λ (ys : List X). filter below_a (filter below_b xs) ++ ys) (filters_swap below_a above_b xs ∙ none_left above_b below_a apart xs) in
+      filter-append below_a (filter below_b xs) (b ∷ high)
+      ∙ ap (λ (t : Bool). filter below_a (filter below_b xs) ++ cond t (b ∷ filter below_a high) (filter below_a high)) not_after
+      ∙ ap (λ (ys : List X). filter below_a (filter below_b xs) ++ ys) (filters_swap below_a above_b xs ∙ none_left above_b below_a apart xs) in
       let right_high : filter above_a (inserted before xs b) ≡ filter above_a (filter below_b xs) ++ b ∷ filter above_a high =
-          filter-append above_a (filter below_b xs) (b ∷ high)
-          ∙ ap (λ (t : Bool). filter above_a (filter below_b xs) ++ cond t (b ∷ filter above_a high) (filter above_a high)) first in
+      filter-append above_a (filter below_b xs) (b ∷ high)
+      ∙ ap (λ (t : Bool). filter above_a (filter below_b xs) ++ cond t (b ∷ filter above_a high) (filter above_a high)) first in
       ap (λ (ys : List X). ys ++ b ∷ filter above_b (inserted before xs a)) left_low
       ∙ ap (λ (ys : List X). (filter below_b low ++ a ∷ filter below_b (filter above_a xs)) ++ b ∷ ys) (left_high ∙ filters_swap above_b above_a xs)
       ∙ ap (λ (ys : List X). (ys ++ a ∷ filter below_b (filter above_a xs)) ++ b ∷ filter above_a high) (filters_swap below_b below_a xs)
@@ -111,22 +111,16 @@ module _ {X : Type 0} (before : X → X → Bool) where
     parted (x ∷ xs) ascends apart =
         ⊎_elim
         (λ (low : before x m ≡ true).
-        ap (λ (t : Bool). cond t (x ∷ filter below xs) (filter below xs) ++ filter above (x ∷ xs)) low
-        ∙ ap (λ (t : Bool). (x ∷ filter below xs) ++ cond t (x ∷ filter above xs) (filter above xs)) (one_way x m low)
+        ap (λ (t : Bool). cond t (x ∷ filter (λ o. before o m) xs) (filter (λ o. before o m) xs) ++ filter (λ o. before m o) (x ∷ xs)) low
+        ∙ ap (λ (t : Bool). (x ∷ filter (λ o. before o m) xs) ++ cond t (x ∷ filter (λ o. before m o) xs) (filter (λ o. before m o) xs)) (one_way x m low)
         ∙ ap (λ (ys : List X). x ∷ ys) (parted xs (AllPairs-tail (λ a b. before a b ≡ true) x xs ascends) (All-tail (λ y. (before y m ≡ true) ⊎ (before m y ≡ true)) x xs apart)))
         (λ (high : before m x ≡ true).
         let rest : All (λ y. before m y ≡ true) xs = All-weaker (λ y. before x y ≡ true) (λ y. before m y ≡ true) (λ y after. goes_on m x y high after) xs (AllPairs-head (λ a b. before a b ≡ true) x xs ascends) in
-        ap (λ (t : Bool). cond t (x ∷ filter below xs) (filter below xs) ++ filter above (x ∷ xs)) (one_way m x high)
-        ∙ ap (λ (ys : List X). ys ++ filter above (x ∷ xs)) (none_passes below xs (All-weaker (λ y. before m y ≡ true) (λ y. before y m ≡ false) (λ y after. one_way m y after) xs rest))
-        ∙ ap (λ (t : Bool). cond t (x ∷ filter above xs) (filter above xs)) high
-        ∙ ap (λ (ys : List X). x ∷ ys) (all_left above xs rest))
+        ap (λ (t : Bool). cond t (x ∷ filter (λ o. before o m) xs) (filter (λ o. before o m) xs) ++ filter (λ o. before m o) (x ∷ xs)) (one_way m x high)
+        ∙ ap (λ (ys : List X). ys ++ filter (λ o. before m o) (x ∷ xs)) (none_passes (λ o. before o m) xs (All-weaker (λ y. before m y ≡ true) (λ y. before y m ≡ false) (λ y after. one_way m y after) xs rest))
+        ∙ ap (λ (t : Bool). cond t (x ∷ filter (λ o. before m o) xs) (filter (λ o. before m o) xs)) high
+        ∙ ap (λ (ys : List X). x ∷ ys) (all_left (λ o. before m o) xs rest))
         (All-head (λ y. (before y m ≡ true) ⊎ (before m y ≡ true)) x xs apart)
-      where
-        abbrev below : X → Bool
-        below o = before o m
-
-        abbrev above : X → Bool
-        above o = before m o
 
     -- so what doesn't pass a test may be put in before the test, or not
     pub filter_passes_over : (t : X → Bool) (xs : List X) → t m ≡ false → AllPairs (λ a b. before a b ≡ true) xs → All (λ x. (before x m ≡ true) ⊎ (before m x ≡ true)) xs

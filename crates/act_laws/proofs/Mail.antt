@@ -24,11 +24,11 @@ module _ {X : Type 0} (P Q : X → Type 0) where
 module _ {X : Type 0} (t : X → Bool) where
   all_tested : (xs : List X) → All (λ x. t x ≡ true) (filter t xs)
   all_tested [] = All-nil (λ x. t x ≡ true)
-  all_tested (x ∷ xs) = go (t x) refl
+  all_tested (x ∷ xs) = go (all_tested xs) (t x) refl
     where
-      go : (b : Bool) → t x ≡ b → All (λ y. t y ≡ true) (cond b (x ∷ filter t xs) (filter t xs))
-      go true is = All-cons (λ y. t y ≡ true) x (filter t xs) is (all_tested xs)
-      go false is = all_tested xs
+      go : All (λ y. t y ≡ true) (filter t xs) → (b : Bool) → t x ≡ b → All (λ y. t y ≡ true) (cond b (x ∷ filter t xs) (filter t xs))
+      go rest true is = All-cons (λ y. t y ≡ true) x (filter t xs) is rest
+      go rest false is = rest
 
 pub all_of_sender : (me count n : ℕ) → All (λ (number : MsgNo). number.sender ≡ me) (numbers_from me count n)
 all_of_sender me count zero = All-nil (λ (number : MsgNo). number.sender ≡ me)
@@ -44,25 +44,22 @@ module _ (v : LocalView) (l : IsLawful v) where
     posted = posted;
   }
     where
-      abbrev Sent : Note → Type 0
-      Sent n = (n.number.sender ≡ v.actor.me) × (v.now < n.arrival)
-
-      sent : All Sent v.acts.sent
+      sent : All (λ (n : Note). (n.number.sender ≡ v.actor.me) × (v.now < n.arrival)) v.acts.sent
       sent =
           all_both (λ (n : Note). n.number.sender ≡ v.actor.me) (λ (n : Note). v.now < n.arrival) v.acts.sent
           (all_from_map (λ (number : MsgNo). number.sender ≡ v.actor.me) (λ (n : Note). n.number) v.acts.sent
           (subst (All (λ (number : MsgNo). number.sender ≡ v.actor.me)) (sym l.acts.0.numbers) (all_of_sender v.actor.me v.start.mail.sent (length v.acts.sent))))
           l.acts.0.arrivals
 
-      notes : All (λ (n : Note). Sent n × (not (eqb n.receiver v.actor.me) ≡ true)) (filter (λ (n : Note). not (eqb n.receiver v.actor.me)) v.acts.sent)
+      notes : All (λ (n : Note). ((n.number.sender ≡ v.actor.me) × (v.now < n.arrival)) × (not (eqb n.receiver v.actor.me) ≡ true)) (filter (λ (n : Note). not (eqb n.receiver v.actor.me)) v.acts.sent)
       notes =
-          all_both Sent (λ (n : Note). not (eqb n.receiver v.actor.me) ≡ true) (filter (λ (n : Note). not (eqb n.receiver v.actor.me)) v.acts.sent)
-          (All-filter (λ (n : Note). not (eqb n.receiver v.actor.me)) Sent v.acts.sent sent) (all_tested (λ (n : Note). not (eqb n.receiver v.actor.me)) v.acts.sent)
+          all_both (λ (n : Note). (n.number.sender ≡ v.actor.me) × (v.now < n.arrival)) (λ (n : Note). not (eqb n.receiver v.actor.me) ≡ true) (filter (λ (n : Note). not (eqb n.receiver v.actor.me)) v.acts.sent)
+          (All-filter (λ (n : Note). not (eqb n.receiver v.actor.me)) (λ (n : Note). (n.number.sender ≡ v.actor.me) × (v.now < n.arrival)) v.acts.sent sent) (all_tested (λ (n : Note). not (eqb n.receiver v.actor.me)) v.acts.sent)
 
       posted : All (IsPosted v.actor.me v.now) v.acts.posted
       posted =
-          let of_copies = all_from_map (λ (n : Note). Sent n × (not (eqb n.receiver v.actor.me) ≡ true)) note_of v.acts.posted (subst (All (λ (n : Note). Sent n × (not (eqb n.receiver v.actor.me) ≡ true))) (sym l.acts.0.for_others) notes) in
+          let of_copies = all_from_map (λ (n : Note). ((n.number.sender ≡ v.actor.me) × (v.now < n.arrival)) × (not (eqb n.receiver v.actor.me) ≡ true)) note_of v.acts.posted (subst (All (λ (n : Note). ((n.number.sender ≡ v.actor.me) × (v.now < n.arrival)) × (not (eqb n.receiver v.actor.me) ≡ true))) (sym l.acts.0.for_others) notes) in
           λ k d within.
-              let c = of_copies k d within in
-              let routed = l.acts.0.routed k d within in
-              record { sender = c.0.0; later = c.0.1; other = not_eqb _ _ c.1; not_recycled = routed.not_recycled }
+          let c = of_copies k d within in
+          let routed = l.acts.0.routed k d within in
+          record { sender = c.0.0; later = c.0.1; other = not_eqb _ _ c.1; not_recycled = routed.not_recycled }

@@ -59,7 +59,7 @@ or_fault : {A : Type 0} (o : Option A) (f : Fault) → ¬ (f ≡ Invalid) → No
 or_fault None f valid = valid
 or_fault (Some x) f valid = tt
 
-act_effect : (a : Act) (v : LocalView) → DoneEffect v (does_served a v)
+pub act_effect : (a : Act) (v : LocalView) → DoneEffect v (does_served a v)
 act_effect Now v = unchanged v
 act_effect Me v = unchanged v
 act_effect (Get r field) v = read v (get v r field) (or_fault (option_and_then (λ fields. slice_get fields field) (fields_behind v r)) Reference (λ is. cc is))
@@ -88,7 +88,7 @@ act_effect (SetState line new) v = set_state_effect v line new
 act_effect Again v = again_effect v
 
 -- what a body does is an effect too
-same_scan : (u v w : LocalView) → SameScan u v → SameScan v w → SameScan u w
+pub same_scan : (u v w : LocalView) → SameScan u v → SameScan v w → SameScan u w
 same_scan u v w first second = record {
   machine = second.machine ∙ first.machine;
   actor = second.actor ∙ first.actor;
