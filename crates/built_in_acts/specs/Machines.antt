@@ -1,7 +1,7 @@
 -- The controllers of each machine of the protocol, as a controller keeps them: after its own parameters, in their table, stand for
 -- each machine the number of its first controller and how many it has. A machine has controllers where these are 0 to 63 and 1 to 64.
 -- For a number that is in several machines' ranges it is the first one's. That they are kept so is this project's own.
-use Rattle.std.specs.Prelude.{ℕ, zero, suc, ℤ, pos, negsuc, ◌+◌, ◌-◌, ◌*◌, ◌%◌, Bool, true, false, ◌&&◌, Option, None, Some, List, nat_le, nat_lt, if◌then◌else◌}
+use Rattle.std.specs.Prelude.{ℕ, zero, suc, ℤ, pos, negsuc, ◌+◌, ◌-◌, ◌*◌, ◌%◌, Bool, true, false, ◌&&◌, Option, None, Some, List, nat_le, nat_lt, min, if◌then◌else◌}
 use Rattle.ruby_value.specs.declared.value.Ref.{Ref}
 use Rattle.ruby_value.specs.WithMember.{with_member}
 use Rattle.acts.specs.Act.{Get}
@@ -11,15 +11,18 @@ use Rattle.built_in_acts.specs.declared.machines.Placed.{Placed}
 use Rattle.built_in_acts.specs.declared.machines.Range.{Range}
 use Rattle.built_in_acts.specs.Values.{number}
 
+-- a number of 0 to 254; 255 counts for all others
+abbrev pub small : ℤ → ℕ
+small (pos n) = min n 255
+small (negsuc n) = 255
+
 -- two numbers, if they are such
-abbrev pub range_of : ℤ → ℤ → Option Range
-range_of (pos first) (pos count) =
-    if nat_lt first 64 && nat_le 1 count && nat_le count 64 then Some (record { first = first; count = count }) else None
-range_of _ _ = None
+abbrev pub range_of : ℕ → ℕ → Option Range
+range_of first count = if nat_lt first 64 && nat_le 1 count && nat_le count 64 then Some (record { first = first; count = count }) else None
 
 -- a number that is kept, by its place among them
-unfoldable pub kept_number : KeptMachines → ℕ → Acting ℤ
-kept_number kept place = act (Get (record { table = kept.table; line = 0 }) (kept.first + place)) >>= (λ v. ends (number v))
+unfoldable pub kept_number : KeptMachines → ℕ → Acting ℕ
+kept_number kept place = act (Get (record { table = kept.table; line = 0 }) (kept.first + place)) >>= (λ v. ends (small (number v)))
 
 -- the controllers of the machine of this number
 unfoldable pub range_at : KeptMachines → ℕ → Acting (Option Range)

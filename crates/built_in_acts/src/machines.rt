@@ -1,3 +1,12 @@
+// The controllers of each machine, as a controller keeps them among its parameters.
+ghost use Rattle.std.specs.Prelude.{◌≡◌, ◌<◌, ◌≤◌, IfOk, IfSome};
+ghost use Rattle.acts.specs.DoesAs.{DoesAs, itself};
+ghost use Rattle.built_in_acts.specs.Machines.{home_in as home_is, kept_number as kept_number_is, range_at as range_at_is, range_of as range_of_is, small as small_of};
+ghost use Rattle.built_in_acts.specs.Values.{number as number_of};
+
+use crate::values::number;
+use acts::{Local, Ref, Trouble, Value, get};
+
 /// Where a machine's controllers keep the numbers of all machines' controllers: in the fields of line 0 of their table of parameters,
 /// for each machine the number of its first controller and then how many it has.
 #[derive(Clone, Copy)]
@@ -22,4 +31,68 @@ pub struct Range {
 pub struct Placed {
     pub machine: u16,
     pub index: u32,
+}
+
+fn small(v: &Value) -> u8
+    ensures { result ≡ small_of (number_of v.now) }
+{
+    let n = number(v);
+    if n < 0 || n > 255 {
+        return 255;
+    }
+    n as u8
+}
+
+fn range_of(first: u8, count: u8) -> Option<Range>
+    ensures does { result ≡ range_of_is first count }
+    ensures some { IfSome result (λ r. 1 ≤ r.count) }
+{
+    if first < 64 && count >= 1 && count <= 64 {
+        return Some(Range { first, count });
+    }
+    None
+}
+
+#[tactic(auto, using(acts::proofs::Walk::walk_steps), unfolding(crate::specs::Machines::kept_number))]
+fn kept_number<T: Local>(local: &T, kept: KeptMachines, place: u16) -> Result<u8, Trouble>
+    requires { place < 1024 }
+    ensures { DoesAs itself (kept_number_is kept place) result (T.view local.now)
+        (T.view local.now) }
+{
+    let r = Ref {
+        table: kept.table,
+        line: 0,
+    };
+    let v = get(local, &r, u16::from(kept.first) + place)?;
+    Ok(small(&v))
+}
+
+/// The controllers of a machine, if it has any.
+#[tactic(auto, using(acts::proofs::Walk::walk_steps), unfolding(crate::specs::Machines::range_at))]
+pub fn range_at<T: Local>(
+    local: &T,
+    kept: KeptMachines,
+    machine: u16,
+) -> Result<Option<Range>, Trouble>
+    ensures does { DoesAs itself (range_at_is kept machine) result (T.view local.now)
+        (T.view local.now) }
+    ensures some { IfOk result (λ o. IfSome o (λ r. 1 ≤ r.count)) }
+{
+    if machine >= u16::from(kept.count) {
+        return Ok(None);
+    }
+    let first = kept_number(local, kept, 2 * machine)?;
+    let count = kept_number(local, kept, 2 * machine + 1)?;
+    Ok(range_of(first, count))
+}
+
+/// The controller of a machine that takes a line.
+pub fn home_in(line: u64, range: Option<Range>) -> u32
+    requires { IfSome range (λ r. 1 ≤ r.count) }
+    ensures { result ≡ home_is line range }
+{
+    match range {
+        Some(r) => u32::from(r.first) + (line % u64::from(r.count)) as u32,
+        None => 0,
+    }
 }
