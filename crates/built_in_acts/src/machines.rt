@@ -1,11 +1,12 @@
 // The controllers of each machine, as a controller keeps them among its parameters.
-ghost use Rattle.std.specs.Prelude.{◌≡◌, ◌<◌, ◌≤◌, IfOk, IfSome};
+ghost use Rattle.std.specs.Prelude.{◌≡◌, ◌<◌, ◌≤◌, ◌+◌, IfOk, IfSome, OnOk};
 ghost use Rattle.acts.specs.DoesAs.{DoesAs, itself};
-ghost use Rattle.built_in_acts.specs.Machines.{home_in as home_is, kept_number as kept_number_is, range_at as range_at_is, range_of as range_of_is, small as small_of};
+ghost use Rattle.built_in_acts.specs.Machines.{home_in as home_is, index_in, is_in as is_in_of, kept_number as kept_number_is, place_of as place_is, placed_from as placed_from_is, range_at as range_at_is, range_of as range_of_is, small as small_of, with_numbers as with_numbers_is, with_range as with_range_is};
 ghost use Rattle.built_in_acts.specs.Values.{number as number_of};
 
 use crate::values::number;
-use acts::{Local, Ref, Trouble, Value, get};
+use acts::{Local, NoMemory, Ref, Trouble, Value, get};
+use ruby_value::NetDest;
 
 /// Where a machine's controllers keep the numbers of all machines' controllers: in the fields of line 0 of their table of parameters,
 /// for each machine the number of its first controller and then how many it has.
@@ -94,5 +95,82 @@ pub fn home_in(line: u64, range: Option<Range>) -> u32
     match range {
         Some(r) => u32::from(r.first) + (line % u64::from(r.count)) as u32,
         None => 0,
+    }
+}
+
+fn is_in(range: Option<Range>, controller: u32) -> bool
+    ensures { result ≡ is_in_of range controller }
+{
+    match range {
+        Some(r) => {
+            controller >= u32::from(r.first) && controller - u32::from(r.first) < u32::from(r.count)
+        }
+        None => false,
+    }
+}
+
+fn index_of(range: Option<Range>, controller: u32) -> u32
+    ensures { result ≡ index_in range controller }
+{
+    match range {
+        Some(r) => controller.saturating_sub(u32::from(r.first)),
+        None => 0,
+    }
+}
+
+#[tactic(auto, using(acts::proofs::Walk::walk_steps, crate::proofs::Placing::placed_none, crate::proofs::Placing::placed_more))]
+fn placed_from<T: Local>(
+    local: &T,
+    kept: KeptMachines,
+    controller: u32,
+    left: u8,
+    machine: u16,
+) -> Result<Placed, Trouble>
+    requires { machine + left < 1024 }
+    ensures { DoesAs itself (placed_from_is kept controller left machine) result
+        (T.view local.now) (T.view local.now) }
+{
+    if left == 0 {
+        return Ok(Placed {
+            machine: 0,
+            index: 0,
+        });
+    }
+    let range = range_at(local, kept, machine)?;
+    if is_in(range, controller) {
+        let index = index_of(range, controller);
+        return Ok(Placed { machine, index });
+    }
+    placed_from(local, kept, controller, left - 1, machine + 1)
+}
+
+/// The machine of a controller, and its index there.
+#[tactic(auto, using(acts::proofs::Walk::walk_steps), unfolding(crate::specs::Machines::place_of))]
+pub fn place_of<T: Local>(local: &T, kept: KeptMachines, controller: u32) -> Result<Placed, Trouble>
+    ensures { DoesAs itself (place_is kept controller) result (T.view local.now)
+        (T.view local.now) }
+{
+    placed_from(local, kept, controller, kept.count, 0)
+}
+
+#[tactic(auto, using(crate::proofs::Placing::numbers_none, crate::proofs::Placing::numbers_more))]
+fn add_numbers(members: &mut NetDest, first: u32, left: u8) -> Result<(), NoMemory>
+    requires { first + left < 1024 }
+    ensures { OnOk result (members.new ≡ with_numbers_is members.old first left) }
+{
+    if left == 0 {
+        return Ok(());
+    }
+    members.add(first)?;
+    add_numbers(members, first + 1, left - 1)
+}
+
+/// Adds the controllers of a machine, if it has any.
+pub fn add_range(members: &mut NetDest, range: Option<Range>) -> Result<(), NoMemory>
+    ensures { OnOk result (members.new ≡ with_range_is members.old range) }
+{
+    match range {
+        Some(r) => add_numbers(members, u32::from(r.first), r.count),
+        None => Ok(()),
     }
 }
