@@ -1,15 +1,18 @@
 // What each built-in call does: its arguments are read, its acts are done, and its value is made.
 ghost use Rattle.std.specs.Prelude.{◌≡◌};
 ghost use Rattle.acts.specs.DoesAs.{DoesAs, itself};
-ghost use Rattle.built_in_acts.specs.BuiltIn.{line_used, of_values as of_values_is, on_messages as on_messages_is, on_table as on_table_is, used};
+ghost use Rattle.built_in_acts.specs.BuiltIn.{line_used, of_values as of_values_is, on_machines as on_machines_is, on_messages as on_messages_is, on_table as on_table_is, used};
 ghost use Rattle.built_in_acts.specs.Values.{argument};
 
-use crate::call::{MessageCall, TableCall, ValueCall};
-use crate::values::{address_of_line, line_at, number_at, reference};
+use crate::call::{MachineCall, MessageCall, TableCall, ValueCall};
+use crate::machines::{KeptMachines, add_range, home_in, place_of, range_at};
+use crate::sets::controllers_at;
+use crate::values::{address_of_line, controller_at, line_at, member_at, number_at, reference};
 use acts::{
     Block, BodyFault, Local, Trouble, Value, allocate, avail, deallocate, lookup, pop, probe,
     ready, recycle, stall, touch, wake, wake_all,
 };
+use std::alloc::Global;
 
 /// Does a call on messages, on a buffer, with these arguments, and answers its value, if it has one.
 pub fn on_messages<T: Local>(
@@ -101,5 +104,38 @@ pub fn of_values(call: ValueCall, arguments: &[Value]) -> Option<Value>
         ValueCall::Number => Some(Value::Int(number_at(arguments, 0))),
         ValueCall::LineAddress => Some(Value::Addr(address_of_line(line_at(arguments, 0)))),
         ValueCall::Nothing => None,
+    }
+}
+
+/// Does a call on the numbers of machines' controllers, with these arguments, and answers its value.
+pub fn on_machines<T: Local>(
+    alloc: Global,
+    local: &T,
+    kept: KeptMachines,
+    call: MachineCall,
+    arguments: &[Value],
+) -> Result<Option<Value>, Trouble>
+    ensures { DoesAs itself (on_machines_is kept call arguments.now) result (T.view local.now)
+        (T.view local.now) }
+{
+    match call {
+        MachineCall::Broadcast => {
+            let range = range_at(local, kept, member_at(arguments, 1))?;
+            let mut members = controllers_at(alloc, arguments, 0)?;
+            add_range(&mut members, range)?;
+            Ok(Some(Value::Dest(members)))
+        }
+        MachineCall::Home => {
+            let range = range_at(local, kept, member_at(arguments, 1))?;
+            Ok(Some(Value::Machine(home_in(line_at(arguments, 0), range))))
+        }
+        MachineCall::Index => {
+            let placed = place_of(local, kept, controller_at(arguments, 0))?;
+            Ok(Some(Value::Int(i64::from(placed.index))))
+        }
+        MachineCall::MachineOf => {
+            let placed = place_of(local, kept, controller_at(arguments, 0))?;
+            Ok(Some(Value::Enum(0, placed.machine)))
+        }
     }
 }

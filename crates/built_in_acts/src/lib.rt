@@ -6,12 +6,13 @@ mod call;
 mod doing;
 mod machines;
 mod operators;
+mod sets;
 mod values;
 
 pub use call::{
     Call, ControllerCall, MachineCall, MessageCall, SetCall, TableCall, ValueCall, call_at,
 };
-pub use doing::{of_values, on_messages, on_table};
+pub use doing::{of_values, on_machines, on_messages, on_table};
 pub use machines::{KeptMachines, Placed, Range, add_range, home_in, place_of, range_at};
 pub use operators::{
     difference, field_of, is_at_most, is_less, negation, product, sum, with_field,

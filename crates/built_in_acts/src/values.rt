@@ -108,3 +108,21 @@ pub(crate) fn line_at(arguments: &[Value], i: usize) -> u64
         None => 0,
     }
 }
+
+pub(crate) fn controller_at(arguments: &[Value], i: usize) -> u32
+    ensures { result ≡ controller_of (argument arguments.now i) }
+{
+    match arguments.get(i) {
+        Some(v) => controller(v),
+        None => 0,
+    }
+}
+
+pub(crate) fn member_at(arguments: &[Value], i: usize) -> u16
+    ensures { result ≡ member_of (argument arguments.now i) }
+{
+    match arguments.get(i) {
+        Some(v) => member(v),
+        None => 0,
+    }
+}
