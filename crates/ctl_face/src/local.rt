@@ -23,7 +23,7 @@ ghost use Rattle.ctl_face.specs.Touch.{touch};
 ghost use Rattle.ctl_face.specs.Wake.{wake, wake_all};
 
 use crate::Trouble;
-use ruby_value::{Block, Fields, Message, Ref, Value};
+use ruby_value::{Block, Fields, MachineSetup, Message, Ref, Value};
 
 /// A controller in whose scan acts are done: the tables, buffers, sends and callbacks that the actions of a protocol
 /// name, as in gem5's SLICC. Tables and buffers go by their numbers within the machine, lines are line numbers, which are
@@ -45,6 +45,10 @@ pub trait Local {
     /// The controller's actor number.
     fn me(&self) -> u32
         ensures { result ≡ (view self.now).actor.me };
+
+    /// What the machine is to the controller, lent: what the other calls serve is seen from it.
+    fn machine(&self) -> &MachineSetup
+        ensures { result.now ≡ (view self.now).machine };
 
     /// The value of a field of the line that a reference names. The fault `Reference` comes exactly where the line isn't
     /// there. A machine's parameters are the fields of line 0 of a table of their own.

@@ -4,7 +4,7 @@ ghost use Rattle.ctl_store.specs.Scanned.{local_of};
 use crate::outcome::Outcome;
 use crate::scan::Scan;
 use crate::store::Store;
-use ctl_face::{MachineSetup, Routes};
+use ctl_face::Routes;
 use run_journal::FireNote;
 use std::alloc::Global;
 
@@ -37,13 +37,6 @@ impl<'a> Draft<'a> {
         let scan = Scan::begin(alloc, &store.parts, routes, seed, now);
         scan.law();
         Draft { scan }
-    }
-
-    /// What the machine is to the draft's controller.
-    pub fn machine(&self) -> &MachineSetup
-        ensures { result.now ≡ (view_of self.now).machine }
-    {
-        self.scan.machine()
     }
 
     /// What holds of each draft. It does nothing.

@@ -1,5 +1,5 @@
 use crate::draft::Draft;
-use ctl_face::{Local, Trouble};
+use ctl_face::{Local, MachineSetup, Trouble};
 use ruby_value::{Block, Fields, Message, Ref, Value};
 
 impl<'a> Local for Draft<'a> {
@@ -15,6 +15,10 @@ impl<'a> Local for Draft<'a> {
 
     fn me(&self) -> u32 {
         self.scan.me()
+    }
+
+    fn machine(&self) -> &MachineSetup {
+        self.scan.machine()
     }
 
     fn get(&self, r: &Ref, field: u16) -> Result<Value, Trouble> {

@@ -4,25 +4,12 @@ ghost use Rattle.ctl_face.specs.LocalView.{SameScan};
 
 use crate::came::{Came, count, done, first, found, reference, refused, value};
 use ctl_face::{
-    Block, Fields, Local, MachineSetup, NoMemory, Ref, Value, deallocates, has_field, is_cache,
+    Block, Fields, Local, NoMemory, Ref, Value, deallocates, has_field, is_cache,
     is_tbe_table, looks_up, receives, sends, takes_field, takes_message,
 };
-use ctl_store::Draft;
 use ruby_value::NetDest;
 use sample_controllers::one_field;
 use std::alloc::Global;
-
-/// A local that shows what its machine is to it, so that what its calls require can be tested.
-pub(crate) trait ShowsMachine: Local {
-    fn shown(&self) -> &MachineSetup
-        ensures { result.now ≡ (Self.view self.now).machine };
-}
-
-impl<'a> ShowsMachine for Draft<'a> {
-    fn shown(&self) -> &MachineSetup {
-        self.machine()
-    }
-}
 
 /// A call on a table.
 #[derive(Clone, Copy)]
@@ -71,52 +58,52 @@ fn is_line(line: u64) -> bool
 }
 
 /// What a look at a table comes to.
-fn look_at_table<L: ShowsMachine>(local: &L, call: OnTable, table: u16, line: u64) -> Came
+fn look_at_table<L: Local>(local: &L, call: OnTable, table: u16, line: u64) -> Came
     requires { line < 2 ^ 58 }
 {
     match call {
-        OnTable::Get if has_field(local.shown(), table, 0) => {
+        OnTable::Get if has_field(local.machine(), table, 0) => {
             value(&local.get(&Ref { table, line }, 0))
         }
-        OnTable::Lookup if looks_up(local.shown(), table) => found(local.lookup(table, line)),
-        OnTable::Avail if is_cache(local.shown(), table) => Came::Is(local.avail(table, line)),
-        OnTable::Probe if is_cache(local.shown(), table) => count(&local.probe(table, line)),
-        OnTable::Free if is_tbe_table(local.shown(), table) => Came::Count(local.free(table)),
+        OnTable::Lookup if looks_up(local.machine(), table) => found(local.lookup(table, line)),
+        OnTable::Avail if is_cache(local.machine(), table) => Came::Is(local.avail(table, line)),
+        OnTable::Probe if is_cache(local.machine(), table) => count(&local.probe(table, line)),
+        OnTable::Free if is_tbe_table(local.machine(), table) => Came::Count(local.free(table)),
         _ => Came::NotServed,
     }
 }
 
 /// Writes a number to the first field of a line.
-fn set<L: ShowsMachine>(local: &mut L, n: i64, table: u16, line: u64) -> Came
+fn set<L: Local>(local: &mut L, n: i64, table: u16, line: u64) -> Came
     requires { line < 2 ^ 58 }
     ensures { SameScan (L.view local.old) (L.view local.new) }
 {
     let v = Value::Int(n);
-    if !takes_field(local.shown(), table, 0, &v) {
+    if !takes_field(local.machine(), table, 0, &v) {
         return Came::NotServed;
     }
     done(&local.set(&Ref { table, line }, 0, v))
 }
 
 /// What a change of a table comes to.
-fn change_table<L: ShowsMachine>(local: &mut L, call: OnTable, table: u16, line: u64) -> Came
+fn change_table<L: Local>(local: &mut L, call: OnTable, table: u16, line: u64) -> Came
     requires { line < 2 ^ 58 }
     ensures { SameScan (L.view local.old) (L.view local.new) }
 {
     match call {
         OnTable::Set(n) => set(local, n, table, line),
-        OnTable::Allocate if looks_up(local.shown(), table) => {
+        OnTable::Allocate if looks_up(local.machine(), table) => {
             reference(&local.allocate(table, line))
         }
-        OnTable::Deallocate if deallocates(local.shown(), table) => {
+        OnTable::Deallocate if deallocates(local.machine(), table) => {
             done(&local.deallocate(table, line))
         }
-        OnTable::Touch if is_cache(local.shown(), table) => done(&local.touch(table, line)),
+        OnTable::Touch if is_cache(local.machine(), table) => done(&local.touch(table, line)),
         _ => look_at_table(local, call, table, line),
     }
 }
 
-fn on_table<L: ShowsMachine>(local: &mut L, call: OnTable, table: u16, line: u64) -> Came
+fn on_table<L: Local>(local: &mut L, call: OnTable, table: u16, line: u64) -> Came
     ensures { SameScan (L.view local.old) (L.view local.new) }
 {
     if !is_line(line) {
@@ -138,17 +125,17 @@ pub(crate) fn of_line(alloc: Global, line: u64) -> Result<Fields, NoMemory> {
     one_field(alloc, Value::Addr(line.wrapping_mul(64)))
 }
 
-fn send<L: ShowsMachine>(local: &mut L, buffer: u16, latency: i64, fields: Fields) -> Came
+fn send<L: Local>(local: &mut L, buffer: u16, latency: i64, fields: Fields) -> Came
     ensures { SameScan (L.view local.old) (L.view local.new) }
 {
-    if !sends(local.shown(), buffer) || !takes_message(local.shown(), buffer, &fields) {
+    if !sends(local.machine(), buffer) || !takes_message(local.machine(), buffer, &fields) {
         return Came::NotServed;
     }
     done(&local.send(buffer, latency, fields))
 }
 
 /// Sends what could be made.
-fn send_made<L: ShowsMachine>(
+fn send_made<L: Local>(
     local: &mut L,
     buffer: u16,
     latency: i64,
@@ -163,10 +150,10 @@ fn send_made<L: ShowsMachine>(
 }
 
 /// What a call on a buffer that messages are taken from comes to.
-fn take<L: ShowsMachine>(local: &mut L, call: OnBuffer, buffer: u16) -> Came
+fn take<L: Local>(local: &mut L, call: OnBuffer, buffer: u16) -> Came
     ensures { SameScan (L.view local.old) (L.view local.new) }
 {
-    if !receives(local.shown(), buffer) {
+    if !receives(local.machine(), buffer) {
         return Came::NotServed;
     }
     match call {
@@ -179,7 +166,7 @@ fn take<L: ShowsMachine>(local: &mut L, call: OnBuffer, buffer: u16) -> Came
     }
 }
 
-fn on_buffer<L: ShowsMachine>(alloc: Global, local: &mut L, call: OnBuffer, buffer: u16) -> Came
+fn on_buffer<L: Local>(alloc: Global, local: &mut L, call: OnBuffer, buffer: u16) -> Came
     ensures { SameScan (L.view local.old) (L.view local.new) }
 {
     match call {
@@ -194,7 +181,7 @@ fn on_buffer<L: ShowsMachine>(alloc: Global, local: &mut L, call: OnBuffer, buff
 const ZEROS: Block = Block { bytes: [0; 64] };
 
 /// Two bytes of the block that a store is answered with.
-fn write_back<L: ShowsMachine>(local: &mut L, line: u64) -> Came
+fn write_back<L: Local>(local: &mut L, line: u64) -> Came
     requires { line < 2 ^ 58 }
     ensures { SameScan (L.view local.old) (L.view local.new) }
 {
@@ -205,7 +192,7 @@ fn write_back<L: ShowsMachine>(local: &mut L, line: u64) -> Came
 }
 
 /// What a call on a line of the controller comes to.
-fn on_line<L: ShowsMachine>(local: &mut L, call: OnController, line: u64) -> Came
+fn on_line<L: Local>(local: &mut L, call: OnController, line: u64) -> Came
     requires { line < 2 ^ 58 }
     ensures { SameScan (L.view local.old) (L.view local.new) }
 {
@@ -213,17 +200,17 @@ fn on_line<L: ShowsMachine>(local: &mut L, call: OnController, line: u64) -> Cam
         OnController::Wake(_) => done(&local.wake(line)),
         OnController::ReadBack(_) => done(&local.read_back(line, &ZEROS)),
         OnController::WriteBack(_) => write_back(local, line),
-        OnController::State(_) if local.shown().default_state.is_some() => {
+        OnController::State(_) if local.machine().default_state.is_some() => {
             Came::Count(u64::from(local.state(line)))
         }
-        OnController::SetState(_, state) if local.shown().default_state.is_some() => {
+        OnController::SetState(_, state) if local.machine().default_state.is_some() => {
             done(&local.set_state(line, state))
         }
         _ => Came::NotServed,
     }
 }
 
-fn on_controller<L: ShowsMachine>(local: &mut L, call: OnController) -> Came
+fn on_controller<L: Local>(local: &mut L, call: OnController) -> Came
     ensures { SameScan (L.view local.old) (L.view local.new) }
 {
     match call {
@@ -253,7 +240,7 @@ pub(crate) enum Call {
 }
 
 /// What a call comes to.
-fn came_of<L: ShowsMachine>(alloc: Global, local: &mut L, call: Call) -> Came
+fn came_of<L: Local>(alloc: Global, local: &mut L, call: Call) -> Came
     ensures { SameScan (L.view local.old) (L.view local.new) }
 {
     match call {
@@ -267,7 +254,7 @@ fn came_of<L: ShowsMachine>(alloc: Global, local: &mut L, call: Call) -> Came
 pub(crate) type Rows = &'static [(Call, Came)];
 
 /// Makes the calls one after another up to the first of which something else comes, and answers its place.
-pub(crate) fn first_wrong_call<L: ShowsMachine>(
+pub(crate) fn first_wrong_call<L: Local>(
     alloc: Global,
     local: &mut L,
     rows: &[(Call, Came)],

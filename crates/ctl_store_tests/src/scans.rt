@@ -5,10 +5,10 @@ ghost use Rattle.ctl_face.specs.LocalView.{SameScan};
 ghost use Rattle.ctl_store.specs.Room.{IsSameStore};
 ghost use Rattle.ctl_store_tests.specs.Open.{FitsIn, IsOpen, IsScanned};
 
-use crate::calls::{Rows, ShowsMachine, first_wrong_call};
+use crate::calls::{Rows, first_wrong_call};
 use crate::node::SEED;
 use crate::told::{NOTE, Told, Wrong, are_posted, wrong_in};
-use ctl_face::Routes;
+use ctl_face::{Local, Routes};
 use ctl_store::{Draft, Outcome, Store};
 use std::alloc::Global;
 
@@ -25,7 +25,7 @@ pub(crate) struct Scan {
 pub(crate) const FIRST_CYCLE: u64 = 10;
 
 // Plays the calls of a scan.
-fn wrong_call<L: ShowsMachine>(alloc: Global, local: &mut L, scan: &Scan) -> Option<Wrong>
+fn wrong_call<L: Local>(alloc: Global, local: &mut L, scan: &Scan) -> Option<Wrong>
     ensures { SameScan (L.view local.old) (L.view local.new) }
 {
     if let Some(i) = first_wrong_call(alloc, local, scan.before) {

@@ -1,0 +1,265 @@
+-- What is added to a controller's inbox and marks, and no act of a scan sees: each act does the same, with the addition.
+use Rattle.std.proofs.Common.{◌≡◌, ◌+◌, ◌++◌, ◌==◌, ℕ, ℤ, Bool, true, false, cond, not, List, [], ◌∷◌, map, filter, Option, None, Some, Result, Ok, Err, Contains, nat_abs, nat_lt, refl, sym, subst, ap, ◌∙◌, slice_get, is_some, length, unwrap_or}
+use Rattle.std.specs.List.{fold, list_all}
+use Rattle.std.specs.Option.{option_map}
+use Rattle.ruby_value.specs.declared.asked.Answer.{Answer}
+use Rattle.ruby_value.specs.declared.asked.Asked.{Asked}
+use Rattle.ruby_value.specs.declared.fault.Fault.{Fault}
+use Rattle.ruby_value.specs.declared.fault.Fault.TheVariants.{Callback, Copies, Latency, Route}
+use Rattle.ruby_value.specs.declared.message.Message.{Message}
+use Rattle.ruby_value.specs.declared.message.MsgNo.{MsgNo}
+use Rattle.ruby_value.specs.declared.setup.BufferPlace.{BufferPlace}
+use Rattle.ruby_value.specs.declared.setup.BufferPlace.TheVariants as place
+use Rattle.ruby_value.specs.declared.setup.BufferSetup.{BufferSetup}
+use Rattle.ruby_value.specs.declared.setup.MachineSetup.{MachineSetup}
+use Rattle.ruby_value.specs.declared.value.Block.{Block}
+use Rattle.ruby_value.specs.declared.value.Ref.{Ref}
+use Rattle.ruby_value.specs.declared.value.Value.{Value}
+use Rattle.ruby_value.specs.Ascending.{with_mark}
+use Rattle.ruby_value.specs.Front as general
+use Rattle.ctl_face.specs.Acts.{Acts, Copy, note_of}
+use Rattle.ctl_face.specs.Again.{again}
+use Rattle.ctl_face.specs.Allocate.{allocate, with_line}
+use Rattle.ctl_face.specs.AtFront.{after_front, at_front}
+use Rattle.ctl_face.specs.Callback.{after_answer, finish_read, finish_write, is_store, read_back, request_for, stored_block, with_finished, write_back}
+use Rattle.ctl_face.specs.Ctl.{Ctl, InboxMessage, Mail, Requests}
+use Rattle.ctl_face.specs.Deallocate.{deallocate, without_line_in}
+use Rattle.ctl_face.specs.Enqueue.{after_sending, enqueue, for_others}
+use Rattle.ctl_face.specs.FieldsIn.{fields_in}
+use Rattle.ctl_face.specs.Front.{IsFront, is_ready}
+use Rattle.ctl_face.specs.Inbox.{changed_message, with_message, without_message}
+use Rattle.ctl_face.specs.Latency.{is_latency}
+use Rattle.ctl_face.specs.LocalView.{Actor, LocalView}
+use Rattle.ctl_face.specs.Mailing.{incoming_message, mail_with_delivery}
+use Rattle.ctl_face.specs.OfMachine.{initial_fields}
+use Rattle.ctl_face.specs.Pop.{mail_without, pop}
+use Rattle.ctl_face.specs.Ready.{front_now}
+use Rattle.ctl_face.specs.Recycle.{mail_with_recycled, message_arriving_again, recycle}
+use Rattle.ctl_face.specs.Routing.{receiving_buffer}
+use Rattle.ctl_face.specs.Send.{Sending, after_network_copy, copy_limit, local_arrival, local_copy, network_arrival, network_copies, next_copy, no_copies, receivers_of, send, sending_from, sending_on, with_network_copy}
+use Rattle.ctl_face.specs.Set.{set as set_field, table_with_field}
+use Rattle.ctl_face.specs.Stall.{mail_with_waiting, message_waiting_under, stall}
+use Rattle.ctl_face.specs.State.{set_state}
+use Rattle.ctl_face.specs.Table.{Table}
+use Rattle.ctl_face.specs.Tables.{after_change, change_if_there, changed_table, table_at}
+use Rattle.ctl_face.specs.Touch.{touch, used_line}
+use Rattle.ctl_face.specs.Wake.{message_waiting_no_longer, with_woken}
+use Rattle.ctl_face.proofs.Fronts.{front_first}
+use Rattle.ctl_face.proofs.Inboxes.{KeepsNumber}
+use Rattle.acts.specs.Done.{Done, changes, reads}
+
+abbrev pub mail_moved : (List InboxMessage → List InboxMessage) → (List ℕ → List ℕ) → Mail → Mail
+mail_moved f g mail = record mail { inbox = f mail.inbox; marks = g mail.marks }
+
+abbrev pub moved : (List InboxMessage → List InboxMessage) → (List ℕ → List ℕ) → LocalView → LocalView
+moved f g v = record v { start = record v.start { mail = mail_moved f g v.start.mail }; ctl = record v.ctl { mail = mail_moved f g v.ctl.mail } }
+
+abbrev pub after_view : (LocalView → LocalView) → Result LocalView Fault → Result LocalView Fault
+after_view change (Ok w) = Ok (change w)
+after_view change (Err e) = Err e
+
+abbrev pub after_done : {A : Type 0} → (LocalView → LocalView) → Result (Done A) Fault → Result (Done A) Fault
+after_done change (Ok d) = Ok (record { value = d.value; view = change d.view })
+after_done change (Err e) = Err e
+
+-- what an act has to find of such an addition
+pub record Passes (me now : ℕ) (f : List InboxMessage → List InboxMessage) (g : List ℕ → List ℕ) (inbox : List InboxMessage) : Type 0 where
+  pub ready : (buffer : ℕ) → filter (is_ready buffer now) (f inbox) ≡ filter (is_ready buffer now) inbox
+  pub out : (m : Message) → Contains inbox (incoming_message m) → without_message (f inbox) m.number ≡ f (without_message inbox m.number)
+  pub changed :
+      (m : Message) → Contains inbox (incoming_message m) → (change : InboxMessage → InboxMessage) → KeepsNumber change
+      → changed_message (f inbox) m.number change ≡ f (changed_message inbox m.number change)
+  pub woken :
+      (test : Option ℕ → Bool) → test None ≡ false
+      → map (λ (o : InboxMessage). cond (test o.waiting) (message_waiting_no_longer o) o) (f inbox) ≡ f (map (λ (o : InboxMessage). cond (test o.waiting) (message_waiting_no_longer o) o) inbox)
+  pub told : (test : Option ℕ → Bool) → test None ≡ false → filter (λ (o : InboxMessage). test o.waiting) (f inbox) ≡ filter (λ (o : InboxMessage). test o.waiting) inbox
+  pub put : (l : List InboxMessage) (m : Message) → m.number.sender ≡ me → with_message (f l) (incoming_message m) ≡ f (with_message l (incoming_message m))
+  pub mark : (l : List ℕ) (c : ℕ) → with_mark (g l) c ≡ g (with_mark l c)
+
+module _ {A : Type 0} (change : LocalView → LocalView) (v : LocalView) where
+  pub reads_moved : (want : Result A Fault) → reads (change v) want ≡ after_done change (reads v want)
+  reads_moved (Ok x) = refl
+  reads_moved (Err e) = refl
+
+  pub changes_moved : (x : A) (want other : Result LocalView Fault) → other ≡ after_view change want → changes x other ≡ after_done change (changes x want)
+  changes_moved x (Ok w) other is = ap (changes x) is
+  changes_moved x (Err e) other is = ap (changes x) is
+
+module _ (f : List InboxMessage → List InboxMessage) (g : List ℕ → List ℕ) (v : LocalView) where
+  -- on tables
+  after_table : (table : ℕ) (r : Result Table Fault) → after_change (moved f g v) table r ≡ after_view (moved f g) (after_change v table r)
+  after_table table (Ok t) = refl
+  after_table table (Err e) = refl
+
+  pub table_moved : (table : ℕ) (change : Table → Result Table Fault) → changed_table (moved f g v) table change ≡ after_view (moved f g) (changed_table v table change)
+  table_moved table change = go (table_at v table)
+    where
+      go : (o : Option Table) → change_if_there (moved f g v) table change o ≡ after_view (moved f g) (change_if_there v table change o)
+      go None = refl
+      go (Some t) = after_table table (change t)
+
+  -- on requests
+  answer_moved : (line : ℕ) (asked : Asked) (block : Block) → after_answer (moved f g v) line asked block ≡ moved f g (after_answer v line asked block)
+  answer_moved line asked block = go v.ctl.sequencer
+    where
+      go : (requests : Option Requests) → with_finished (moved f g v) line (record { asked = asked; block = block }) requests ≡ moved f g (with_finished v line (record { asked = asked; block = block }) requests)
+      go None = refl
+      go (Some r) = refl
+
+  pub read_moved : (line : ℕ) (block : Block) → read_back (moved f g v) line block ≡ after_view (moved f g) (read_back v line block)
+  read_moved line block = go (request_for v line)
+    where
+      by : (asked : Asked) (b : Bool) → cond b (Err Callback) (Ok (after_answer (moved f g v) line asked block)) ≡ after_view (moved f g) (cond b (Err Callback) (Ok (after_answer v line asked block)))
+      by asked true = refl
+      by asked false = ap (λ (w : LocalView). Ok w) (answer_moved line asked block)
+
+      go : (o : Option Asked) → finish_read (moved f g v) line block o ≡ after_view (moved f g) (finish_read v line block o)
+      go None = refl
+      go (Some asked) = by asked (is_store asked.kind)
+
+  pub write_moved : (line : ℕ) (block : Block) → write_back (moved f g v) line block ≡ after_view (moved f g) (write_back v line block)
+  write_moved line block = go (request_for v line)
+    where
+      by : (asked : Asked) (b : Bool) → cond b (Ok (after_answer (moved f g v) line asked (stored_block asked block))) (Err Callback) ≡ after_view (moved f g) (cond b (Ok (after_answer v line asked (stored_block asked block))) (Err Callback))
+      by asked true = ap (λ (w : LocalView). Ok w) (answer_moved line asked (stored_block asked block))
+      by asked false = refl
+
+      go : (o : Option Asked) → finish_write (moved f g v) line block o ≡ after_view (moved f g) (finish_write v line block o)
+      go None = refl
+      go (Some asked) = by asked (is_store asked.kind)
+
+  module _ (passes : Passes v.actor.me v.now f g v.ctl.mail.inbox) where
+    -- on the front
+    pub front_moved : (buffer : ℕ) → front_now (moved f g v) buffer ≡ front_now v buffer
+    front_moved buffer =
+        ap (λ (xs : List InboxMessage). option_map (λ (o : InboxMessage). o.message) (general.least (λ (o : InboxMessage). o.message.arrival) (λ (o : InboxMessage). o.message.number) xs)) (passes.ready buffer)
+
+    held : (buffer : ℕ) (m : Message) → front_now v buffer ≡ Some m → Contains v.ctl.mail.inbox (incoming_message m)
+    held buffer m is = (subst (IsFront v.ctl.mail.inbox buffer v.now) is (front_first v.ctl.mail buffer v.now)).held
+
+    -- the front is changed in the one mail as in the other
+    at_front_moved : (told : MsgNo → Acts) (change other : Message → Mail) (o : Option Message) → ((m : Message) → o ≡ Some m → other m ≡ mail_moved f g (change m))
+        → after_front (moved f g v) told (at_front other o) ≡ after_view (moved f g) (after_front v told (at_front change o))
+    at_front_moved told change other None same = refl
+    at_front_moved told change other (Some m) same = ap (λ (mail : Mail). Ok (record v { start = record v.start { mail = mail_moved f g v.start.mail }; ctl = record v.ctl { mail = mail }; acts = told m.number })) (same m refl)
+
+    by_front : (told : MsgNo → Acts) (change other : Message → Mail) (buffer : ℕ) → ((m : Message) → front_now v buffer ≡ Some m → other m ≡ mail_moved f g (change m))
+        → after_front (moved f g v) told (at_front other (front_now (moved f g v) buffer)) ≡ after_view (moved f g) (after_front v told (at_front change (front_now v buffer)))
+    by_front told change other buffer same =
+        ap (λ (o : Option Message). after_front (moved f g v) told (at_front other o)) (front_moved buffer)
+        ∙ at_front_moved told change other (front_now v buffer) same
+
+    pub pop_moved : (buffer : ℕ) → pop (moved f g v) buffer ≡ after_view (moved f g) (pop v buffer)
+    pop_moved buffer =
+        by_front (λ (number : MsgNo). record v.acts { consumed = v.acts.consumed ++ number ∷ [] }) (mail_without v.ctl.mail) (mail_without (mail_moved f g v.ctl.mail)) buffer
+        (λ m is. ap (λ (inbox : List InboxMessage). record v.ctl.mail { inbox = inbox; marks = g v.ctl.mail.marks }) (passes.out m (held buffer m is)))
+
+    pub stall_moved : (buffer line : ℕ) → stall (moved f g v) buffer line ≡ after_view (moved f g) (stall v buffer line)
+    stall_moved buffer line =
+        by_front (λ (number : MsgNo). record v.acts { stalled = v.acts.stalled ++ number ∷ [] }) (mail_with_waiting v.ctl.mail line) (mail_with_waiting (mail_moved f g v.ctl.mail) line) buffer
+        (λ m is. ap (λ (inbox : List InboxMessage). record v.ctl.mail { inbox = inbox; marks = g v.ctl.mail.marks }) (passes.changed m (held buffer m is) (message_waiting_under line) (λ o. refl)))
+
+    pub recycle_moved : (buffer : ℕ) (latency : ℤ) → recycle (moved f g v) buffer latency ≡ after_view (moved f g) (recycle v buffer latency)
+    recycle_moved buffer latency = go (λ (number : MsgNo). record v.acts { recycled = v.acts.recycled ++ number ∷ [] }) (v.now + nat_abs latency) (is_latency latency)
+      where
+        go : (told : MsgNo → Acts) (arrival : ℕ) (b : Bool) → after_front (moved f g v) told (cond b (at_front (mail_with_recycled (mail_moved f g v.ctl.mail) arrival) (front_now (moved f g v) buffer)) (Err Latency))
+            ≡ after_view (moved f g) (after_front v told (cond b (at_front (mail_with_recycled v.ctl.mail arrival) (front_now v buffer)) (Err Latency)))
+        go told arrival true =
+            by_front told (mail_with_recycled v.ctl.mail arrival) (mail_with_recycled (mail_moved f g v.ctl.mail) arrival) buffer
+            (λ m is.
+            ap (λ (inbox : List InboxMessage). record v.ctl.mail { inbox = inbox; marks = with_mark (g v.ctl.mail.marks) arrival }) (passes.changed m (held buffer m is) (message_arriving_again arrival) (λ o. refl))
+            ∙ ap (λ (marks : List ℕ). record v.ctl.mail { inbox = f (changed_message v.ctl.mail.inbox m.number (message_arriving_again arrival)); marks = marks }) (passes.mark v.ctl.mail.marks arrival))
+        go told arrival false = refl
+
+    pub wake_moved : (test : Option ℕ → Bool) → test None ≡ false → with_woken (moved f g v) (λ (o : InboxMessage). test o.waiting) ≡ moved f g (with_woken v (λ (o : InboxMessage). test o.waiting))
+    wake_moved test none =
+        ap (λ (inbox : List InboxMessage). record (moved f g v) {
+          ctl = record v.ctl { mail = record v.ctl.mail { inbox = inbox; marks = g v.ctl.mail.marks } };
+          acts = record v.acts { woken = v.acts.woken ++ map (λ (o : InboxMessage). o.message.number) (filter (λ (o : InboxMessage). test o.waiting) (f v.ctl.mail.inbox)) };
+        }) (passes.woken test none)
+        ∙ ap (λ (awake : List InboxMessage). record (moved f g v) {
+          ctl = record v.ctl { mail = record v.ctl.mail { inbox = f (map (λ (o : InboxMessage). cond (test o.waiting) (message_waiting_no_longer o) o) v.ctl.mail.inbox); marks = g v.ctl.mail.marks } };
+          acts = record v.acts { woken = v.acts.woken ++ map (λ (o : InboxMessage). o.message.number) awake };
+        }) (passes.told test none)
+
+    pub again_moved : again (moved f g v) ≡ moved f g (again v)
+    again_moved =
+        ap (λ (marks : List ℕ). record (moved f g v) {
+          ctl = record v.ctl { mail = record v.ctl.mail { inbox = f v.ctl.mail.inbox; marks = marks } };
+          acts = record v.acts { again = true };
+        }) (passes.mark v.ctl.mail.marks (v.now + 1))
+
+    -- on sends
+    abbrev sending_moved : Sending → Sending
+    sending_moved s = record s { mail = mail_moved f g s.mail }
+
+    abbrev after_send : Result Sending Fault → Result Sending Fault
+    after_send (Ok s) = Ok (sending_moved s)
+    after_send (Err e) = Err e
+
+    delivery_moved : (b : Bool) (mail : Mail) (m : Message) → m.number.sender ≡ v.actor.me → mail_with_delivery b (mail_moved f g mail) m ≡ mail_moved f g (mail_with_delivery b mail m)
+    delivery_moved false mail m own = refl
+    delivery_moved true mail m own =
+        ap (λ (inbox : List InboxMessage). record mail { inbox = inbox; marks = with_mark (g mail.marks) m.arrival }) (passes.put mail.inbox m own)
+        ∙ ap (λ (marks : List ℕ). record mail { inbox = f (with_message mail.inbox (incoming_message m)); marks = marks }) (passes.mark mail.marks m.arrival)
+
+    copy_moved : (network latency : ℕ) (fields : List Value) (s : Sending) (receiver : ℕ) → with_network_copy v.actor network latency fields v.now (sending_moved s) receiver ≡ sending_moved (with_network_copy v.actor network latency fields v.now s receiver)
+    copy_moved network latency fields s receiver =
+        let arrival = network_arrival v.actor s.mail network latency v.now receiver in
+        let copy = next_copy v.actor s.mail receiver (unwrap_or (receiving_buffer v.actor.routes receiver network) 0) arrival fields in
+        ap (λ (mail : Mail). record {
+          mail = after_network_copy v.actor (record mail { sent = s.mail.sent + 1; copies = s.mail.copies + 1 }) network receiver arrival;
+          copies = s.copies ++ copy ∷ [];
+        }) (delivery_moved (receiver == v.actor.me) s.mail copy.message refl)
+
+    copies_moved : (network latency : ℕ) (fields : List Value) (members : List ℕ) (s : Sending) → fold (with_network_copy v.actor network latency fields v.now) (sending_moved s) members ≡ sending_moved (fold (with_network_copy v.actor network latency fields v.now) s members)
+    copies_moved network latency fields [] s = refl
+    copies_moved network latency fields (receiver ∷ members) s =
+        ap (λ (t : Sending). fold (with_network_copy v.actor network latency fields v.now) t members) (copy_moved network latency fields s receiver)
+        ∙ copies_moved network latency fields members (with_network_copy v.actor network latency fields v.now s receiver)
+
+    local_moved : (ordered : Bool) (mail : Mail) (buffer latency : ℕ) (fields : List Value) → local_copy v.actor ordered (mail_moved f g mail) buffer latency fields v.now ≡ sending_moved (local_copy v.actor ordered mail buffer latency fields v.now)
+    local_moved ordered mail buffer latency fields =
+        let arrival = local_arrival ordered mail buffer latency v.now in
+        let copy = next_copy v.actor mail v.actor.me buffer arrival fields in
+        ap (λ (m : Mail). record {
+          mail = record m { sent = mail.sent + 1; copies = mail.copies + 1; local_last = (local_copy v.actor ordered mail buffer latency fields v.now).mail.local_last };
+          copies = copy ∷ [];
+        }) (delivery_moved (v.actor.me == v.actor.me) mail copy.message refl)
+
+    unless : (b : Bool) (e : Fault) (r s : Result Sending Fault) → r ≡ after_send s → cond b (Err e) r ≡ after_send (cond b (Err e) s)
+    unless true e r s same = refl
+    unless false e r s same = same
+
+    on_moved : (p : BufferPlace) (ordered : Bool) (mail : Mail) (buffer latency : ℕ) (fields : List Value) → sending_on p ordered v.actor (mail_moved f g mail) buffer latency fields v.now ≡ after_send (sending_on p ordered v.actor mail buffer latency fields v.now)
+    on_moved place.Local ordered mail buffer latency fields =
+        unless (nat_lt copy_limit (mail.copies + 1)) Copies (Ok (local_copy v.actor ordered (mail_moved f g mail) buffer latency fields v.now)) (Ok (local_copy v.actor ordered mail buffer latency fields v.now))
+        (ap (λ (s : Sending). Ok s) (local_moved ordered mail buffer latency fields))
+    on_moved (place.To network destination) ordered mail buffer latency fields =
+        let members = receivers_of destination fields in
+        let here : Result Sending Fault = Ok (fold (with_network_copy v.actor network latency fields v.now) (no_copies mail) members) in
+        let other : Result Sending Fault = Ok (fold (with_network_copy v.actor network latency fields v.now) (sending_moved (no_copies mail)) members) in
+        unless (not (list_all (λ receiver. is_some (receiving_buffer v.actor.routes receiver network)) members)) Route (cond (nat_lt copy_limit (mail.copies + length members)) (Err Copies) other) (cond (nat_lt copy_limit (mail.copies + length members)) (Err Copies) here)
+        (unless (nat_lt copy_limit (mail.copies + length members)) Copies other here (ap (λ (s : Sending). Ok s) (copies_moved network latency fields members (no_copies mail))))
+    on_moved (place.From network) ordered mail buffer latency fields = refl
+
+    from_moved : (o : Option BufferSetup) (mail : Mail) (buffer latency : ℕ) (fields : List Value) → sending_from o v.actor (mail_moved f g mail) buffer latency fields v.now ≡ after_send (sending_from o v.actor mail buffer latency fields v.now)
+    from_moved None mail buffer latency fields = refl
+    from_moved (Some s) mail buffer latency fields = on_moved s.place s.ordered mail buffer latency fields
+
+    send_moved : (buffer : ℕ) (latency : ℤ) (fields : List Value) → send v.machine v.actor (mail_moved f g v.ctl.mail) buffer latency fields v.now ≡ after_send (send v.machine v.actor v.ctl.mail buffer latency fields v.now)
+    send_moved buffer latency fields = go (is_latency latency)
+      where
+        go : (b : Bool) → cond b (sending_from (slice_get v.machine.buffers buffer) v.actor (mail_moved f g v.ctl.mail) buffer (nat_abs latency) fields v.now) (Err Latency)
+            ≡ after_send (cond b (sending_from (slice_get v.machine.buffers buffer) v.actor v.ctl.mail buffer (nat_abs latency) fields v.now) (Err Latency))
+        go true = from_moved (slice_get v.machine.buffers buffer) v.ctl.mail buffer (nat_abs latency) fields
+        go false = refl
+
+    pub enqueue_moved : (buffer : ℕ) (latency : ℤ) (fields : List Value) → enqueue (moved f g v) buffer latency fields ≡ after_view (moved f g) (enqueue v buffer latency fields)
+    enqueue_moved buffer latency fields =
+        ap (after_sending (moved f g v)) (send_moved buffer latency fields)
+        ∙ go (send v.machine v.actor v.ctl.mail buffer latency fields v.now)
+      where
+        go : (r : Result Sending Fault) → after_sending (moved f g v) (after_send r) ≡ after_view (moved f g) (after_sending v r)
+        go (Ok s) = refl
+        go (Err e) = refl

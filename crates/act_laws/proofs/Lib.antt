@@ -1,0 +1,10 @@
+pub mod Lists
+pub mod Effects
+pub mod Lawful
+pub mod Scans
+pub mod Marks
+pub mod Mail
+pub mod Frames
+pub mod Later
+pub mod Framed
+pub mod Instances

@@ -1,0 +1,23 @@
+-- What a body does to the cycles at which its controller must wake. It takes none away, and sets none for this cycle or an earlier
+-- one. And no message is forgotten: if there is a mark for the arrival of each message that is still to come, then so it is after the
+-- body; and where the controller was to wake in the next cycle, there is that mark.
+use Rattle.std.specs.Prelude.{◌≡◌, ◌<◌, ◌≤◌, ◌+◌, ℕ, true, List, IsTrue}
+use Rattle.std.specs.List.{All}
+use Rattle.ruby_value.specs.Ascending.{has_mark}
+use Rattle.ctl_face.specs.Ctl.{InboxMessage}
+use Rattle.ctl_face.specs.LocalView.{LocalView}
+
+pub record KeepsMarks (before : List ℕ) (now : ℕ) (after : List ℕ) : Type 0 where
+  pub stay : (cycle : ℕ) → IsTrue (has_mark before cycle) → IsTrue (has_mark after cycle)
+  pub none_due : (cycle : ℕ) → cycle ≤ now → has_mark after cycle ≡ has_mark before cycle
+
+-- the marks of a local, as an act finds and leaves them
+abbrev pub MarksStay : LocalView → LocalView → Type 0
+MarksStay v w = KeepsMarks v.ctl.mail.marks v.now w.ctl.mail.marks
+
+abbrev pub AreMarked : ℕ → List ℕ → List InboxMessage → Type 0
+AreMarked now marks inbox = All (λ (o : InboxMessage). now < o.message.arrival → IsTrue (has_mark marks o.message.arrival)) inbox
+
+pub record IsMarked (v : LocalView) : Type 0 where
+  pub arrivals : AreMarked v.now v.ctl.mail.marks v.ctl.mail.inbox
+  pub next : v.acts.again ≡ true → IsTrue (has_mark v.ctl.mail.marks (v.now + 1))

@@ -1,0 +1,4 @@
+pub mod Served
+pub mod Laws
+pub mod Walk
+pub mod Calls

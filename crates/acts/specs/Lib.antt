@@ -1,0 +1,6 @@
+pub mod Act
+pub mod Serves
+pub mod Done
+pub mod Acting
+pub mod DoesAs
+pub mod After

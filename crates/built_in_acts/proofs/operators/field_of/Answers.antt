@@ -1,0 +1,14 @@
+use Rattle.std.proofs.Common.{sym, ◌∙◌}
+use Rattle.acts.specs.declared.body_fault.BodyFault.TheVariants as own
+use Rattle.acts.specs.Act.{Get}
+use Rattle.acts.specs.Acting.{act}
+use Rattle.acts.specs.DoesAs.{itself}
+use Rattle.acts.proofs.Walk.{found_does}
+use Rattle.built_in_acts.specs.Operators.{field_of}
+use Rattle.built_in_acts.specs.Values.{reference}
+use Rattle.built_in_acts.proofs.operators.field_of.Goals as goal
+
+pub returns : goal.returns
+unfolding field_of
+returns g c =
+    found_does itself (λ r. act (Get r c.args.field)) (reference c.args.v.now) own.Reference c.in-Some.r c.get.result _ _ (sym c.reference.ensures ∙ c.in-Some.is) c.get.ensures

@@ -1,0 +1,5 @@
+pub mod Values
+pub mod Operators
+pub mod Machines
+pub mod Calls
+pub mod BuiltIn

@@ -1,0 +1,39 @@
+-- Sums, differences, products and negations of signed numbers of 64 bits, with the fault where one is outside them, comparisons, and
+-- the fields of the lines that references name. Nothing wraps, which is this project's own rule.
+use Rattle.std.specs.Prelude.{ℕ, ℤ, pos, negsuc, ◌+ℤ◌, ◌-ℤ◌, ◌*ℤ◌, ◌^◌, Bool, Result, Ok, Err, nat_lt, int_lt, int_le, if◌then◌else◌}
+use Rattle.ruby_value.specs.declared.value.Value.{Value}
+use Rattle.acts.specs.declared.body_fault.BodyFault.{BodyFault}
+use Rattle.acts.specs.declared.body_fault.BodyFault.TheVariants as own
+use Rattle.acts.specs.Act.{Get, Set}
+use Rattle.acts.specs.Acting.{Acting, ◌>>=◌, act, found}
+use Rattle.built_in_acts.specs.Values.{number, reference}
+
+-- a number, if it is one of 64 bits
+abbrev pub in_range : ℤ → Result ℤ BodyFault
+in_range (pos n) = if nat_lt n (2 ^ 63) then Ok (pos n) else Err own.Overflow
+in_range (negsuc n) = if nat_lt n (2 ^ 63) then Ok (negsuc n) else Err own.Overflow
+
+abbrev pub sum : Value → Value → Result ℤ BodyFault
+sum a b = in_range (number a +ℤ number b)
+
+abbrev pub difference : Value → Value → Result ℤ BodyFault
+difference a b = in_range (number a -ℤ number b)
+
+abbrev pub product : Value → Value → Result ℤ BodyFault
+product a b = in_range (number a *ℤ number b)
+
+abbrev pub negation : Value → Result ℤ BodyFault
+negation a = in_range (pos 0 -ℤ number a)
+
+abbrev pub is_less : Value → Value → Bool
+is_less a b = int_lt (number a) (number b)
+
+abbrev pub is_at_most : Value → Value → Bool
+is_at_most a b = int_le (number a) (number b)
+
+-- a field through a reference: the fault is the same whether it is to nothing or to a line that isn't there
+unfoldable pub field_of : Value → ℕ → Acting Value
+field_of v field = found own.Reference (reference v) >>= (λ r. act (Get r field))
+
+unfoldable pub with_field : Value → ℕ → Value → Acting (Unit {0})
+with_field v field new = found own.Reference (reference v) >>= (λ r. act (Set r field new))

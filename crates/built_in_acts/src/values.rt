@@ -1,0 +1,128 @@
+// What a value is where a sort is wanted.
+ghost use Rattle.std.specs.Prelude.{◌≡◌, ◌<◌, ◌^◌};
+ghost use Rattle.built_in_acts.specs.Values.{address as address_of, address_of_line as address_of_line_is, argument, block as block_of, controller as controller_of, line_named as line_named_of, member as member_of, number as number_of, reference as reference_of, truth as truth_of};
+
+use acts::{Block, Ref, Value};
+
+/// Whether it is true; false where it is no truth value.
+pub fn truth(v: &Value) -> bool
+    ensures { result ≡ truth_of v.now }
+{
+    match v {
+        Value::Bool(b) => *b,
+        _ => false,
+    }
+}
+
+/// The number; 0 where it is none.
+pub fn number(v: &Value) -> i64
+    ensures { result ≡ number_of v.now }
+{
+    match v {
+        Value::Int(n) => *n,
+        _ => 0,
+    }
+}
+
+/// The byte address; 0 where it is none.
+pub fn address(v: &Value) -> u64
+    ensures { result ≡ address_of v.now }
+{
+    match v {
+        Value::Addr(a) => *a,
+        _ => 0,
+    }
+}
+
+/// The line of the address.
+pub fn line_named(v: &Value) -> u64
+    ensures line { result ≡ line_named_of v.now }
+    ensures limit { result < 2 ^ 58 }
+{
+    address(v) / 64
+}
+
+/// The address of a line.
+pub fn address_of_line(line: u64) -> u64
+    ensures { result ≡ address_of_line_is line }
+{
+    line % (1 << 58) * 64
+}
+
+/// The controller's number; 0 where it is none.
+pub fn controller(v: &Value) -> u32
+    ensures { result ≡ controller_of v.now }
+{
+    match v {
+        Value::Machine(number) => *number,
+        _ => 0,
+    }
+}
+
+/// The block; zeros where it is none.
+pub fn block(v: &Value) -> Block
+    ensures { result ≡ block_of v.now }
+{
+    match v {
+        Value::Block(b) => *b,
+        _ => Block { bytes: [0; 64] },
+    }
+}
+
+/// The number of the member of its enumeration; 0 where it is none.
+pub fn member(v: &Value) -> u16
+    ensures { result ≡ member_of v.now }
+{
+    match v {
+        Value::Enum(_, m) => *m,
+        _ => 0,
+    }
+}
+
+/// The line that it is a reference to, if it is one.
+pub fn reference(v: &Value) -> Option<Ref>
+    ensures { result ≡ reference_of v.now }
+{
+    match v {
+        Value::Entry(r) | Value::Tbe(r) => *r,
+        _ => None,
+    }
+}
+
+// The same of an argument; where it isn't there, it counts as false.
+pub(crate) fn number_at(arguments: &[Value], i: usize) -> i64
+    ensures { result ≡ number_of (argument arguments.now i) }
+{
+    match arguments.get(i) {
+        Some(v) => number(v),
+        None => 0,
+    }
+}
+
+pub(crate) fn line_at(arguments: &[Value], i: usize) -> u64
+    ensures line { result ≡ line_named_of (argument arguments.now i) }
+    ensures limit { result < 2 ^ 58 }
+{
+    match arguments.get(i) {
+        Some(v) => line_named(v),
+        None => 0,
+    }
+}
+
+pub(crate) fn controller_at(arguments: &[Value], i: usize) -> u32
+    ensures { result ≡ controller_of (argument arguments.now i) }
+{
+    match arguments.get(i) {
+        Some(v) => controller(v),
+        None => 0,
+    }
+}
+
+pub(crate) fn member_at(arguments: &[Value], i: usize) -> u16
+    ensures { result ≡ member_of (argument arguments.now i) }
+{
+    match arguments.get(i) {
+        Some(v) => member(v),
+        None => 0,
+    }
+}
