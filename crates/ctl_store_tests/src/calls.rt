@@ -4,8 +4,8 @@ ghost use Rattle.ctl_face.specs.LocalView.{SameScan};
 
 use crate::came::{Came, count, done, first, found, reference, refused, value};
 use ctl_face::{
-    Block, Fields, Local, NoMemory, Ref, Value, deallocates, has_field, is_cache,
-    is_tbe_table, looks_up, receives, sends, takes_field, takes_message,
+    Block, Fields, Local, NoMemory, Ref, Value, deallocates, has_field, is_cache, is_tbe_table,
+    looks_up, receives, sends, takes_field, takes_message,
 };
 use ruby_value::NetDest;
 use sample_controllers::one_field;
