@@ -64,8 +64,11 @@ const GEN: Expected = Expected {
     ..CHECK
 };
 
-pub(crate) const LINES: &[(&[&str], Asked)] = &[
-    // Commands and their names.
+/// The words of a line, and what they ask for.
+pub(crate) type Line = (&'static [&'static str], Asked);
+
+// Commands and their names.
+pub(crate) const COMMANDS: &[Line] = &[
     (&[], Asked::Words),
     (&["run", "a.sm", "a.topo"], Asked::Options(RUN)),
     (
@@ -106,7 +109,10 @@ pub(crate) const LINES: &[(&[&str], Asked)] = &[
     (&["Check", "a.sm"], Asked::Words),
     (&["", "a.sm"], Asked::Words),
     (&["replay", "a.journal"], Asked::Words),
-    // Names of every kind.
+];
+
+// Names of every kind.
+pub(crate) const NAMES: &[Line] = &[
     (
         &["check", ""],
         Asked::Options(Expected {
@@ -168,7 +174,10 @@ pub(crate) const LINES: &[(&[&str], Asked)] = &[
         }),
     ),
     (&["check", "--", "a.sm", "--seed", "5"], Asked::Words),
-    // The number of requests.
+];
+
+// The number of requests.
+pub(crate) const REQUESTS: &[Line] = &[
     (
         &["run", "a.sm", "0"],
         Asked::Options(Expected { count: 0, ..PLAIN }),
@@ -204,7 +213,10 @@ pub(crate) const LINES: &[(&[&str], Asked)] = &[
     (&["gen", "100001"], Asked::Range),
     (&["gen", "ten"], Asked::Range),
     (&["gen", ""], Asked::Range),
-    // Each option at both ends of its range, and one beyond.
+];
+
+// Each option at both ends of its range, and one beyond.
+pub(crate) const RANGES: &[Line] = &[
     (
         &["check", "a.sm", "--seed", "0"],
         Asked::Options(Expected { seed: 0, ..CHECK }),
@@ -257,6 +269,10 @@ pub(crate) const LINES: &[(&[&str], Asked)] = &[
             ..CHECK
         }),
     ),
+];
+
+// Each option at both ends of its range, and one beyond.
+pub(crate) const MORE_RANGES: &[Line] = &[
     (&["check", "a.sm", "--cycles", "0"], Asked::Range),
     (
         &["check", "a.sm", "--cycles", "1000000000001"],
@@ -308,7 +324,10 @@ pub(crate) const LINES: &[(&[&str], Asked)] = &[
     ),
     (&["check", "a.sm", "--trace", "On"], Asked::Range),
     (&["check", "a.sm", "--trace", "true"], Asked::Range),
-    // Forms of numbers.
+];
+
+// Forms of numbers.
+pub(crate) const FORMS: &[Line] = &[
     (
         &["check", "a.sm", "--seed", "00000000000000000042"],
         Asked::Options(Expected { seed: 42, ..CHECK }),
@@ -331,7 +350,10 @@ pub(crate) const LINES: &[(&[&str], Asked)] = &[
     (&["check", "a.sm", "--seed", "0x10"], Asked::Range),
     (&["check", "a.sm", "--seed", "1_000"], Asked::Range),
     (&["check", "a.sm", "--seed", " 5"], Asked::Range),
-    // Where an option and its value stand.
+];
+
+// Where an option and its value stand.
+pub(crate) const PLACES: &[Line] = &[
     (
         &["check", "a.sm", "--seed=9"],
         Asked::Options(Expected { seed: 9, ..CHECK }),
@@ -366,7 +388,10 @@ pub(crate) const LINES: &[(&[&str], Asked)] = &[
     (&["check", "a.sm", "--seed", "--", "5"], Asked::Words),
     (&["check", "a.sm", "--seed", "--limit", "5"], Asked::Words),
     (&["check", "a.sm", "--seed", "9", "9"], Asked::Words),
-    // Options that are given twice, or that there are not.
+];
+
+// Options that are given twice, or that there are not.
+pub(crate) const TWICE_OR_UNKNOWN: &[Line] = &[
     (
         &["check", "a.sm", "--seed", "9", "--seed", "9"],
         Asked::Words,
@@ -387,7 +412,10 @@ pub(crate) const LINES: &[(&[&str], Asked)] = &[
     (&["-h"], Asked::Words),
     (&["check", "a.sm", "--version"], Asked::Words),
     (&["check", "a.sm", "-V"], Asked::Words),
-    // Of two faults, that of the words.
+];
+
+// Of two faults, that of the words.
+pub(crate) const TWO_FAULTS: &[Line] = &[
     (&["check", "--seed", "x"], Asked::Words),
     (&["walk", "a.sm", "--seed", "x"], Asked::Words),
     (&["run", "a.sm", "1000001", "--feed", "b"], Asked::Words),
@@ -396,7 +424,10 @@ pub(crate) const LINES: &[(&[&str], Asked)] = &[
         &["check", "a.sm", "--seed", "x", "--seed", "x"],
         Asked::Words,
     ),
-    // A generated protocol runs with the defaults, but the values have to be in their ranges.
+];
+
+// A generated protocol runs with the defaults, but the values have to be in their ranges.
+pub(crate) const GENERATED: &[Line] = &[
     (
         &[
             "gen",
@@ -425,13 +456,14 @@ pub(crate) const LINES: &[(&[&str], Asked)] = &[
         Asked::Range,
     ),
     (&["gen", "7", "--workers", "1"], Asked::Range),
-    // Options that a command makes no use of are kept.
-    (
-        &["table", "a.sm", "--checks", "9", "--cycles", "9"],
-        Asked::Options(Expected {
-            checks: 9,
-            cycles: 9,
-            ..TABLE
-        }),
-    ),
 ];
+
+// Options that a command makes no use of are kept.
+pub(crate) const KEPT: &[Line] = &[(
+    &["table", "a.sm", "--checks", "9", "--cycles", "9"],
+    Asked::Options(Expected {
+        checks: 9,
+        cycles: 9,
+        ..TABLE
+    }),
+)];

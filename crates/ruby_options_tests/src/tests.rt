@@ -1,4 +1,7 @@
-use crate::lines::{Asked, Expected, LINES};
+use crate::lines::{
+    Asked, COMMANDS, Expected, FORMS, GENERATED, KEPT, Line, MORE_RANGES, NAMES, PLACES, RANGES,
+    REQUESTS, TWICE_OR_UNKNOWN, TWO_FAULTS,
+};
 use ruby_options::{Command, NoMemory, OptionFault, Options, read};
 use std::alloc::Global;
 use std::test::Fail;
@@ -49,11 +52,78 @@ fn is_asked(alloc: Global, words: &[&str], asked: &Asked) -> Result<bool, NoMemo
     }
 }
 
-#[test]
-fn each_line_asks_for_what_is_expected(rt: HostRuntime) -> Result<(), Fail> {
-    for (words, asked) in LINES {
-        let holds = is_asked(rt.alloc(), words, asked)?;
-        assert!(rt; holds, "{words:?}");
+// The place of the first line that asks for something else than what is expected.
+fn first_wrong(alloc: Global, lines: &[Line]) -> Result<Option<usize>, NoMemory> {
+    for (i, (words, asked)) in lines.iter().enumerate() {
+        if !is_asked(alloc, words, asked)? {
+            return Ok(Some(i));
+        }
     }
+    Ok(None)
+}
+
+#[test]
+fn reads_each_command(rt: HostRuntime) -> Result<(), Fail> {
+    assert_eq!(rt; first_wrong(rt.alloc(), COMMANDS)?, None);
+    Ok(())
+}
+
+#[test]
+fn takes_any_name(rt: HostRuntime) -> Result<(), Fail> {
+    assert_eq!(rt; first_wrong(rt.alloc(), NAMES)?, None);
+    Ok(())
+}
+
+#[test]
+fn reads_numbers_of_requests(rt: HostRuntime) -> Result<(), Fail> {
+    assert_eq!(rt; first_wrong(rt.alloc(), REQUESTS)?, None);
+    Ok(())
+}
+
+#[test]
+fn keeps_ranges_of_options(rt: HostRuntime) -> Result<(), Fail> {
+    assert_eq!(rt; first_wrong(rt.alloc(), RANGES)?, None);
+    Ok(())
+}
+
+#[test]
+fn keeps_more_ranges_of_options(rt: HostRuntime) -> Result<(), Fail> {
+    assert_eq!(rt; first_wrong(rt.alloc(), MORE_RANGES)?, None);
+    Ok(())
+}
+
+#[test]
+fn reads_numbers_of_one_form(rt: HostRuntime) -> Result<(), Fail> {
+    assert_eq!(rt; first_wrong(rt.alloc(), FORMS)?, None);
+    Ok(())
+}
+
+#[test]
+fn finds_options_in_any_place(rt: HostRuntime) -> Result<(), Fail> {
+    assert_eq!(rt; first_wrong(rt.alloc(), PLACES)?, None);
+    Ok(())
+}
+
+#[test]
+fn refuses_options_given_twice_or_unknown(rt: HostRuntime) -> Result<(), Fail> {
+    assert_eq!(rt; first_wrong(rt.alloc(), TWICE_OR_UNKNOWN)?, None);
+    Ok(())
+}
+
+#[test]
+fn tells_the_fault_of_the_words_first(rt: HostRuntime) -> Result<(), Fail> {
+    assert_eq!(rt; first_wrong(rt.alloc(), TWO_FAULTS)?, None);
+    Ok(())
+}
+
+#[test]
+fn keeps_defaults_of_a_generated_protocol(rt: HostRuntime) -> Result<(), Fail> {
+    assert_eq!(rt; first_wrong(rt.alloc(), GENERATED)?, None);
+    Ok(())
+}
+
+#[test]
+fn keeps_options_that_are_not_used(rt: HostRuntime) -> Result<(), Fail> {
+    assert_eq!(rt; first_wrong(rt.alloc(), KEPT)?, None);
     Ok(())
 }
