@@ -1,12 +1,12 @@
 -- The answers of seats from a seat on: what taking one there, or finding none, makes of them.
-use Rattle.std.specs.Prelude.{◌≡◌, ◌≤◌, ◌<◌, ◌+◌, ℕ, zero, suc, Option, None, Some, List, [], ◌∷◌, ◌++◌, length, map, drop, slice_get, slice_set, refl}
+use Rattle.std.specs.Prelude.{◌≡◌, ◌<◌, ◌+◌, ℕ, zero, suc, Option, None, Some, List, [], ◌∷◌, ◌++◌, length, map, drop, slice_get, refl}
 use Rattle.std.proofs.Common.{arith, ap, sym, ◌∙◌}
 use Rattle.std.specs.Option.{option_and_then, option_map}
 use Rattle.ruby_value.specs.declared.asked.Answer.{Answer}
 use Rattle.sequencer.specs.Requests.{Requests, first_of, rest_of, without_first_answer}
 use Rattle.sequencer.specs.Seats.{Seat, changed_seat, controller_at, first_answer_at, without_answer_at}
 use Rattle.random_tester.specs.SeatsAfter.{further}
-use Rattle.random_tester.specs.Turn.{Finished, answers_of, finished_at, finished_from}
+use Rattle.random_tester.specs.Turn.{Finished, finished_at, finished_from}
 
 abbrev seat_of : ℕ → Option Requests → Seat
 seat_of c o = record { controller = c; requests = o }

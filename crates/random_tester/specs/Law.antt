@@ -1,9 +1,9 @@
 -- The random tester keeps the law of drivers.
-use Rattle.std.specs.Prelude.{◌≡◌, ◌≤◌, ◌<◌, ◌+◌, ◌-◌, ◌*◌, ◌/◌, ◌%◌, ◌^◌, ◌==◌, ℕ, zero, suc, Bool, true, false, cond, Option, None, Some, IfSome, IsNone, Contains, List, [], ◌∷◌, ◌++◌, bit_or, bit_xor, is_none, length, map, drop, nat_le, nat_lt, slice_get, slice_set, refl}
-use Rattle.std.proofs.Common.{arith, add-one, ap, sym, subst, ◌∙◌, ◌⊎◌, inl, inr, ⊎_elim, T}
+use Rattle.std.specs.Prelude.{◌≡◌, ◌≤◌, ◌<◌, ◌+◌, ◌-◌, ◌/◌, ◌%◌, ◌^◌, ◌==◌, ℕ, zero, suc, Bool, true, false, cond, Option, None, Some, IfSome, IsNone, Contains, List, [], ◌∷◌, bit_or, bit_xor, is_none, length, drop, nat_le, nat_lt, slice_get, refl}
+use Rattle.std.proofs.Common.{arith, add-one, ap, sym, subst, ◌∙◌}
 use Rattle.std.proofs.lemmas.Bool.Decides.{nat_tests}
 use Rattle.std.proofs.lemmas.List.{length-set}
-use Rattle.std.proofs.lemmas.List.Elements.{All-append, All-cons, All-filter, All-head, All-map, All-tail, All-weaker}
+use Rattle.std.proofs.lemmas.List.Elements.{All-append, All-filter, All-head, All-map, All-tail, All-weaker}
 use Rattle.std.proofs.lemmas.Nat.{mod_below, or_of_32}
 use Rattle.std.proofs.Math.Nat.{div-le_self, mod-le}
 use Rattle.std.specs.List.{All, filter}
@@ -11,10 +11,9 @@ use Rattle.pcg_words.specs.Word.{generator_after, word}
 use Rattle.ruby_value.specs.declared.asked.Answer.{Answer}
 use Rattle.ruby_value.specs.declared.asked.Asked.{Asked}
 use Rattle.ruby_value.specs.declared.fault.Finding.{Finding}
-use Rattle.ruby_value.specs.declared.fault.Finding.TheVariants.{Incoherent, Deadlock, Passed}
+use Rattle.ruby_value.specs.declared.fault.Finding.TheVariants.{Deadlock}
 use Rattle.ruby_value.proofs.Contained.{Contains-cons_here, Contains-cons_there}
-use Rattle.sequencer.specs.declared.issued.Issued.{Issued}
-use Rattle.sequencer.specs.Drive.{CanIssue, CanIssueOne, CanTake, Drive, IsFindingAt, IsLawful, Taken, after_taking}
+use Rattle.sequencer.specs.Drive.{CanIssue, CanIssueOne, CanTake, Drive, IsFindingAt, IsLawful, after_taking}
 use Rattle.sequencer.specs.Requests.{IsLine, IsRequest, Requests, first_of}
 use Rattle.sequencer.specs.Seats.{FitSeats, FitsSeat, Seat, Seating, controller_at, first_answer_at, outstanding_at, with_seats, without_answer_at}
 use Rattle.sequencer.proofs.FitsByLine.{by_line-fits}
@@ -24,7 +23,7 @@ use Rattle.random_tester.specs.SeatsAfter.{controllers, controllers-kept, fit-af
 use Rattle.random_tester.specs.Slot.{first_difference, fresh_slot, request_of}
 use Rattle.random_tester.specs.State.{State, drawn_on, made, opening, with_slot}
 use Rattle.random_tester.specs.Took.{took-none, took-on, took-stop}
-use Rattle.random_tester.specs.Turn.{Act, Finished, Judged, Took, act, act_at, act_on, act_with_value, after_answer, after_check, after_took, after_wait, answers_of, compared, draw, ended, finished_at, finished_from, in_tenth, is_to, judged, judged_at, late, late_at, next_turn, outstanding_of, tester_drive, tester_needs, took}
+use Rattle.random_tester.specs.Turn.{Act, Finished, Took, act, act_at, act_on, act_with_value, after_answer, after_check, after_took, after_wait, answers_of, compared, draw, ended, finished_at, finished_from, in_tenth, is_to, judged, judged_at, late, late_at, next_turn, outstanding_of, tester_drive, tester_needs, took}
 
 -- Taking: each answer is the first of its seat as it is taken.
 abbrev Can : List Seat → State → List Finished → Type 0

@@ -1,7 +1,7 @@
 -- What a line's slot asks for and what it makes of an answer. A slot stores byte 0 of its line, then bytes 1, 2 and 3, one request
 -- after another, each with a value that is one more than that of the byte before it, modulo 256; then it loads the four and
 -- compares them. It waits for one answer at a time. The rules are this project's own.
-use Rattle.std.specs.Prelude.{◌+◌, ◌%◌, ◌==◌, ◌&&◌, ℕ, Bool, true, false, not, Option, None, Some, List, [], ◌∷◌, nat_lt, slice_index_or, if◌then◌else◌}
+use Rattle.std.specs.Prelude.{◌+◌, ◌%◌, ◌==◌, ◌&&◌, ℕ, Bool, true, false, not, Option, None, List, [], ◌∷◌, nat_lt, slice_index_or, if◌then◌else◌}
 use Rattle.std.specs.List.{filter}
 use Rattle.ruby_value.specs.declared.asked.Ask.{Ask}
 use Rattle.ruby_value.specs.declared.asked.Ask.TheVariants.{Load, Store, Fetch}

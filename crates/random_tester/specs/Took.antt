@@ -1,9 +1,8 @@
 -- What taking makes of one answer and the rest of them.
-use Rattle.std.specs.Prelude.{◌≡◌, ℕ, Option, None, Some, List, [], ◌∷◌, refl}
-use Rattle.std.proofs.Common.{ap, sym, ◌∙◌}
+use Rattle.std.specs.Prelude.{◌≡◌, Option, None, Some, List, [], ◌∷◌, refl}
 use Rattle.ruby_value.specs.declared.fault.Finding.{Finding}
 use Rattle.random_tester.specs.State.{State}
-use Rattle.random_tester.specs.Turn.{Finished, Judged, Took, and_before, judged, took, took_first}
+use Rattle.random_tester.specs.Turn.{Finished, Took, and_before, judged, took, took_first}
 
 pub took-none : (t : State) → took t [] ≡ record { tester = t; taken = []; finding = None }
 unfolding took

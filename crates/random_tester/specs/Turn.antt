@@ -1,10 +1,9 @@
 -- The random tester's turn of a cycle, in four points: it takes the finished requests; it goes on only in every tenth cycle; it
 -- looks for a request that has waited too long; it draws a slot, and issues what that slot asks for. A finding ends the turn.
 -- The next cycle at which it must act is the next multiple of 10. All of this is this project's own.
-use Rattle.std.specs.Prelude.{ℕ, ◌+◌, ◌*◌, ◌/◌, ◌%◌, ◌-◌, ◌==◌, Bool, true, false, Option, None, Some, List, [], ◌∷◌, ◌++◌, is_none, nat_le, nat_lt, length, map, slice_get, slice_index_or, if◌then◌else◌}
+use Rattle.std.specs.Prelude.{ℕ, ◌+◌, ◌*◌, ◌/◌, ◌%◌, ◌-◌, ◌==◌, Bool, false, Option, None, Some, List, [], ◌∷◌, ◌++◌, is_none, nat_le, nat_lt, length, map, slice_get, slice_index_or, if◌then◌else◌}
 use Rattle.std.specs.List.{filter}
 use Rattle.pcg_words.specs.Below.{below}
-use Rattle.pcg_words.specs.Position.{Position}
 use Rattle.ruby_value.specs.declared.asked.Answer.{Answer}
 use Rattle.ruby_value.specs.declared.asked.Asked.{Asked}
 use Rattle.ruby_value.specs.declared.fault.Finding.{Finding}
