@@ -7,6 +7,8 @@ use Rattle.slicc_ast.specs.Bytes.{is_between}
 use Rattle.ruby_value.specs.declared.setup.Sizes.{Sizes}
 use Rattle.ruby_value.specs.declared.setup.TableSetup.{TableSetup}
 use Rattle.ruby_value.specs.declared.setup.TableSize.{TableSize}
+use Rattle.ruby_symbols.specs.declared.machine.TableSort.{TableSort}
+use Rattle.ruby_symbols.specs.declared.machine.TableSort.TheVariants as sort
 use Rattle.slicc_ast.specs.declared.tree.declaration.Pairs.{Pairs}
 use Rattle.slicc_ast.specs.declared.tree.declaration.Structure.{Structure}
 use Rattle.slicc_ast.specs.declared.tree.item.Tree.{Tree}
@@ -19,7 +21,8 @@ use Rattle.slicc_plan.specs.Declarations.{Declaration, machine, enumeration, str
 use Rattle.slicc_plan.specs.FieldTypes.{refused_field_types}
 use Rattle.slicc_plan.specs.Limits.{limits_passed}
 use Rattle.slicc_plan.specs.Prototypes.{unknown_built_ins}
-use Rattle.slicc_plan.specs.Setups.{AreSizesOf, HasRoom, TableSort, cache, directory, tbes, cache_size, line_structure, parameter_table, setup_in, table_in, table_of_lines, table_size, table_sort, tables_from, tables_of, tbe_size, written_entries}
+use Rattle.slicc_plan.specs.Setups.{AreSizesOf, HasRoom, cache_size, parameter_table, setup_in, table_of_lines, table_size, tables_from, tbe_size}
+use Rattle.slicc_plan.specs.Tables.{line_structure, table_in, table_sort, tables_of, written_entries}
 use Rattle.slicc_plan.specs.TwiceDeclared.{names_twice_declared}
 use Rattle.slicc_plan.specs.Types.{KnownType, is_built_in, type_in}
 use Rattle.slicc_plan.specs.UnknownTypes.{unknown_types}
@@ -84,15 +87,15 @@ entries_within pairs e =
 -- what sort a table is
 
 abbrev SortInLimits : TableSort → Type 0
-SortInLimits cache = Unit {0}
-SortInLimits directory = Unit {0}
-SortInLimits (tbes written) = InLimits written
+SortInLimits sort.Cache = Unit {0}
+SortInLimits sort.Directory = Unit {0}
+SortInLimits (sort.Tbe written) = InLimits written
 
 abbrev OptionInLimits : Option TableSort → Type 0
 OptionInLimits None = Unit {0}
 OptionInLimits (Some t) = SortInLimits t
 
-sort_by : (is_cache is_directory is_tbe : Bool) (pairs : Pairs) → cond is_tbe (bad_entries pairs) [] ≡ [] → OptionInLimits (cond is_cache (Some cache) (cond is_directory (Some directory) (cond is_tbe (Some (tbes (written_entries pairs))) None)))
+sort_by : (is_cache is_directory is_tbe : Bool) (pairs : Pairs) → cond is_tbe (bad_entries pairs) [] ≡ [] → OptionInLimits (cond is_cache (Some sort.Cache) (cond is_directory (Some sort.Directory) (cond is_tbe (Some (sort.Tbe (written_entries pairs))) None)))
 sort_by true d t pairs e = tt
 sort_by false true t pairs e = tt
 sort_by false false true pairs e = entries_within pairs e
@@ -165,9 +168,9 @@ tbe_room sizes (Some (n, entries)) number written w h e =
     found_holds (λ (u : ℕ × ℕ). HasRoom (tbe_size 16 (Some u))) (λ (u : ℕ × ℕ). u.0 == number) sizes (n, entries) h e
 
 size_room : (trees : List Tree) (sizes : Sizes) (number : ℕ) (t : TableSort) → AreSizesOf trees sizes → SortInLimits t → HasRoom (table_size sizes number t)
-size_room trees sizes number cache s h = cache_room sizes.caches _ number s.caches refl
-size_room trees sizes number directory s h = tt
-size_room trees sizes number (tbes written) s h = tbe_room sizes.tbes _ number written h s.tbes refl
+size_room trees sizes number sort.Cache s h = cache_room sizes.caches _ number s.caches refl
+size_room trees sizes number sort.Directory s h = tt
+size_room trees sizes number (sort.Tbe written) s h = tbe_room sizes.tbes _ number written h s.tbes refl
 
 abbrev Roomy : TableSetup → Type 0
 Roomy s = HasRoom s.size
