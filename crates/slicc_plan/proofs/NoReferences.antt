@@ -22,7 +22,7 @@ use Rattle.slicc_plan.specs.declared.built_in.BuiltInType.{BuiltInType}
 use Rattle.slicc_plan.specs.declared.built_in.BuiltInType.TheVariants.{Int, Cycles, Tick, Bool as Boolean, Address, MachineId, MachineType, NetDest, DataBlock, AccessPermission, RequestType, MessageSize, Request, AbstractEntry, Void, Cache, Directory, TbeTable, Sequencer, Buffer}
 use Rattle.slicc_plan.specs.Buffers.{BufferIn, buffer_in}
 use Rattle.slicc_plan.specs.BuiltIn.{NamedType, is_same_type, request_fields}
-use Rattle.slicc_plan.specs.Declarations.{Declaration, machine, enumeration, structure, states, parameter, object, out_port, in_port, action, function, symbol, state, member, formal, local, Scope, within, machine_declarations}
+use Rattle.slicc_plan.specs.Declarations.{Declaration, machine, enumeration, structure, states, parameter, object, out_port, in_port, action, function, symbol, state, member as member_declaration, formal, local, Scope, within, machine_declarations}
 use Rattle.slicc_plan.specs.FieldTypes.{field_type}
 use Rattle.slicc_plan.specs.InitialFields.{field_kind, field_kinds, message_kinds, request_kinds, structure_fields}
 use Rattle.slicc_plan.specs.MachineValues.{value_in, value_of_kind, value_of_type, values_of}
@@ -153,7 +153,7 @@ declared_plain trees m (action d) = All-nil ValuePlain
 declared_plain trees m (function d) = All-nil ValuePlain
 declared_plain trees m (symbol d) = All-nil ValuePlain
 declared_plain trees m (state d) = All-nil ValuePlain
-declared_plain trees m (member d) = All-nil ValuePlain
+declared_plain trees m (member_declaration d) = All-nil ValuePlain
 declared_plain trees m (formal d) = All-nil ValuePlain
 declared_plain trees m (local kind called span) = All-nil ValuePlain
 

@@ -21,7 +21,7 @@ use Rattle.slicc_ast.specs.declared.tree.machine.Literal.{Literal}
 use Rattle.slicc_ast.specs.declared.tree.machine.Literal.TheVariants.{Number, Minus, Quoted, True, False}
 use Rattle.slicc_ast.specs.declared.tree.machine.Machine.{Machine}
 use Rattle.slicc_plan.specs.Attributes.{Attribute, first_attribute}
-use Rattle.slicc_plan.specs.Declarations.{Declaration, machine, enumeration, structure, states, parameter, object, out_port, in_port, action, function, symbol, state, member, formal, local, within, machine_declarations}
+use Rattle.slicc_plan.specs.Declarations.{Declaration, machine, enumeration, structure, states, parameter, object, out_port, in_port, action, function, symbol, state, member as member_declaration, formal, local, within, machine_declarations}
 use Rattle.slicc_plan.specs.FieldTypes.{FieldIn, field_type}
 use Rattle.slicc_plan.specs.InitialFields.{field_kind, initial_of, initial_value, structure_fields, value_by, value_written}
 use Rattle.slicc_plan.specs.MachineValues.{literal_value, value_in, value_of_kind, value_of_type, values_of, written_value}
@@ -150,7 +150,7 @@ declared_begins trees m (action d) = All-nil BeginsRight
 declared_begins trees m (function d) = All-nil BeginsRight
 declared_begins trees m (symbol d) = All-nil BeginsRight
 declared_begins trees m (state d) = All-nil BeginsRight
-declared_begins trees m (member d) = All-nil BeginsRight
+declared_begins trees m (member_declaration d) = All-nil BeginsRight
 declared_begins trees m (formal d) = All-nil BeginsRight
 declared_begins trees m (local kind called span) = All-nil BeginsRight
 
