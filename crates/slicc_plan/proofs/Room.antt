@@ -61,7 +61,7 @@ first_passes p [] a e at = cc
 first_passes p (b ∷ all) a e at =
     let same : b ≡ a = cc in subst (λ c. p c ≡ true) same (passing p b all (p b) refl e)
 
-abbrev InLimits : ℕ → Type 0
+abbrev pub InLimits : ℕ → Type 0
 InLimits n = (1 ≤ n) × (n ≤ 256)
 
 lower : (low high n : ℕ) → is_between low high n ≡ true → low ≤ n
@@ -86,12 +86,12 @@ entries_within pairs e =
 
 -- what sort a table is
 
-abbrev SortInLimits : TableSort → Type 0
+abbrev pub SortInLimits : TableSort → Type 0
 SortInLimits sort.Cache = Unit {0}
 SortInLimits sort.Directory = Unit {0}
 SortInLimits (sort.Tbe written) = InLimits written
 
-abbrev OptionInLimits : Option TableSort → Type 0
+abbrev pub OptionInLimits : Option TableSort → Type 0
 OptionInLimits None = Unit {0}
 OptionInLimits (Some t) = SortInLimits t
 
@@ -105,7 +105,7 @@ sort_within : (t : Option KnownType) (pairs : Pairs) → bad_object_attributes t
 sort_within t pairs e =
     sort_by (is_built_in Cache t) (is_built_in Directory t) (is_built_in TbeTable t) pairs (right_none (cond (is_built_in Buffer t) (bad_buffer_attributes pairs) []) (cond (is_built_in TbeTable t) (bad_entries pairs) []) e)
 
-declared_within : (trees : List Tree) (m : Machine) (d : Declaration) → bad_values_of trees (within m) d ≡ [] → OptionInLimits (table_in trees m d)
+pub declared_within : (trees : List Tree) (m : Machine) (d : Declaration) → bad_values_of trees (within m) d ≡ [] → OptionInLimits (table_in trees m d)
 declared_within trees m (parameter p) e =
     sort_within (type_in trees (within m) p.kind.text) p.pairs (right_none (bad_literal (type_in trees (within m) p.kind.text) p.literal) (bad_object_attributes (type_in trees (within m) p.kind.text) p.pairs) e)
 declared_within trees m (object o) e = sort_within (type_in trees (within m) o.kind.text) o.pairs e
@@ -142,7 +142,7 @@ pub values_kept : (trees : List Tree) (number : ℕ) (m : Machine) → IsAccepte
 values_kept trees number m h at =
     none_at (bad_values_in trees) (wide_scopes trees) (suc number) (within m) (left_none (flat_map (bad_values_in trees) (wide_scopes trees)) (bad_field_defaults trees) (accepted_values trees h)) (mapped_at within (machines_of trees) number m at)
 
-tables_within : (trees : List Tree) (number : ℕ) (m : Machine) → IsAccepted trees → slice_get (machines_of trees) number ≡ Some m → All SortInLimits (tables_of trees m)
+pub tables_within : (trees : List Tree) (number : ℕ) (m : Machine) → IsAccepted trees → slice_get (machines_of trees) number ≡ Some m → All SortInLimits (tables_of trees m)
 tables_within trees number m h at =
     sorts_within trees m (machine_declarations m) (values_kept trees number m h at)
 
