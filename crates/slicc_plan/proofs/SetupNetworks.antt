@@ -45,12 +45,12 @@ buffers_typed trees number sizes m = all_typed trees number m (machine_declarati
 abbrev OnNetwork : BufferSetup → Type 0
 OnNetwork b = IfSome (network_of b.place) (λ n. n ≤ 15)
 
-abbrev PlaceInLimits : Place → Type 0
+abbrev pub PlaceInLimits : Place → Type 0
 PlaceInLimits own = Unit {0}
 PlaceInLimits (to_network n) = n ≤ 15
 PlaceInLimits (from_network n) = n ≤ 15
 
-abbrev BufferInLimits : Option BufferIn → Type 0
+abbrev pub BufferInLimits : Option BufferIn → Type 0
 BufferInLimits None = Unit {0}
 BufferInLimits (Some b) = PlaceInLimits b.place
 
@@ -73,7 +73,7 @@ object_within : (t : Option KnownType) (name : Name) (pairs : Pairs) (span : Spa
 object_within t name pairs span e =
     buffer_within (is_built_in Buffer t) name pairs span (left_none (cond (is_built_in Buffer t) (bad_buffer_attributes pairs) []) (cond (is_built_in TbeTable t) (bad_entries pairs) []) e)
 
-declared_within : (trees : List Tree) (m : Machine) (d : Declaration) → bad_values_of trees (within m) d ≡ [] → BufferInLimits (buffer_in trees m d)
+pub declared_within : (trees : List Tree) (m : Machine) (d : Declaration) → bad_values_of trees (within m) d ≡ [] → BufferInLimits (buffer_in trees m d)
 declared_within trees m (parameter p) e =
     object_within (type_in trees (within m) p.kind.text) p.name p.pairs p.span (right_none (bad_literal (type_in trees (within m) p.kind.text) p.literal) (bad_object_attributes (type_in trees (within m) p.kind.text) p.pairs) e)
 declared_within trees m (object o) e =

@@ -1,0 +1,5 @@
+pub mod Kinds
+pub mod Names
+pub mod Numbers
+pub mod States
+pub mod Types
