@@ -109,10 +109,13 @@ pub(crate) fn are_posted(posted: &Seq<(u32, Message)>, told: &Told) -> bool {
     if posted.len() != told.posted {
         return false;
     }
-    let for_others = told.sent.iter().filter(|copy| copy.0 != ME);
-    for (i, copy) in for_others.enumerate() {
-        if !is_posted(posted.get(i), *copy) {
-            return false;
+    let mut place = 0usize;
+    for copy in told.sent {
+        if copy.0 != ME {
+            if !is_posted(posted.get(place), *copy) {
+                return false;
+            }
+            place = place.saturating_add(1);
         }
     }
     true

@@ -1,6 +1,6 @@
 ghost use Rattle.std.specs.Prelude.{◌≤◌, length};
 
-use crate::read_rows::READ;
+use crate::file_rows::READ;
 use slicc_ast::spans;
 use slicc_ast::tree::{Span, Tree};
 use slicc_lex::lex;
@@ -16,11 +16,15 @@ fn is_span(span: &Span, place: &[u32]) -> bool {
 }
 
 fn are_spans(found: &[Span], expected: &[u32]) -> bool {
-    found.len() * 2 == expected.len()
-        && found
-            .iter()
-            .zip(expected.chunks(2))
-            .all(|(span, place)| is_span(span, place))
+    if found.len() * 2 != expected.len() {
+        return false;
+    }
+    for (span, place) in found.iter().zip(expected.chunks(2)) {
+        if !is_span(span, place) {
+            return false;
+        }
+    }
+    true
 }
 
 fn parsed(alloc: Global, text: &[u8]) -> Option<Result<Tree, SyntaxFault>>
@@ -48,7 +52,8 @@ fn is_read(alloc: Global, row: &(&[u8], &[u32])) -> bool {
 
 #[test]
 fn each_text_has_the_spans_of_its_row(rt: HostRuntime) -> Result<(), Fail> {
-    let alloc = rt.alloc();
-    assert_eq!(rt; READ.iter().position(|row| !is_read(alloc, row)), None);
+    for (place, row) in READ.iter().enumerate() {
+        assert!(rt; is_read(rt.alloc(), row), "row {place}");
+    }
     Ok(())
 }
