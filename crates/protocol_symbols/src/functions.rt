@@ -1,7 +1,7 @@
 //! The functions and actions of a machine.
 ghost use Rattle.std.specs.Prelude.{◌≡◌, ◌++◌, IfOk, OnOk, map};
 ghost use Rattle.slicc_plan.specs.Declarations.{machine_declarations};
-ghost use Rattle.slicc_plan.specs.SymbolsOfMachines.{action_symbol, action_symbols, formal_symbol, function_symbol, function_symbols, function_with_body, kind_in};
+ghost use Rattle.slicc_plan.specs.SymbolsOfMachines.{action_symbol, action_symbols, formal_symbol, function_symbol, function_symbols, function_with_body, kind_in, numbered_from};
 ghost use Rattle.declared_types.specs.Lent.{declarations_of};
 ghost use Rattle.type_numbers.specs.Numbered.{AreNumbered, trees_of};
 
@@ -105,6 +105,24 @@ fn add_function<'a>(
     }
 }
 
+fn functions_among<'a>(
+    alloc: Global,
+    types: &TypeNumbers<'a>,
+    m: &'a Machine,
+    declarations: &[Declared<'a>],
+    written: &[Decl],
+) -> Result<Seq<FunctionSymbol>, NoMemory>
+    requires types { AreNumbered types.now }
+    requires declarations { declarations_of declarations.now ≡ machine_declarations m.now }
+    ensures { IfOk result (λ list. list ≡ numbered_from (function_symbol (trees_of types.now) m.now) 0 written.now) }
+{
+    let mut list = Seq::new(alloc);
+    for (number, d) in written.iter().enumerate() {
+        add_function(alloc, &mut list, types, m, declarations, number, d)?;
+    }
+    Ok(list)
+}
+
 /// The functions of a machine that declares this.
 pub fn function_symbols<'a>(
     alloc: Global,
@@ -116,11 +134,7 @@ pub fn function_symbols<'a>(
     requires declarations { declarations_of declarations.now ≡ machine_declarations m.now }
     ensures { IfOk result (λ list. list ≡ function_symbols (trees_of types.now) m.now) }
 {
-    let mut list = Seq::new(alloc);
-    for (number, d) in m.declarations.iter().enumerate() {
-        add_function(alloc, &mut list, types, m, declarations, number, d)?;
-    }
-    Ok(list)
+    functions_among(alloc, types, m, declarations, &m.declarations)
 }
 
 fn action_of(alloc: Global, name: &[u8], number: usize) -> Result<ActionSymbol, NoMemory>
@@ -147,13 +161,19 @@ fn add_action(
     }
 }
 
+fn actions_among(alloc: Global, written: &[Decl]) -> Result<Seq<ActionSymbol>, NoMemory>
+    ensures { IfOk result (λ list. list ≡ numbered_from action_symbol 0 written.now) }
+{
+    let mut list = Seq::new(alloc);
+    for (number, d) in written.iter().enumerate() {
+        add_action(alloc, &mut list, number, d)?;
+    }
+    Ok(list)
+}
+
 /// The actions of a machine.
 pub fn action_symbols(alloc: Global, m: &Machine) -> Result<Seq<ActionSymbol>, NoMemory>
     ensures { IfOk result (λ list. list ≡ action_symbols m.now) }
 {
-    let mut list = Seq::new(alloc);
-    for (number, d) in m.declarations.iter().enumerate() {
-        add_action(alloc, &mut list, number, d)?;
-    }
-    Ok(list)
+    actions_among(alloc, &m.declarations)
 }

@@ -70,7 +70,7 @@ struct Rest {
     transitions: Seq<TransitionSymbol>,
 }
 
-fn numbers<'a>(
+fn numbers_of<'a>(
     types: &TypeNumbers<'a>,
     m: &'a Machine,
     declarations: &[Declared<'a>],
@@ -91,7 +91,7 @@ fn numbers<'a>(
     })
 }
 
-fn objects<'a>(
+fn objects_of<'a>(
     alloc: Global,
     types: &TypeNumbers<'a>,
     ports: &[PortOn<'a>],
@@ -116,7 +116,7 @@ fn objects<'a>(
     })
 }
 
-fn bodies<'a>(
+fn bodies_of<'a>(
     alloc: Global,
     types: &TypeNumbers<'a>,
     m: &'a Machine,
@@ -154,7 +154,7 @@ fn sequencer_name<'a>(
     }
 }
 
-fn rest<'a>(
+fn rest_of<'a>(
     alloc: Global,
     types: &TypeNumbers<'a>,
     m: &'a Machine,
@@ -218,10 +218,10 @@ fn machine_with<'a>(
     requires declarations { declarations_of declarations.now ≡ machine_declarations m.now }
     ensures { IfOk result (λ s. s ≡ machine_symbols (trees_of types.now) number m.now) }
 {
-    let numbers = numbers(types, m, declarations)?;
-    let objects = objects(alloc, types, ports, number, m, declarations)?;
-    let bodies = bodies(alloc, types, m, declarations, &objects.buffers)?;
-    let rest = rest(alloc, types, m, declarations)?;
+    let numbers = numbers_of(types, m, declarations)?;
+    let objects = objects_of(alloc, types, ports, number, m, declarations)?;
+    let bodies = bodies_of(alloc, types, m, declarations, &objects.buffers)?;
+    let rest = rest_of(alloc, types, m, declarations)?;
     Ok(together(numbers, objects, bodies, rest))
 }
 
