@@ -8,9 +8,7 @@ ghost use Rattle.ctl_store.specs.Room.{IsSameStore};
 ghost use Rattle.call_rows.specs.Begun.{FitsIn};
 
 use crate::node::{DRIVER, ME, QUEUE};
-use ctl_face::{
-    Fields, MachineSetup, NoMemory, acts_between_scans_keep_what_holds, opening_controllers_fit,
-};
+use ctl_face::{Fields, MachineSetup, NoMemory};
 use ctl_store::Store;
 use ruby_value::{Ask, Asked, MsgNo, Value, have_kinds};
 use sample_controllers::{message, one_field};
@@ -25,8 +23,8 @@ pub(crate) fn opened(alloc: Global, machine: MachineSetup) -> Result<Store, NoMe
     ensures fits { IfOk result (λ s. FitsIn s NOW) }
     ensures none { IfOk result (λ s. (ctl_of s).mail.inbox ≡ []) }
 {
-    opening_controllers_fit();
-    Store::of(alloc, machine, ME)
+    let store = Store::of(alloc, machine, ME)?;
+    Ok(store)
 }
 
 fn takes(machine: &MachineSetup, buffer: u16, fields: &Fields) -> bool
@@ -54,7 +52,6 @@ pub(crate) fn is_delivered(alloc: Global, store: &mut Store) -> bool
     if !takes(store.machine(), QUEUE, &fields) || store.room(1).is_err() {
         return false;
     }
-    acts_between_scans_keep_what_holds();
     let number = MsgNo {
         sender: DRIVER,
         count: 0,

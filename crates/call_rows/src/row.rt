@@ -24,16 +24,14 @@ pub(crate) enum Argument {
     NoTbe,
 }
 
-/// A call.
-pub(crate) struct Row {
-    /// Its number in action code.
-    pub(crate) number: u16,
-    /// What it is called on, and its name.
-    pub(crate) name: &'static str,
-    /// The number of the table or buffer that it is on, or 0.
-    pub(crate) on: u16,
-    pub(crate) arguments: &'static [Argument],
-}
+/// A call: its number in action code, what it is called on and its name, the number of the table or buffer that it is on, or 0, and its
+/// arguments.
+pub(crate) struct Row(
+    pub(crate) u16,
+    pub(crate) &'static str,
+    pub(crate) u16,
+    pub(crate) &'static [Argument],
+);
 
 fn controllers(alloc: Global, numbers: &[u32]) -> Result<NetDest, NoMemory> {
     let mut members = NetDest::new(alloc);

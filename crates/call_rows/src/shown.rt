@@ -27,6 +27,7 @@ fn write_reference<W: fmt::Write>(r: &Option<Ref>, f: &mut fmt::Formatter<W>) ->
 }
 
 /// A value.
+#[derive(Clone, Copy)]
 pub(crate) struct Shown<'a>(pub(crate) &'a Value);
 
 impl<'a> fmt::Display for Shown<'a> {
@@ -77,6 +78,7 @@ fn word_of(fault: &Fault) -> &'static str {
 }
 
 /// What a call answers: its value, `done` where it has none, or its fault.
+#[derive(Drop)]
 pub(crate) struct Answered(pub(crate) Result<Option<Value>, Trouble>);
 
 impl fmt::Display for Answered {
@@ -91,6 +93,7 @@ impl fmt::Display for Answered {
 }
 
 /// The arguments of a call.
+#[derive(Clone, Copy)]
 pub(crate) struct Arguments<'a>(pub(crate) &'a [Value]);
 
 impl<'a> fmt::Display for Arguments<'a> {

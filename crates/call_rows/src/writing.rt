@@ -24,17 +24,12 @@ fn write_row<L: Local>(
     setting: &CallSetting,
     row: &Row,
 ) -> io::Result<bool> {
-    let Ok(arguments) = values(alloc, row.arguments) else {
+    let Row(number, name, on, arguments) = row;
+    let Ok(arguments) = values(alloc, arguments) else {
         return Ok(false);
     };
-    let answer = built_in(alloc, local, setting, row.number, row.on, &arguments);
-    println!(rt;
-        "{} {}({}): {}",
-        row.number,
-        row.name,
-        Arguments(&arguments),
-        Answered(answer)
-    )?;
+    let answer = Answered(built_in(alloc, local, setting, *number, *on, &arguments));
+    println!(rt; "{number} {name}({}): {answer}", Arguments(&arguments))?;
     Ok(true)
 }
 
