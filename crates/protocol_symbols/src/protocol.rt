@@ -60,7 +60,7 @@ fn symbols_with(alloc: Global, types: &TypeNumbers<'_>) -> Result<Symbols, NoMem
 
 /// The symbols of the protocol of these scopes.
 pub fn protocol_symbols(alloc: Global, scopes: Scopes<'_>) -> Result<Symbols, NoMemory>
-    ensures { IfOk result (λ s. s ≡ symbols_of scopes.trees.now) }
+    ensures { IfOk result (λ s. s ≡ symbols_of scopes.entry.trees.now) }
 {
     let types = number_types(alloc, scopes)?;
     symbols_with(alloc, &types)

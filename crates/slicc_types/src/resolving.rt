@@ -59,8 +59,8 @@ pub struct Kept {
 }
 
 fn with_symbols(alloc: Global, scopes: Scopes<'_>, counts: Counts) -> Result<Kept, NoMemory>
-    requires { IsCounted scopes.trees.now counts }
-    ensures { IfOk result (IsKept scopes.trees.now) }
+    requires { IsCounted scopes.entry.trees.now counts }
+    ensures { IfOk result (IsKept scopes.entry.trees.now) }
 {
     let symbols = protocol_symbols(alloc, scopes)?;
     Ok(Kept {

@@ -219,15 +219,16 @@ action_each n (decl.Object d) = omega arith
 
 no_limit_passed : (trees : List Tree) → IsAccepted trees → limits_passed trees ≡ []
 no_limit_passed trees h =
-    left_none (limits_passed trees) (refused_field_types trees ++ bad_values trees ++ unknown_built_ins trees)
-    (right_none (unknown_types trees) (limits_passed trees ++ refused_field_types trees ++ bad_values trees ++ unknown_built_ins trees)
-    (right_none (names_twice_declared trees) (unknown_types trees ++ limits_passed trees ++ refused_field_types trees ++ bad_values trees ++ unknown_built_ins trees) h.of_declarations))
+    right_none (names_twice_declared trees ++ unknown_types trees) (limits_passed trees)
+    (left_none (names_twice_declared trees ++ unknown_types trees ++ limits_passed trees) (refused_field_types trees)
+    (left_none (names_twice_declared trees ++ unknown_types trees ++ limits_passed trees ++ refused_field_types trees) (bad_values trees)
+    (left_none (names_twice_declared trees ++ unknown_types trees ++ limits_passed trees ++ refused_field_types trees ++ bad_values trees) (unknown_built_ins trees) h.of_declarations)))
 
 scopes_kept : (trees : List Tree) → IsAccepted trees → flat_map (beyond_in_scope trees) (wide_scopes trees) ≡ []
 scopes_kept trees h =
-    right_none (beyond most_structures (filter is_counted_structure (all_declarations trees))) (flat_map (beyond_in_scope trees) (wide_scopes trees))
-    (right_none (beyond (most_enumerations - built_in_enumerations) (filter is_enumeration (all_declarations trees))) (beyond most_structures (filter is_counted_structure (all_declarations trees)) ++ flat_map (beyond_in_scope trees) (wide_scopes trees))
-    (right_none (beyond most_machines (filter is_machine (global_declarations trees))) (beyond (most_enumerations - built_in_enumerations) (filter is_enumeration (all_declarations trees)) ++ beyond most_structures (filter is_counted_structure (all_declarations trees)) ++ flat_map (beyond_in_scope trees) (wide_scopes trees)) (no_limit_passed trees h)))
+    right_none
+    (beyond most_machines (filter is_machine (global_declarations trees)) ++ beyond (most_enumerations - built_in_enumerations) (filter is_enumeration (all_declarations trees)) ++ beyond most_structures (filter is_counted_structure (all_declarations trees)))
+    (flat_map (beyond_in_scope trees) (wide_scopes trees)) (no_limit_passed trees h)
 
 machine_kept : (trees : List Tree) (k : ℕ) (m : Machine) → IsAccepted trees → slice_get (machines_of trees) k ≡ Some m → beyond_in_machine trees m ≡ []
 machine_kept trees k m h at =
@@ -243,22 +244,23 @@ record Limits (m : Machine) : Type 0 where
 
 limits_of : (trees : List Tree) (m : Machine) → beyond_in_machine trees m ≡ [] → Limits m
 limits_of trees m e =
-    let sequencers = beyond most_sequencers (filter (is_sequencer trees m) (machine_declarations m)) ++ flat_map beyond_in_body (machine_bodies m) in
-    let objects = beyond most_objects (filter is_object (machine_declarations m)) in
-    let ports = beyond most_ports (filter is_port (machine_declarations m)) in
-    let functions = beyond most_of_each (filter is_counted_function (machine_declarations m)) in
-    let actions = beyond most_of_each (filter is_action (machine_declarations m)) in
+    let states = beyond most_of_each (state_members m) in
     let events = beyond most_of_each (event_members m) in
-    let from_events : events ++ actions ++ functions ++ ports ++ objects ++ sequencers ≡ [] = right_none (beyond most_of_each (state_members m)) (events ++ actions ++ functions ++ ports ++ objects ++ sequencers) e in
-    let from_actions : actions ++ functions ++ ports ++ objects ++ sequencers ≡ [] = right_none events (actions ++ functions ++ ports ++ objects ++ sequencers) from_events in
-    let from_functions : functions ++ ports ++ objects ++ sequencers ≡ [] = right_none actions (functions ++ ports ++ objects ++ sequencers) from_actions in
-    let from_ports : ports ++ objects ++ sequencers ≡ [] = right_none functions (ports ++ objects ++ sequencers) from_functions in
-    let from_objects : objects ++ sequencers ≡ [] = right_none ports (objects ++ sequencers) from_ports in
+    let actions = beyond most_of_each (filter is_action (machine_declarations m)) in
+    let functions = beyond most_of_each (filter is_counted_function (machine_declarations m)) in
+    let ports = beyond most_ports (filter is_port (machine_declarations m)) in
+    let objects = beyond most_objects (filter is_object (machine_declarations m)) in
+    let sequencers = beyond most_sequencers (filter (is_sequencer trees m) (machine_declarations m)) in
+    let to_sequencers : states ++ events ++ actions ++ functions ++ ports ++ objects ++ sequencers ≡ [] = left_none (states ++ events ++ actions ++ functions ++ ports ++ objects ++ sequencers) (flat_map beyond_in_body (machine_bodies m)) e in
+    let to_objects : states ++ events ++ actions ++ functions ++ ports ++ objects ≡ [] = left_none (states ++ events ++ actions ++ functions ++ ports ++ objects) sequencers to_sequencers in
+    let to_ports : states ++ events ++ actions ++ functions ++ ports ≡ [] = left_none (states ++ events ++ actions ++ functions ++ ports) objects to_objects in
+    let to_functions : states ++ events ++ actions ++ functions ≡ [] = left_none (states ++ events ++ actions ++ functions) ports to_ports in
+    let to_actions : states ++ events ++ actions ≡ [] = left_none (states ++ events ++ actions) functions to_functions in
     record {
-      actions = within_limit 256 (filter is_action (machine_declarations m)) (left_none actions (functions ++ ports ++ objects ++ sequencers) from_actions);
-      functions = within_limit 256 (filter is_counted_function (machine_declarations m)) (left_none functions (ports ++ objects ++ sequencers) from_functions);
-      ports = within_limit 32 (filter is_port (machine_declarations m)) (left_none ports (objects ++ sequencers) from_ports);
-      objects = within_limit 64 (filter is_object (machine_declarations m)) (left_none objects sequencers from_objects);
+      actions = within_limit 256 (filter is_action (machine_declarations m)) (right_none (states ++ events) actions to_actions);
+      functions = within_limit 256 (filter is_counted_function (machine_declarations m)) (right_none (states ++ events ++ actions) functions to_functions);
+      ports = within_limit 32 (filter is_port (machine_declarations m)) (right_none (states ++ events ++ actions ++ functions) ports to_ports);
+      objects = within_limit 64 (filter is_object (machine_declarations m)) (right_none (states ++ events ++ actions ++ functions ++ ports) objects to_objects);
     }
 
 machine_counted : (trees : List Tree) (k : ℕ) (m : Machine) → Limits m → HasNumbers (machine_symbols trees k m)

@@ -1,11 +1,12 @@
 -- A machine of an accepted protocol has at most one buffer from a virtual network.
 use Rattle.std.proofs.Common.{◌≡◌, ◌++◌, ◌+◌, ◌≤◌, ◌==◌, ◌||◌, ℕ, Bool, true, false, cond, Option, None, Some, List, [], ◌∷◌, All, flat_map, slice_get, refl, sym, ◌∙◌, ap, subst, arith}
 use Rattle.std.specs.List.{count_by, list_any}
-use Rattle.std.proofs.lemmas.List.Sums.{sum_by-append}
+use Rattle.std.proofs.lemmas.List.Sums.{sum_by-append, sum_by-cons}
 use Rattle.ruby_symbols.specs.declared.machine.BufferSymbol.{BufferSymbol}
 use Rattle.slicc_ast.specs.declared.tree.declaration.Pairs.{Pairs}
 use Rattle.slicc_ast.specs.declared.tree.item.Tree.{Tree}
 use Rattle.slicc_ast.specs.declared.tree.machine.Machine.{Machine}
+use Rattle.slicc_plan.specs.declared.broken.Broken.{Broken}
 use Rattle.slicc_plan.specs.AllRules.{IsAccepted}
 use Rattle.slicc_plan.specs.BodySizes.{large_bodies}
 use Rattle.slicc_plan.specs.Buffers.{BufferIn, Place, own, to_network, from_network, buffer_in, buffers_of, listed}
@@ -69,41 +70,44 @@ met v (to_network n) before h e = cc
 met v (from_network w) before h e =
     any_map (is_from_in v) (λ (a : BufferIn). are_from_one a.place (from_network w)) (λ a g. both_from v w h a.place g) before e
 
+abbrev as_number : Bool → ℕ
+as_number u = cond u 1 0
+
+count_more : (v : ℕ) (b : BufferIn) (bs : List BufferIn) → count_by (is_from_in v) (b ∷ bs) ≡ cond (is_from_in v b) 1 0 + count_by (is_from_in v) bs
+count_more v b bs = sum_by-cons (λ a. cond (is_from_in v a) 1 0) b bs
+
+abbrev doubled_at : ℕ → List BufferIn → BufferIn → List Broken
+doubled_at number before b = cond (list_any (λ (a : BufferIn). are_from_one a.place b.place) before) (networks_broken number b.span ∷ []) []
+
 -- after one from a network no other is
+no_more_by : (number v : ℕ) (before bs : List BufferIn) (b : BufferIn) (u : Bool) → is_from_in v b ≡ u → doubled_at number before b ≡ [] → list_any (is_from_in v) before ≡ true → count_by (is_from_in v) bs ≡ 0 → count_by (is_from_in v) (b ∷ bs) ≡ 0
+no_more_by number v before bs b true g none h rest =
+    let doubled : networks_broken number b.span ∷ [] ≡ [] = subst (λ u. cond u (networks_broken number b.span ∷ []) [] ≡ []) (met v b.place before g h) none in
+    cc
+no_more_by number v before bs b false g none h rest =
+    let head : as_number (is_from_in v b) ≡ 0 = ap as_number g in
+    omega (arith, count_more v b bs, head, rest)
+
 no_more : (number v : ℕ) (before bs : List BufferIn) → doubled_after number before bs ≡ [] → list_any (is_from_in v) before ≡ true → count_by (is_from_in v) bs ≡ 0
 no_more number v before [] e h = refl
 no_more number v before (b ∷ bs) e h =
-    by_test (is_from_in v b) refl
-  where
-    rest : doubled_after number (before ++ b ∷ []) bs ≡ []
-    rest = right_none (cond (list_any (λ (a : BufferIn). are_from_one a.place b.place) before) (networks_broken number b.span ∷ []) []) (doubled_after number (before ++ b ∷ []) bs) e
+    no_more_by number v before bs b (is_from_in v b) refl (left_none (doubled_at number before b) (doubled_after number (before ++ b ∷ []) bs) e) h
+    (no_more number v (before ++ b ∷ []) bs (right_none (doubled_at number before b) (doubled_after number (before ++ b ∷ []) bs) e) (any_last (is_from_in v) before b h))
 
-    none : cond (list_any (λ (a : BufferIn). are_from_one a.place b.place) before) (networks_broken number b.span ∷ []) [] ≡ []
-    none = left_none (cond (list_any (λ (a : BufferIn). are_from_one a.place b.place) before) (networks_broken number b.span ∷ []) []) (doubled_after number (before ++ b ∷ []) bs) e
-
-    by_test : (u : Bool) → is_from_in v b ≡ u → count_by (is_from_in v) (b ∷ bs) ≡ 0
-    by_test true g =
-        let doubled : networks_broken number b.span ∷ [] ≡ [] = subst (λ u. cond u (networks_broken number b.span ∷ []) [] ≡ []) (met v b.place before g h) none in
-        cc
-    by_test false g =
-        ap (λ u. cond u 1 0 + count_by (is_from_in v) bs) g ∙ no_more number v (before ++ b ∷ []) bs rest (any_last (is_from_in v) before b h)
+once_by : (number v : ℕ) (before bs : List BufferIn) (b : BufferIn) (u : Bool) → is_from_in v b ≡ u → doubled_after number (before ++ b ∷ []) bs ≡ [] → count_by (is_from_in v) bs ≤ 1 → count_by (is_from_in v) (b ∷ bs) ≤ 1
+once_by number v before bs b true g rest most =
+    let head : as_number (is_from_in v b) ≡ 1 = ap as_number g in
+    let tail : count_by (is_from_in v) bs ≡ 0 = no_more number v (before ++ b ∷ []) bs rest (last_any (is_from_in v) before b g) in
+    omega (arith, count_more v b bs, head, tail)
+once_by number v before bs b false g rest most =
+    let head : as_number (is_from_in v b) ≡ 0 = ap as_number g in
+    omega (arith, count_more v b bs, head, most)
 
 once : (number v : ℕ) (before bs : List BufferIn) → doubled_after number before bs ≡ [] → count_by (is_from_in v) bs ≤ 1
 once number v before [] e = omega arith
 once number v before (b ∷ bs) e =
-    by_test (is_from_in v b) refl
-  where
-    rest : doubled_after number (before ++ b ∷ []) bs ≡ []
-    rest = right_none (cond (list_any (λ (a : BufferIn). are_from_one a.place b.place) before) (networks_broken number b.span ∷ []) []) (doubled_after number (before ++ b ∷ []) bs) e
-
-    by_test : (u : Bool) → is_from_in v b ≡ u → count_by (is_from_in v) (b ∷ bs) ≤ 1
-    by_test true g =
-        let head : cond (is_from_in v b) 1 0 ≡ 1 = ap (λ u. cond u 1 0) g in
-        let tail : count_by (is_from_in v) bs ≡ 0 = no_more number v (before ++ b ∷ []) bs rest (last_any (is_from_in v) before b g) in
-        omega (arith, head, tail)
-    by_test false g =
-        let head : cond (is_from_in v b) 1 0 ≡ 0 = ap (λ u. cond u 1 0) g in
-        omega (arith, head, once number v (before ++ b ∷ []) bs rest)
+    let rest : doubled_after number (before ++ b ∷ []) bs ≡ [] = right_none (doubled_at number before b) (doubled_after number (before ++ b ∷ []) bs) e in
+    once_by number v before bs b (is_from_in v b) refl rest (once number v (before ++ b ∷ []) bs rest)
 
 -- the buffers as symbols
 
@@ -118,7 +122,7 @@ is_from_symbol v b = is_from v b.place
 one_alike : (trees : List Tree) (number v : ℕ) (pairs : Option Pairs) (b : Option BufferIn) → count_by (is_from_symbol v) (buffer_of_place trees number pairs b) ≡ count_by (is_from_in v) (listed b)
 one_alike trees number v pairs None = refl
 one_alike trees number v pairs (Some b) =
-    ap (λ u. cond u 1 0 + 0) (from_alike trees v b.place (message_type trees number b))
+    ap (λ u. 0 + cond u 1 0) (from_alike trees v b.place (message_type trees number b))
 
 all_alike : (trees : List Tree) (number v : ℕ) (m : Machine) (ds : List Declaration) → count_by (is_from_symbol v) (flat_map (buffer_symbol trees number m) ds) ≡ count_by (is_from_in v) (flat_map (λ (d : Declaration). listed (buffer_in trees m d)) ds)
 all_alike trees number v m [] = refl
@@ -131,17 +135,13 @@ all_alike trees number v m (d ∷ ds) =
 
 no_wrong_networks : (trees : List Tree) → IsAccepted trees → wrong_networks trees ≡ []
 no_wrong_networks trees h =
-    left_none (wrong_networks trees) (missing_machine trees ++ missing_parts trees)
-    (right_none (wrong_state_functions trees) (wrong_networks trees ++ missing_machine trees ++ missing_parts trees)
-    (right_none (shared_pairs trees) (wrong_state_functions trees ++ wrong_networks trees ++ missing_machine trees ++ missing_parts trees)
-    (right_none (reading_changes trees) (shared_pairs trees ++ wrong_state_functions trees ++ wrong_networks trees ++ missing_machine trees ++ missing_parts trees)
-    (right_none (large_bodies trees) (reading_changes trees ++ shared_pairs trees ++ wrong_state_functions trees ++ wrong_networks trees ++ missing_machine trees ++ missing_parts trees)
-    (right_none (call_circles trees) (large_bodies trees ++ reading_changes trees ++ shared_pairs trees ++ wrong_state_functions trees ++ wrong_networks trees ++ missing_machine trees ++ missing_parts trees) h.of_machines)))))
+    right_none (call_circles trees ++ large_bodies trees ++ reading_changes trees ++ shared_pairs trees ++ wrong_state_functions trees) (wrong_networks trees)
+    (left_none (call_circles trees ++ large_bodies trees ++ reading_changes trees ++ shared_pairs trees ++ wrong_state_functions trees ++ wrong_networks trees) (missing_machine trees)
+    (left_none (call_circles trees ++ large_bodies trees ++ reading_changes trees ++ shared_pairs trees ++ wrong_state_functions trees ++ wrong_networks trees ++ missing_machine trees) (missing_parts trees) h.of_machines))
 
 none_doubled : (trees : List Tree) → IsAccepted trees → in_each (doubled_in trees) trees ≡ []
 none_doubled trees h =
-    right_none (in_each (wrong_ports_in trees) trees) (in_each (doubled_in trees) trees)
-    (right_none (differing_after [] (all_ports trees)) (in_each (wrong_ports_in trees) trees ++ in_each (doubled_in trees) trees) (no_wrong_networks trees h))
+    right_none (differing_after [] (all_ports trees) ++ in_each (wrong_ports_in trees) trees) (in_each (doubled_in trees) trees) (no_wrong_networks trees h)
 
 machine_receives : (trees : List Tree) (k : ℕ) (m : Machine) → IsAccepted trees → slice_get (machines_of trees) k ≡ Some m → ReceivesOnce (machine_symbols trees k m)
 unfolding machine_symbols

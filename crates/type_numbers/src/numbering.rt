@@ -151,7 +151,7 @@ fn types_of_sort<'a>(
 
 /// The types of the protocol of these scopes.
 pub fn number_types<'a>(alloc: Global, scopes: Scopes<'a>) -> Result<TypeNumbers<'a>, NoMemory>
-    ensures trees { IfOk result (λ types. trees_of types ≡ scopes.trees.now) }
+    ensures trees { IfOk result (λ types. trees_of types ≡ scopes.entry.trees.now) }
     ensures numbered { IfOk result (λ types. AreNumbered types) }
 {
     let enumerations = types_of_sort(alloc, &scopes, TypeSort::Enumeration)?;
