@@ -1,20 +1,25 @@
 -- The controller of a store fits its machine after what happens to it before the calls.
 use Rattle.std.proofs.Common.{◌≡◌, ◌≢◌, ℕ, Option, Some, List, [], Result, Ok, Err, OnOk, OnErr, refl, sym, subst, ap, ◌∙◌, All}
 use Rattle.std.proofs.lemmas.List.Elements.{All-nil}
+use Rattle.ruby_value.specs.declared.asked.Asked.{Asked}
 use Rattle.ruby_value.specs.declared.message.Message.{Message}
 use Rattle.ruby_value.specs.declared.message.MsgNo.{MsgNo}
 use Rattle.ruby_value.specs.declared.setup.MachineSetup.{MachineSetup}
+use Rattle.ruby_value.specs.Requests.{IsRequest, Requests, with_request}
+use Rattle.ruby_value.specs.Roomy.{Roomy}
+use Rattle.ctl_face.specs.Between as between
 use Rattle.ctl_face.specs.Between.{with_arrival}
 use Rattle.ctl_face.specs.Ctl.{Ctl, InboxMessage}
 use Rattle.ctl_face.specs.Fits.{Fits}
 use Rattle.ctl_face.specs.IsMachine.{IsMachine}
 use Rattle.ctl_face.specs.OfMachine.{TakesFields}
 use Rattle.ctl_face.specs.Opening.{opening_ctl}
-use Rattle.ctl_face.proofs.Betweens.{arrival_keeps}
+use Rattle.ctl_face.proofs.Betweens.{arrival_keeps, request_keeps}
 use Rattle.ctl_face.proofs.Opened.{opening_fits}
 use Rattle.ctl_mail.specs.MailOf.{IsNewIn}
 use Rattle.ctl_store.specs.declared.parts.Parts.{Parts}
-use Rattle.ctl_store.specs.Kept.{ctl_of, machine_of, me_of}
+use Rattle.ctl_store.specs.Kept.{ctl_of, machine_of, me_of, requests_of}
+use Rattle.ctl_store.specs.Lending.{with_sequencer}
 use Rattle.ctl_store.specs.Room.{IsSameStore}
 use Rattle.call_rows.specs.Begun.{FitsIn}
 
@@ -40,3 +45,15 @@ module _ (p q r : Parts) (m : Message) (same : ctl_of q ≡ ctl_of p) (first : I
       fits_as p r now (with_arrival (ctl_of p) m) (record { machine = then.machine ∙ first.machine; me = then.me ∙ first.me })
       (after ∙ ap (λ (c : Ctl). with_arrival c m) same)
       (arrival_keeps (machine_of p) (me_of p) now (ctl_of p) m takes other fits)
+
+-- a request that was issued in the sequencer that a store lends, or refused there
+module _ (p : Parts) (now : ℕ) (asked : Asked) (lent left : Roomy Requests) (there : requests_of (Some lent) ≡ (ctl_of p).sequencer) (request : IsRequest asked) (fits : FitsIn p now) where
+  abbrev FitsWith : Option Requests → Type 0
+  FitsWith o = Fits (machine_of p) (me_of p) (record (ctl_of p) { sequencer = o }) now
+
+  pub issued_fits : {A E : Type 0} (r : Result A E) → OnOk r (left.kept ≡ with_request lent.kept asked) → OnErr r (left.kept ≡ lent.kept) → FitsIn (with_sequencer p left) now
+  issued_fits (Ok a) is refused =
+      let same : Some left.kept ≡ (between.with_request (ctl_of p) asked).sequencer =
+      ap (λ (r : Requests). Some r) is ∙ ap (λ (o : Option Requests). (between.with_request (record (ctl_of p) { sequencer = o }) asked).sequencer) there
+      in subst FitsWith (sym same) (request_keeps (machine_of p) (me_of p) now (ctl_of p) asked request fits)
+  issued_fits (Err e) ok same = subst FitsWith (sym (ap (λ (r : Requests). Some r) same ∙ there)) fits

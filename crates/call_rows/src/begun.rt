@@ -1,6 +1,6 @@
 // The store of the controller: a message in its queue, and requests outstanding.
 ghost use Rattle.std.specs.Prelude.{◌≡◌, ◌↔◌, [], IfOk, IsTrue};
-ghost use Rattle.ctl_face.specs.Fits.{IsRequest};
+ghost use Rattle.ruby_value.specs.Requests.{IsRequest};
 ghost use Rattle.ctl_face.specs.IsMachine.{IsMachine};
 ghost use Rattle.ctl_face.specs.OfMachine.{TakesFields};
 ghost use Rattle.ctl_store.specs.Kept.{ctl_of};
