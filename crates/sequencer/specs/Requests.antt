@@ -3,7 +3,7 @@
 use Rattle.std.specs.Prelude.{◌≡◌, ◌+◌, ◌≤◌, ◌<◌, ◌^◌, ℕ, Option, None, Some, IfSome, List, [], ◌∷◌, ◌++◌, nat_le, nat_lt, refl}
 use Rattle.std.specs.Coded.{Coded, code_by, coded×, coded_ℕ, coded_list}
 use Rattle.std.specs.FinMap as map
-use Rattle.std.specs.List.{All, filter}
+use Rattle.std.specs.List.{All, AllPairs, filter}
 use Rattle.std.specs.Ordering.{nat_cmp}
 use Rattle.ruby_value.specs.declared.asked.Answer.{Answer}
 use Rattle.ruby_value.specs.declared.asked.Asked.{Asked}
@@ -38,10 +38,12 @@ no_requests = record { outstanding = map.empty; finished = [] }
 abbrev pub request_for : Requests → ℕ → Option Asked
 request_for r line = map.get r.outstanding line
 
--- what always holds of a sequencer's requests: each is under its line, and it and each answer asks for bytes of one line
+-- what always holds of a sequencer's requests: each is under its line, it and each answer asks for bytes of one line, and the
+-- answers ascend by line
 pub record FitsRequests (r : Requests) : Type 0 where
   pub outstanding : (line : ℕ) → IfSome (request_for r line) (λ (a : Asked). (a.line ≡ line) × IsRequest a)
   pub finished : All (λ (a : Answer). IsRequest a.asked) r.finished
+  pub finished_ascend : AllPairs (λ (a b : Answer). a.asked.line ≤ b.asked.line) r.finished
 
 -- a request of a line that has none outstanding goes under its line
 abbrev pub with_request : Requests → Asked → Requests
