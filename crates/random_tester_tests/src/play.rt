@@ -1,0 +1,89 @@
+// A run of the tester.
+ghost use Rattle.std.specs.Prelude.{◌≤◌, ◌^◌, length, vec_len, IfOk};
+
+use crate::lines::{write_finding, write_head};
+use crate::memory::{Script, answer_seat};
+use crate::seats::turn;
+use random_tester::Tester;
+use ruby_base::{NoMemory, Text};
+use sequencer::{Block, Sequencer};
+use std::alloc::Global;
+
+/// What a run is over: the tester's seed, how many seats there are, how a memory answers, how many checks have to pass and after
+/// how many cycles a request is a deadlock.
+#[derive(Clone, Copy)]
+pub(crate) struct Run {
+    pub(crate) seed: u64,
+    pub(crate) seats: u8,
+    pub(crate) script: Script,
+    pub(crate) checks: u64,
+    pub(crate) deadlock: u64,
+}
+
+const LINES: u64 = 4;
+
+// A run ends with so many requests, if nothing is found before, and at the latest in this cycle.
+const REQUESTS: usize = 40;
+
+const LAST_CYCLE: u64 = 10_000;
+
+// One to three sequencers.
+fn sequencers(alloc: Global, seats: u8) -> Result<Vec<Sequencer>, NoMemory>
+    ensures some { IfOk result (λ all. 1 ≤ vec_len all) }
+    ensures few { IfOk result (λ all. vec_len all ≤ 3) }
+{
+    let mut all = Vec::new(alloc);
+    for _ in 0..seats.clamp(1, 3) {
+        all.push(Sequencer::new(alloc))?;
+    }
+    Ok(all)
+}
+
+// Answers what is due at each sequencer.
+fn answer_all(script: Script, now: u64, memory: &mut [Block], sequencers: &mut [Sequencer]) {
+    for (seat, sequencer) in sequencers.iter_mut().enumerate() {
+        answer_seat(script, now, seat as u32, memory, sequencer);
+    }
+}
+
+// The cycles of a run.
+fn write_cycles(
+    alloc: Global,
+    script: Script,
+    tester: &mut Tester,
+    sequencers: &mut [Sequencer],
+    text: &mut Text,
+) -> Result<(), NoMemory>
+    requires some { 1 ≤ length sequencers.old }
+    requires few { length sequencers.old ≤ 3 }
+{
+    let mut memory = [Block { bytes: [0; 64] }; LINES as usize];
+    let mut issued: usize = 0;
+    for now in 0..LAST_CYCLE {
+        answer_all(script, now, &mut memory, sequencers);
+        let turned = turn(alloc, now, tester, sequencers, text)?;
+        if let Some(finding) = turned.end.finding {
+            return write_finding(alloc, now, &finding, text);
+        }
+        issued = issued.saturating_add(turned.issued);
+        if issued >= REQUESTS {
+            return Ok(());
+        }
+    }
+    Ok(())
+}
+
+/// Makes a run and writes its lines.
+pub(crate) fn write_run(alloc: Global, run: &Run, text: &mut Text) -> Result<(), NoMemory> {
+    write_head(alloc, run, text)?;
+    let stream = 2 * u64::from(run.seats);
+    let mut tester = Tester::new(alloc, run.seed, stream, LINES, run.checks, run.deadlock)?;
+    let mut sequencers = sequencers(alloc, run.seats)?;
+    write_cycles(
+        alloc,
+        run.script,
+        &mut tester,
+        sequencers.as_mut_slice(),
+        text,
+    )
+}
