@@ -1,5 +1,5 @@
 // A run of the tester.
-ghost use Rattle.std.specs.Prelude.{◌≤◌, ◌^◌, length, vec_len, IfOk};
+ghost use Rattle.std.specs.Prelude.{◌≤◌, length};
 
 use crate::lines::{write_finding, write_head};
 use crate::memory::{Script, answer_seat};
@@ -27,20 +27,10 @@ const REQUESTS: usize = 40;
 
 const LAST_CYCLE: u64 = 10_000;
 
-// One to three sequencers.
-fn sequencers(alloc: Global, seats: u8) -> Result<Vec<Sequencer>, NoMemory>
-    ensures some { IfOk result (λ all. 1 ≤ vec_len all) }
-    ensures few { IfOk result (λ all. vec_len all ≤ 3) }
-{
-    let mut all = Vec::new(alloc);
-    for _ in 0..seats.clamp(1, 3) {
-        all.push(Sequencer::new(alloc))?;
-    }
-    Ok(all)
-}
-
 // Answers what is due at each sequencer.
-fn answer_all(script: Script, now: u64, memory: &mut [Block], sequencers: &mut [Sequencer]) {
+fn answer_all(script: Script, now: u64, memory: &mut [Block], sequencers: &mut [Sequencer])
+    requires { length sequencers.old ≤ 3 }
+{
     for (seat, sequencer) in sequencers.iter_mut().enumerate() {
         answer_seat(script, now, seat as u32, memory, sequencer);
     }
@@ -78,12 +68,17 @@ pub(crate) fn write_run(alloc: Global, run: &Run, text: &mut Text) -> Result<(),
     write_head(alloc, run, text)?;
     let stream = 2 * u64::from(run.seats);
     let mut tester = Tester::new(alloc, run.seed, stream, LINES, run.checks, run.deadlock)?;
-    let mut sequencers = sequencers(alloc, run.seats)?;
+    let mut sequencers = [
+        Sequencer::new(alloc),
+        Sequencer::new(alloc),
+        Sequencer::new(alloc),
+    ];
+    let seats = usize::from(run.seats.clamp(1, 3));
     write_cycles(
         alloc,
         run.script,
         &mut tester,
-        sequencers.as_mut_slice(),
+        &mut sequencers[..seats],
         text,
     )
 }
