@@ -76,8 +76,7 @@ impl OwnedSeats {
         each_fits(&self.seats);
     }
 
-    /// For how many more requests there is room: as many as the greatest number that was reserved, less one for each request that
-    /// was issued since.
+    /// For how many more requests there is room. A turn for which room was made issues no more.
     pub fn room(&self) -> usize
         ensures { result ≡ self.now.room }
     {

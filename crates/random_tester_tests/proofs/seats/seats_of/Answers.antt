@@ -1,4 +1,4 @@
-use Rattle.std.proofs.Common.{◌≡◌, ◌+◌, ◌*◌, ◌++◌, ◌∙◌, List, [], ◌∷◌, Some, ap, arith, subst, sym}
+use Rattle.std.proofs.Common.{◌≡◌, ◌+◌, ◌*◌, ◌++◌, ◌∙◌, [], ◌∷◌, Some, ap, arith, subst, sym}
 use Rattle.std.specs.List.{AllPairs}
 use Rattle.sequencer.specs.declared.owned_seat.OwnedSeat.{OwnedSeat}
 use Rattle.sequencer.specs.OwnedSeats.{seats_of}
