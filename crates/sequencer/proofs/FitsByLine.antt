@@ -16,7 +16,7 @@ use Rattle.ruby_value.specs.declared.asked.Asked.{Asked}
 use Rattle.ruby_value.proofs.Ordered.{AllPairs-nil}
 use Rattle.sequencer.specs.Kept.{AreRequests, ComesBefore}
 use Rattle.sequencer.specs.Reads.{by_line}
-use Rattle.sequencer.specs.Requests.{FitsRequests, IsRequest, Requests}
+use Rattle.ruby_value.specs.Requests.{FitsRequests, IsRequest, Requests}
 
 abbrev FitsAt : ℕ → Asked → Type 0
 FitsAt line a = (a.line ≡ line) × IsRequest a

@@ -8,7 +8,7 @@ use Rattle.std.specs.FinMap as finite
 use Rattle.ruby_value.specs.declared.asked.Asked.{Asked}
 use Rattle.ruby_value.proofs.Entries.{get_entries}
 use Rattle.sequencer.specs.Outstanding.{entry_of, outstanding_of}
-use Rattle.sequencer.specs.Requests.{IsRequest}
+use Rattle.ruby_value.specs.Requests.{IsRequest}
 
 abbrev FitsAt : ℕ → Asked → Type 0
 FitsAt line a = (a.line ≡ line) × IsRequest a

@@ -8,7 +8,7 @@ use Rattle.std.specs.List.{All, slice_get}
 use Rattle.ruby_value.specs.Roomy.{Roomy}
 use Rattle.sequencer.specs.declared.owned_seat.OwnedSeat.{OwnedSeat}
 use Rattle.sequencer.specs.OwnedSeats.{AreOwned, HasRoom, seat_of, seats_of}
-use Rattle.sequencer.specs.Requests.{Requests}
+use Rattle.ruby_value.specs.Requests.{Requests}
 use Rattle.sequencer.specs.Seats.{changed_at, changed_seat}
 use Rattle.sequencer.proofs.SeatsAfter.{apart-by, controllers}
 

@@ -16,12 +16,12 @@ mod uses;
 
 pub use callbacks::Callbacks;
 pub use driver::{Driver, DriverEnd};
-pub use fault::{BackFault, CallbackFault, IssueFault};
+pub use fault::{CallbackFault, IssueFault};
 pub use issued::Issued;
 pub use owned_seat::OwnedSeat;
 pub use owned_seats::OwnedSeats;
 pub use plain_driver::PlainDriver;
 pub use ruby_base::NoMemory;
-pub use ruby_value::{Answer, Ask, Asked, Block, Finding};
+pub use ruby_value::{Answer, Ask, Asked, BackFault, Block, Finding};
 pub use seats::Seats;
 pub use sequencer::Sequencer;

@@ -1,5 +1,5 @@
 use Rattle.std.proofs.Common.{ap, arith}
-use Rattle.sequencer.specs.Requests.{without_first_answer}
+use Rattle.ruby_value.specs.Requests.{without_first_answer}
 use Rattle.sequencer.specs.Seats.{Seat}
 use Rattle.sequencer.proofs.Owned.{seat-at, seat-changed, still-owned, within-seats}
 use Rattle.sequencer.proofs.owned_seats.OwnedSeatsSeats.take_done.Goals as goal
