@@ -32,15 +32,18 @@ abbrev pub sequencer_named : Option (List ℕ) → List ℕ → Option Named
 sequencer_named None text = None
 sequencer_named (Some name) text = cond (bytes_eq name text) (Some Sequencer) None
 
--- what stands where an expression, a receiver or a port is named
+abbrev pub port_or_sequencer : MachineSymbols → List ℕ → Option Named
+port_or_sequencer m text =
+    option_or (option_map InPort (port_named m.in_ports text))
+    (option_or (option_map OutPort (port_named m.out_ports text)) (sequencer_named m.sequencer text))
+
+-- what stands where a value, a receiver or a port is named
 abbrev pub stands_for : MachineSymbols → List ℕ → Option Named
 stands_for m text =
     option_or (option_map Table (table_named m text))
     (option_or (option_map Value (field_named m.values text))
     (option_or (option_map Reference (field_named m.references text))
-    (option_or (option_map Buffer (buffer_named m text))
-    (option_or (option_map InPort (port_named m.in_ports text))
-    (option_or (option_map OutPort (port_named m.out_ports text)) (sequencer_named m.sequencer text))))))
+    (option_or (option_map Buffer (buffer_named m text)) (port_or_sequencer m text))))
 
 -- what is called by this name
 abbrev pub function_named : MachineSymbols → List ℕ → Option ℕ

@@ -1,9 +1,18 @@
 //! What a name stands for.
-ghost use Rattle.std.specs.Prelude.{◌≡◌};
-ghost use Rattle.std.specs.Option.{option_map};
-ghost use Rattle.ruby_symbols.specs.Names.{action_named, buffer_named, carries_requests, function_named, has_port_on, is_mandatory, machine_named, mandatory, port_named, sequencer_named, stands_for, table_named, takes_requests};
+ghost use Rattle.std.specs.Prelude.{◌≡◌, ◌&&◌, position};
+ghost use Rattle.std.specs.List.{list_any};
+ghost use Rattle.std.specs.Str.{bytes_eq};
+ghost use Rattle.ruby_symbols.specs.declared.machine.ActionSymbol.{ActionSymbol as ActionRecord};
+ghost use Rattle.ruby_symbols.specs.declared.machine.BufferSymbol.{BufferSymbol as BufferRecord};
+ghost use Rattle.ruby_symbols.specs.declared.machine.FunctionSymbol.{FunctionSymbol as FunctionRecord};
+ghost use Rattle.ruby_symbols.specs.declared.machine.MachineSymbols.{MachineSymbols as MachineRecord};
+ghost use Rattle.ruby_symbols.specs.declared.machine.PortSymbol.{PortSymbol as PortRecord};
+ghost use Rattle.ruby_symbols.specs.declared.machine.TableSymbol.{TableSymbol as TableRecord};
+ghost use Rattle.ruby_symbols.specs.Names.{action_named, buffer_named, carries_requests, function_named, has_port_on, is_mandatory, is_on, machine_named, mandatory, port_named, port_or_sequencer, sequencer_named, stands_for, table_named, takes_requests};
 
-use crate::machine::{BufferSymbol, MachineSymbols, PortSymbol};
+use crate::machine::{
+    ActionSymbol, BufferSymbol, FunctionSymbol, MachineSymbols, PortSymbol, TableSymbol,
+};
 use crate::numbers::{is_number, short_number};
 use crate::symbols::Symbols;
 use crate::types::{field_named, request};
@@ -22,23 +31,41 @@ pub enum Named {
     Sequencer,
 }
 
+fn table_place(tables: &[TableSymbol], name: &[u8]) -> Option<usize>
+    ensures { result ≡ position (λ (t : TableRecord). bytes_eq t.name name.now) tables.now }
+{
+    tables.iter().position(|t| t.name.as_slice() == name)
+}
+
 fn table_named(m: &MachineSymbols, name: &[u8]) -> Option<u16>
     ensures { result ≡ table_named m.now name.now }
 {
-    short_number(m.tables.iter().position(|t| t.name.as_slice() == name))
+    short_number(table_place(&m.tables, name))
+}
+
+fn buffer_place(buffers: &[BufferSymbol], name: &[u8]) -> Option<usize>
+    ensures { result ≡ position (λ (b : BufferRecord). bytes_eq b.name name.now) buffers.now }
+{
+    buffers.iter().position(|b| b.name.as_slice() == name)
 }
 
 /// The number of a machine's buffer of this name.
 pub fn buffer_named(m: &MachineSymbols, name: &[u8]) -> Option<u16>
     ensures { result ≡ buffer_named m.now name.now }
 {
-    short_number(m.buffers.iter().position(|b| b.name.as_slice() == name))
+    short_number(buffer_place(&m.buffers, name))
+}
+
+fn port_place(ports: &[PortSymbol], name: &[u8]) -> Option<usize>
+    ensures { result ≡ position (λ (p : PortRecord). bytes_eq p.name name.now) ports.now }
+{
+    ports.iter().position(|p| p.name.as_slice() == name)
 }
 
 fn port_named(ports: &[PortSymbol], name: &[u8]) -> Option<u16>
     ensures { result ≡ port_named ports.now name.now }
 {
-    short_number(ports.iter().position(|p| p.name.as_slice() == name))
+    short_number(port_place(ports, name))
 }
 
 fn sequencer_named(sequencer: &Option<Text>, name: &[u8]) -> Option<Named>
@@ -54,6 +81,18 @@ fn sequencer_named(sequencer: &Option<Text>, name: &[u8]) -> Option<Named>
             }
         }
     }
+}
+
+fn port_or_sequencer(m: &MachineSymbols, name: &[u8]) -> Option<Named>
+    ensures { result ≡ port_or_sequencer m.now name.now }
+{
+    if let Some(number) = port_named(&m.in_ports, name) {
+        return Some(Named::InPort(number));
+    }
+    if let Some(number) = port_named(&m.out_ports, name) {
+        return Some(Named::OutPort(number));
+    }
+    sequencer_named(&m.sequencer, name)
 }
 
 /// What the name of a value, a receiver or a port stands for in a machine, where it is declared there.
@@ -72,39 +111,46 @@ pub fn stands_for(m: &MachineSymbols, name: &[u8]) -> Option<Named>
     if let Some(number) = buffer_named(m, name) {
         return Some(Named::Buffer(number));
     }
-    if let Some(number) = port_named(&m.in_ports, name) {
-        return Some(Named::InPort(number));
-    }
-    if let Some(number) = port_named(&m.out_ports, name) {
-        return Some(Named::OutPort(number));
-    }
-    sequencer_named(&m.sequencer, name)
+    port_or_sequencer(m, name)
+}
+
+fn function_place(functions: &[FunctionSymbol], name: &[u8]) -> Option<usize>
+    ensures { result ≡ position (λ (f : FunctionRecord). bytes_eq f.name name.now) functions.now }
+{
+    functions.iter().position(|f| f.name.as_slice() == name)
 }
 
 /// The number of a machine's function of this name, which has a body.
 pub fn function_named(m: &MachineSymbols, name: &[u8]) -> Option<u16>
     ensures { result ≡ function_named m.now name.now }
 {
-    short_number(m.functions.iter().position(|f| f.name.as_slice() == name))
+    short_number(function_place(&m.functions, name))
+}
+
+fn action_place(actions: &[ActionSymbol], name: &[u8]) -> Option<usize>
+    ensures { result ≡ position (λ (a : ActionRecord). bytes_eq a.name name.now) actions.now }
+{
+    actions.iter().position(|a| a.name.as_slice() == name)
 }
 
 /// The number of a machine's action of this name.
 pub fn action_named(m: &MachineSymbols, name: &[u8]) -> Option<u16>
     ensures { result ≡ action_named m.now name.now }
 {
-    short_number(m.actions.iter().position(|a| a.name.as_slice() == name))
+    short_number(action_place(&m.actions, name))
+}
+
+fn machine_place(machines: &[MachineSymbols], name: &[u8]) -> Option<usize>
+    ensures { result ≡ position (λ (m : MachineRecord). bytes_eq m.name name.now) machines.now }
+{
+    machines.iter().position(|m| m.name.as_slice() == name)
 }
 
 /// The number of a protocol's machine of this name.
 pub fn machine_named(symbols: &Symbols, name: &[u8]) -> Option<u16>
     ensures { result ≡ machine_named symbols.now name.now }
 {
-    short_number(
-        symbols
-            .machines
-            .iter()
-            .position(|m| m.name.as_slice() == name),
-    )
+    short_number(machine_place(&symbols.machines, name))
 }
 
 fn is_mandatory(b: &BufferSymbol) -> bool
@@ -113,11 +159,17 @@ fn is_mandatory(b: &BufferSymbol) -> bool
     matches!(b.place, BufferPlace::Local) && b.name.as_slice() == b"mandatoryQueue".as_slice()
 }
 
+fn mandatory_place(buffers: &[BufferSymbol]) -> Option<usize>
+    ensures { result ≡ position is_mandatory buffers.now }
+{
+    buffers.iter().position(|b| is_mandatory(b))
+}
+
 /// The number of the machine's own buffer `mandatoryQueue`, through which a driver asks: not of one that is on a network.
 pub fn mandatory(m: &MachineSymbols) -> Option<u16>
     ensures { result ≡ mandatory m.now }
 {
-    short_number(m.buffers.iter().position(is_mandatory))
+    short_number(mandatory_place(&m.buffers))
 }
 
 fn carries_requests(symbols: &Symbols, b: &BufferSymbol) -> bool
@@ -126,25 +178,32 @@ fn carries_requests(symbols: &Symbols, b: &BufferSymbol) -> bool
     is_number(request(symbols), b.message)
 }
 
+fn is_any_on(ports: &[PortSymbol], buffer: u16) -> bool
+    ensures { result ≡ list_any (is_on buffer) ports.now }
+{
+    ports.iter().any(|p| p.buffer == buffer)
+}
+
 fn has_port_on(m: &MachineSymbols, buffer: Option<u16>) -> bool
     ensures { result ≡ has_port_on m.now buffer }
 {
     match buffer {
         None => false,
-        Some(number) => {
-            m.in_ports.iter().any(|p| p.buffer == number)
-                || m.out_ports.iter().any(|p| p.buffer == number)
-        }
+        Some(number) => is_any_on(&m.in_ports, number) || is_any_on(&m.out_ports, number),
     }
+}
+
+fn request_queue(symbols: &Symbols, buffers: &[BufferSymbol]) -> Option<usize>
+    ensures { result ≡ position (λ (b : BufferRecord). is_mandatory b && carries_requests symbols.now b) buffers.now }
+{
+    buffers
+        .iter()
+        .position(|b| is_mandatory(b) && carries_requests(symbols, b))
 }
 
 /// Whether a port of type `RubyRequest` is on the machine's own buffer `mandatoryQueue`.
 pub fn takes_requests(symbols: &Symbols, m: &MachineSymbols) -> bool
     ensures { result ≡ takes_requests symbols.now m.now }
 {
-    let queue = m
-        .buffers
-        .iter()
-        .position(|b| is_mandatory(b) && carries_requests(symbols, b));
-    has_port_on(m, short_number(queue))
+    has_port_on(m, short_number(request_queue(symbols, &m.buffers)))
 }

@@ -1,5 +1,9 @@
 //! Types, and what their names stand for.
-ghost use Rattle.std.specs.Prelude.{◌≡◌};
+ghost use Rattle.std.specs.Prelude.{◌≡◌, ◌&&◌, position};
+ghost use Rattle.std.specs.Str.{bytes_eq};
+ghost use Rattle.ruby_symbols.specs.declared.types.EnumerationSymbol.{EnumerationSymbol as EnumerationRecord};
+ghost use Rattle.ruby_symbols.specs.declared.types.FieldSymbol.{FieldSymbol as FieldRecord};
+ghost use Rattle.ruby_symbols.specs.declared.types.StructureSymbol.{StructureSymbol as StructureRecord};
 ghost use Rattle.ruby_symbols.specs.Types.{enumeration_named, enumeration_of, field_named, is_owner, member_named, request, structure_named, structure_of};
 
 use crate::numbers::short_number;
@@ -47,23 +51,35 @@ fn is_owner(machine: Option<u16>, owner: Option<u16>) -> bool
     }
 }
 
+fn enumeration_place(
+    enumerations: &[EnumerationSymbol],
+    owner: Option<u16>,
+    name: &[u8],
+) -> Option<usize>
+    ensures { result ≡ position (λ (e : EnumerationRecord). is_owner e.machine owner && bytes_eq e.name name.now) enumerations.now }
+{
+    enumerations.iter().position(|e| is_owner(e.machine, owner) && e.name.as_slice() == name)
+}
+
+fn structure_place(structures: &[StructureSymbol], owner: Option<u16>, name: &[u8]) -> Option<usize>
+    ensures { result ≡ position (λ (s : StructureRecord). is_owner s.machine owner && bytes_eq s.name name.now) structures.now }
+{
+    structures.iter().position(|s| is_owner(s.machine, owner) && s.name.as_slice() == name)
+}
+
 /// The number of the enumeration of this name that the machine of this number declares, or, of no machine, that is declared
 /// right in the protocol or built in.
 pub fn enumeration_of(symbols: &Symbols, owner: Option<u16>, name: &[u8]) -> Option<u16>
     ensures { result ≡ enumeration_of symbols.now owner name.now }
 {
-    let place = symbols.enumerations.iter().position(|e| is_owner(e.machine, owner)
-        && e.name.as_slice() == name);
-    short_number(place)
+    short_number(enumeration_place(&symbols.enumerations, owner, name))
 }
 
 /// The same for structures.
 pub fn structure_of(symbols: &Symbols, owner: Option<u16>, name: &[u8]) -> Option<u16>
     ensures { result ≡ structure_of symbols.now owner name.now }
 {
-    let place = symbols.structures.iter().position(|s| is_owner(s.machine, owner)
-        && s.name.as_slice() == name);
-    short_number(place)
+    short_number(structure_place(&symbols.structures, owner, name))
 }
 
 /// The number of the enumeration that a name stands for in the machine of this number.
@@ -93,20 +109,28 @@ pub fn request(symbols: &Symbols) -> Option<u16>
     structure_of(symbols, None, b"RubyRequest")
 }
 
+fn member_place(members: &[Text], name: &[u8]) -> Option<usize>
+    ensures { result ≡ position (λ member. bytes_eq member name.now) members.now }
+{
+    members.iter().position(|member| member.as_slice() == name)
+}
+
 /// The number of an enumeration's member of this name.
 pub fn member_named(e: &EnumerationSymbol, name: &[u8]) -> Option<u16>
     ensures { result ≡ member_named e.now name.now }
 {
-    short_number(
-        e.members
-            .iter()
-            .position(|member| member.as_slice() == name),
-    )
+    short_number(member_place(&e.members, name))
+}
+
+fn field_place(fields: &[FieldSymbol], name: &[u8]) -> Option<usize>
+    ensures { result ≡ position (λ (f : FieldRecord). bytes_eq f.name name.now) fields.now }
+{
+    fields.iter().position(|f| f.name.as_slice() == name)
 }
 
 /// The number of the field of this name, of a structure's fields or of a machine's values or references.
 pub fn field_named(fields: &[FieldSymbol], name: &[u8]) -> Option<u16>
     ensures { result ≡ field_named fields.now name.now }
 {
-    short_number(fields.iter().position(|f| f.name.as_slice() == name))
+    short_number(field_place(fields, name))
 }

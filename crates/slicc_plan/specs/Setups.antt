@@ -1,10 +1,8 @@
--- What a machine of a protocol is to its controllers, by its number and the sizes that a topology sets. Its tables are its
--- caches, directories and TBE tables, and its buffers those of type `MessageBuffer`, each numbered from 0 in the order of the
--- text; after its tables comes that of its parameters. Without a size that is set a cache has 64 sets of 4 ways and a TBE table
--- the entries that its declaration writes, else 16. A parameter without a literal is 1 where it is of type `Cycles`.
+-- What a machine of a protocol is to its controllers, by its number and the sizes that a topology sets. After its tables of
+-- lines comes that of its values, its parameters and objects, and its buffers are those of type `MessageBuffer`, numbered from 0
+-- in the order of the text. Without a size that is set a cache has 64 sets of 4 ways.
 use Rattle.std.specs.Prelude.{ℕ, ◌≡◌, ◌≤◌, ◌*◌, ◌+◌, ◌==◌, All, IfSome, length, Bool, true, false, cond, ℤ, pos, neg_ℤ, Option, None, Some, List, [], ◌∷◌, ◌++◌, filter_map, find, flat_map, is_none, map, slice_get, unwrap_or, codes}
 use Rattle.std.specs.Option.{option_map}
-use Rattle.std.specs.Str.{bytes_eq}
 use Rattle.ruby_value.specs.declared.kind.Kind.{Kind}
 use Rattle.ruby_value.specs.declared.kind.Kind.TheVariants as kind
 use Rattle.ruby_value.specs.declared.setup.BufferPlace.{BufferPlace}
@@ -17,50 +15,27 @@ use Rattle.ruby_value.specs.declared.setup.TableSize.{TableSize}
 use Rattle.ruby_value.specs.declared.setup.TableSize.TheVariants as size
 use Rattle.ruby_value.specs.declared.value.Value.{Value}
 use Rattle.ruby_value.specs.declared.value.Value.TheVariants as value
-use Rattle.ruby_value.specs.DefaultValue.{default_value}
+use Rattle.ruby_symbols.specs.declared.machine.TableSort.{TableSort}
+use Rattle.ruby_symbols.specs.declared.machine.TableSort.TheVariants as sort
+use Rattle.ruby_symbols.specs.declared.types.FieldSymbol.{FieldSymbol}
 use Rattle.slicc_ast.specs.declared.tree.declaration.Pairs.{Pairs}
 use Rattle.slicc_ast.specs.declared.tree.declaration.Structure.{Structure}
 use Rattle.slicc_ast.specs.declared.tree.item.Tree.{Tree}
-use Rattle.slicc_ast.specs.declared.tree.machine.Literal.{Literal}
-use Rattle.slicc_ast.specs.declared.tree.machine.Literal.TheVariants.{Number, Minus, Quoted, True}
 use Rattle.slicc_ast.specs.declared.tree.machine.Machine.{Machine}
-use Rattle.slicc_ast.specs.declared.tree.machine.Parameter.{Parameter}
-use Rattle.slicc_plan.specs.declared.built_in.BuiltInType.TheVariants.{Cycles, Cache, Directory, TbeTable}
-use Rattle.slicc_plan.specs.Attributes.{first_attribute, has_attribute}
-use Rattle.slicc_plan.specs.Buffers.{BufferIn, Place, own, to_network, from_network, attribute_number, buffer_in}
+use Rattle.slicc_plan.specs.Attributes.{has_attribute}
+use Rattle.slicc_plan.specs.Buffers.{BufferIn, Place, own, to_network, from_network, buffer_in}
 use Rattle.slicc_plan.specs.Declarations.{Declaration, parameter, object, within, machine_declarations, machines_of}
 use Rattle.slicc_plan.specs.InitialFields.{field_kinds, initial_fields, message_kinds}
 use Rattle.slicc_plan.specs.Limits.{is_states}
-use Rattle.slicc_plan.specs.Machines.{directory_structure, entry_structure, function_named, tbe_structure}
+use Rattle.slicc_plan.specs.MachineValues.{values_of}
+use Rattle.slicc_plan.specs.Machines.{function_named}
 use Rattle.slicc_plan.specs.MessageTypes.{message_type, network_type, receivers_field}
 use Rattle.slicc_plan.specs.Networks.{has_sequencer}
-use Rattle.slicc_plan.specs.TypeNumbers.{no_structure, own_default, parameters_number, plain_kind, structure_number}
-use Rattle.slicc_plan.specs.Types.{KnownType, structured, is_built_in, type_in}
+use Rattle.slicc_plan.specs.Tables.{line_structure, tables_of}
+use Rattle.slicc_plan.specs.TypeNumbers.{no_structure, own_default, parameters_number, structure_number}
+use Rattle.slicc_plan.specs.Types.{KnownType, structured}
 
 -- Tables of lines.
-
-pub data TableSort : Type 0 where
-  cache : TableSort
-  directory : TableSort
-  -- with the entries that it has where no size is set
-  tbes : ℕ → TableSort
-
-abbrev pub written_entries : Pairs → ℕ
-written_entries pairs = unwrap_or (attribute_number (first_attribute (codes "entries") pairs)) 16
-
-abbrev pub table_sort : Option KnownType → Pairs → Option TableSort
-table_sort t pairs =
-    cond (is_built_in Cache t) (Some cache)
-    (cond (is_built_in Directory t) (Some directory)
-    (cond (is_built_in TbeTable t) (Some (tbes (written_entries pairs))) None))
-
-abbrev pub table_in : List Tree → Machine → Declaration → Option TableSort
-table_in trees m (parameter p) = table_sort (type_in trees (within m) p.kind.text) p.pairs
-table_in trees m (object o) = table_sort (type_in trees (within m) o.kind.text) o.pairs
-table_in trees m _ = None
-
-abbrev pub tables_of : List Tree → Machine → List TableSort
-tables_of trees m = filter_map (table_in trees m) (machine_declarations m)
 
 abbrev pub cache_size : Option (ℕ × ℕ × ℕ) → TableSize
 cache_size None = size.Cache 64 4
@@ -79,14 +54,9 @@ HasRoom size.Parameters = Unit {0}
 
 -- of the table of this number
 abbrev pub table_size : Sizes → ℕ → TableSort → TableSize
-table_size sizes number cache = cache_size (find (λ (c : ℕ × ℕ × ℕ). c.0 == number) sizes.caches)
-table_size sizes number directory = size.Directory
-table_size sizes number (tbes written) = tbe_size written (find (λ (t : ℕ × ℕ). t.0 == number) sizes.tbes)
-
-abbrev pub line_structure : Machine → TableSort → Option Structure
-line_structure m cache = entry_structure m
-line_structure m directory = directory_structure m
-line_structure m (tbes written) = tbe_structure m
+table_size sizes number sort.Cache = cache_size (find (λ (c : ℕ × ℕ × ℕ). c.0 == number) sizes.caches)
+table_size sizes number sort.Directory = size.Directory
+table_size sizes number (sort.Tbe written) = tbe_size written (find (λ (t : ℕ × ℕ). t.0 == number) sizes.tbes)
 
 -- a machine without the structure has no lines of it, and the table no fields
 abbrev pub table_of_lines : List Tree → Machine → TableSize → Option Structure → TableSetup
@@ -113,54 +83,20 @@ tables_from trees m sizes number [] = []
 tables_from trees m sizes number (t ∷ ts) =
     table_setup trees m sizes number t ∷ tables_from trees m sizes (number + 1) ts
 
--- Parameters: those of a type whose values are no references, in the order of the text. One of another type has no field: it is
--- always a reference to nothing, since nothing is ever written to a parameter.
-
-pub record ValueParameter : Type 0 where
-  pub kind : Kind
-  -- its type is `Cycles`
-  pub counts_cycles : Bool
-  pub literal : Option Literal
-
-abbrev pub parameter_of : Parameter → Option KnownType → Option Kind → List ValueParameter
-parameter_of p t None = []
-parameter_of p t (Some k) =
-    record { kind = k; counts_cycles = is_built_in Cycles t; literal = p.literal } ∷ []
-
-abbrev pub known_parameter : List Tree → Parameter → Option KnownType → List ValueParameter
-known_parameter trees p None = []
-known_parameter trees p (Some t) = parameter_of p (Some t) (plain_kind trees t)
-
-abbrev pub value_parameters : List Tree → Machine → List ValueParameter
-value_parameters trees m =
-    flat_map (λ (p : Parameter). known_parameter trees p (type_in trees (within m) p.kind.text)) m.parameters
-
-abbrev pub literal_value : Kind → Literal → Value
-literal_value kind.Int (Number n span) = value.Int n
-literal_value kind.Int (Minus n span) = value.Int (neg_ℤ n)
-literal_value kind.Bool (True span) = value.Bool true
-literal_value kind.Bool (Quoted text span) = value.Bool (bytes_eq text (codes "True"))
-literal_value k literal = default_value k
-
-abbrev pub written_value : Kind → Bool → Option Literal → Value
-written_value k counts_cycles (Some literal) = literal_value k literal
-written_value kind.Int true None = value.Int (pos 1)
-written_value k counts_cycles None = default_value k
+-- The values of a machine, and after them the ranges of all machines.
 
 -- a topology sets numbers alone
 abbrev pub set_value : Kind → Value → Option (ℕ × ℤ) → Value
 set_value kind.Int v (Some (number, n)) = value.Int n
 set_value k v set = v
 
--- of the parameter whose field has this number
-abbrev pub parameter_value : Sizes → ℕ → ValueParameter → Value
-parameter_value sizes number p =
-    set_value p.kind (written_value p.kind p.counts_cycles p.literal)
-    (find (λ (s : ℕ × ℤ). s.0 == number) sizes.parameters)
+-- of the value whose field has this number
+abbrev pub opening_value : Sizes → ℕ → FieldSymbol → Value
+opening_value sizes number v = set_value v.kind v.initial (find (λ (s : ℕ × ℤ). s.0 == number) sizes.parameters)
 
-abbrev pub values_from : Sizes → ℕ → List ValueParameter → List Value
+abbrev pub values_from : Sizes → ℕ → List FieldSymbol → List Value
 values_from sizes number [] = []
-values_from sizes number (p ∷ ps) = parameter_value sizes number p ∷ values_from sizes (number + 1) ps
+values_from sizes number (v ∷ vs) = opening_value sizes number v ∷ values_from sizes (number + 1) vs
 
 -- for each machine its first controller's number and how many controllers it has
 abbrev pub range_values : Sizes → List Value
@@ -171,10 +107,8 @@ parameter_table trees number m sizes =
     record {
       size = size.Parameters;
       structure = parameters_number trees number;
-      kinds =
-          map (λ (p : ValueParameter). p.kind) (value_parameters trees m)
-          ++ map (λ (v : Value). kind.Int) (range_values sizes);
-      initial = values_from sizes 0 (value_parameters trees m) ++ range_values sizes;
+      kinds = map (λ (v : FieldSymbol). v.kind) (values_of trees m) ++ map (λ (v : Value). kind.Int) (range_values sizes);
+      initial = values_from sizes 0 (values_of trees m) ++ range_values sizes;
     }
 
 -- What a topology has to keep for sizes of these trees' machines: caches and TBE tables have room within the limits, and each
