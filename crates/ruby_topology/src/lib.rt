@@ -3,4 +3,11 @@
 #![tactic(auto)]
 
 mod forms;
+mod lines;
+mod members;
+mod rules;
+mod said;
+mod statement;
 mod text;
+
+pub use rules::TopoFault;
