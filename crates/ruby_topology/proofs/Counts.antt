@@ -10,8 +10,9 @@ use Rattle.ruby_topology.specs.Said.{controllers, count_in, count_of, counted}
 in_le : (s : Statement) (machine : ℕ) (rest : Option ℕ) → unwrap_or (option_or (count_in machine s) rest) 0 ≤ counted s + unwrap_or rest 0
 in_le (Machine m count) machine rest =
     elim (eqb m machine) as (λ b. unwrap_or (option_or (cond b (Some count) None) rest) 0 ≤ count + unwrap_or rest 0) [
-      true ↦ omega arith
-      | false ↦ omega arith ]
+      | true ↦ omega arith
+      | false ↦ omega arith
+    ]
 in_le _ machine rest = omega arith
 
 pub count_le : (said : List Statement) (machine : ℕ) → count_or_none said machine ≤ controllers said

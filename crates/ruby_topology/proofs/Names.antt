@@ -8,8 +8,9 @@ name_cut (x ∷ xs) tail [] inside = absurd (omega arith)
 name_cut (x ∷ xs) tail (y ∷ ys) inside =
     let rest = name_cut xs tail ys (omega arith) in
     elim (eqb x y) as (λ b. (b && bytes_eq (xs ++ tail) ys) ≡ ((b && bytes_eq xs (take (length xs) ys)) && bytes_eq tail (drop (length xs) ys))) [
-      true ↦ rest
-      | false ↦ refl ]
+      | true ↦ rest
+      | false ↦ refl
+    ]
 
 pub same_front : (name tail text front back : List ℕ) → length name ≤ length text → front ≡ take (length name) text → back ≡ drop (length name) text → bytes_eq name front ≡ true → bytes_eq tail back ≡ bytes_eq (name ++ tail) text
 same_front name tail text front back inside is_front is_back same =

@@ -16,8 +16,8 @@ found_from p a (suc n) (suc k) inside below here =
     let next : a + 1 + k ≡ a + suc k = omega arith in
     rw first
     (found_from p (a + 1) n k (omega arith)
-        (λ j lt. let n2 : a + 1 + j ≡ a + suc j = omega arith in ap p n2 ∙ below (suc j) (omega arith))
-        (ap p next ∙ here) ∙ ap Some next)
+    (λ j lt. let n2 : a + 1 + j ≡ a + suc j = omega arith in ap p n2 ∙ below (suc j) (omega arith))
+    (ap p next ∙ here) ∙ ap Some next)
 
 none_from : (p : ℕ → Bool) (a n : ℕ) → ((j : ℕ) → j < n → p (a + j) ≡ false) → find p (range_with_len a n) ≡ None
 none_from p a zero below = refl
@@ -44,8 +44,8 @@ some_from f a (suc n) (suc k) x inside below here =
     let next : a + 1 + k ≡ a + suc k = omega arith in
     ap (λ o. option_or o (first_some f (range_with_len (a + 1) n))) (sym (ap f same) ∙ below 0 (omega arith))
     ∙ some_from f (a + 1) n k x (omega arith)
-        (λ j lt. let n2 : a + 1 + j ≡ a + suc j = omega arith in ap f n2 ∙ below (suc j) (omega arith))
-        (ap f next ∙ here)
+    (λ j lt. let n2 : a + 1 + j ≡ a + suc j = omega arith in ap f n2 ∙ below (suc j) (omega arith))
+    (ap f next ∙ here)
 
 no_some_from : {A : Type 0} (f : ℕ → Option A) (a n : ℕ) → ((j : ℕ) → j < n → f (a + j) ≡ None) → first_some f (range_with_len a n) ≡ None
 no_some_from f a zero below = refl

@@ -4,3 +4,4 @@ pub mod Lines
 pub mod Members
 pub mod Said
 pub mod Text
+pub mod Within

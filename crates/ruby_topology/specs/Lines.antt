@@ -1,7 +1,7 @@
 -- What each line of a topology says, or the least of the first four rules and the sixth that it breaks. A line is judged after the
 -- lines before it, none of which breaks a rule: so a link sees the counts and the network that were said before it, nothing is said
 -- twice, and there are never more than 64 controllers. The rules are this project's own.
-use Rattle.std.specs.Prelude.{ℕ, ◌==◌, ◌+◌, ◌*◌, ◌-◌, ◌^◌, Bool, true, false, cond, nat_le, nat_lt, Option, None, Some, Result, Ok, Err, List, [], ◌∷◌, ◌++◌, length, slice_get, option_and_then}
+use Rattle.std.specs.Prelude.{ℕ, ◌==◌, ◌+◌, ◌*◌, ◌-◌, ◌^◌, Bool, true, false, cond, nat_le, nat_lt, Option, None, Some, Result, Ok, Err, pos, List, [], ◌∷◌, ◌++◌, length, slice_get, option_and_then}
 use Rattle.std.specs.Option.{option_map}
 use Rattle.ruby_value.specs.declared.kind.Kind.{Kind}
 use Rattle.ruby_value.specs.declared.kind.Kind.TheVariants.{Int}
@@ -136,7 +136,7 @@ set_line symbols words =
     needs T2_NUMBER (number_at words 3 0 0x7fff_ffff_ffff_ffff) (λ number.
     needs T3_NAME (machine_named symbols (word_at words 1)) (λ machine.
     needs T3_NAME (in_machine symbols machine (λ m. number_named m (word_at words 2))) (λ value.
-    Ok (Set machine value number))))
+    Ok (Set machine value (pos number)))))
 
 abbrev pub says_in : Symbols → List Statement → List (List ℕ) → Option Form → Says
 says_in symbols said words None = Err T1_FORM
@@ -181,8 +181,9 @@ abbrev pub read_from : Symbols → ℕ → List Statement → List (List ℕ) �
 read_from symbols number said [] = Ok said
 read_from symbols number said (line ∷ lines) =
     elim (with_line symbols said line) [
-      Ok more ↦ read_from symbols (number + 1) more lines
-      | Err rule ↦ Err (rule, number) ]
+      | Ok more ↦ read_from symbols (number + 1) more lines
+      | Err rule ↦ Err (rule, number)
+    ]
 
 abbrev pub reading : Symbols → List (List ℕ) → Reading
 reading symbols lines = read_from symbols 1 [] lines

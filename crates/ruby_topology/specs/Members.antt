@@ -10,9 +10,9 @@ use Rattle.ruby_topology.specs.declared.statement.Member.{Member}
 use Rattle.ruby_topology.specs.declared.statement.Statement.{Statement}
 use Rattle.ruby_topology.specs.Said.{count_of, first_some}
 
--- a number below 100 as digits; an index is below 64
+-- a number below 100 as digits: an index is below 64
 abbrev pub decimal : ℕ → List ℕ
-decimal n = cond (nat_lt n 10) ((48 + n) ∷ []) ((48 + n / 10) ∷ (48 + n % 10) ∷ [])
+decimal n = cond (nat_lt n 10) ((48 + n) ∷ []) ((48 + (n / 10) % 10) ∷ (48 + n % 10) ∷ [])
 
 abbrev pub controller_name : List ℕ → ℕ → List ℕ
 controller_name machine index = machine ++ (45 ∷ decimal index)

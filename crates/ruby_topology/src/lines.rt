@@ -1,10 +1,11 @@
 //! What each line says, or the rule that it breaks.
-ghost use Rattle.std.specs.Prelude.{◌≡◌, ◌≤◌, ◌+◌, IfOk, IfErr, IfSome, OnOk, length};
+ghost use Rattle.std.specs.Prelude.{◌≡◌, ◌≤◌, ◌+◌, All, IfOk, IfErr, IfSome, OnOk, length};
 ghost use Rattle.ruby_topology.specs.Faults.{ForLine};
 ghost use Rattle.ruby_topology.specs.Lines.{cache_line, cache_named, crossbar_line, in_machine, judged, jitter_line, link_line, machine_line, mesh_line, number_at, number_named, ordered_line, point_to_point_line, reading, says_in, set_line, sort_at, table_in, tbes_line, tbes_named, value_in, with_line};
 ghost use Rattle.ruby_topology.specs.Forms.{form_of};
 ghost use Rattle.ruby_topology.specs.Said.{controllers, counted};
 ghost use Rattle.ruby_topology.specs.Text.{lines_of, words_of};
+ghost use Rattle.ruby_topology.specs.Within.{IsWithin};
 
 use crate::forms::{Form, form_of};
 use crate::members::member_named;
@@ -19,13 +20,15 @@ use std::alloc::Global;
 
 fn number_at(text: &[u8], place: usize, least: u64, greatest: u64) -> Option<u64>
     ensures value { result ≡ number_at (words_of text.now) place least greatest }
-    ensures bound { IfSome result (λ n. n ≤ greatest) }
+    ensures least { IfSome result (λ n. least ≤ n) }
+    ensures greatest { IfSome result (λ n. n ≤ greatest) }
 {
     number_within((least, greatest), word_at(text, place))
 }
 
 fn machine_line(symbols: &Symbols, text: &[u8]) -> Result<Statement, u8>
-    ensures { result ≡ machine_line symbols.now (words_of text.now) }
+    ensures says { result ≡ machine_line symbols.now (words_of text.now) }
+    ensures within { IfOk result IsWithin }
 {
     let Some(count) = number_at(text, 2, 1, 64) else {
         return Err(T2_NUMBER);
@@ -33,11 +36,15 @@ fn machine_line(symbols: &Symbols, text: &[u8]) -> Result<Statement, u8>
     let Some(machine) = machine_named(symbols, word_at(text, 1)) else {
         return Err(T3_NAME);
     };
-    Ok(Statement::Machine { machine, count })
+    Ok(Statement::Machine {
+        machine,
+        count: count as u32,
+    })
 }
 
 fn point_to_point_line(text: &[u8]) -> Result<Statement, u8>
-    ensures { result ≡ point_to_point_line (words_of text.now) }
+    ensures says { result ≡ point_to_point_line (words_of text.now) }
+    ensures within { IfOk result IsWithin }
 {
     match number_at(text, 2, 0, 1000) {
         None => Err(T2_NUMBER),
@@ -46,7 +53,8 @@ fn point_to_point_line(text: &[u8]) -> Result<Statement, u8>
 }
 
 fn crossbar_line(text: &[u8]) -> Result<Statement, u8>
-    ensures { result ≡ crossbar_line (words_of text.now) }
+    ensures says { result ≡ crossbar_line (words_of text.now) }
+    ensures within { IfOk result IsWithin }
 {
     match number_at(text, 2, 0, 1000) {
         None => Err(T2_NUMBER),
@@ -55,7 +63,8 @@ fn crossbar_line(text: &[u8]) -> Result<Statement, u8>
 }
 
 fn mesh_line(text: &[u8]) -> Result<Statement, u8>
-    ensures { result ≡ mesh_line (words_of text.now) }
+    ensures says { result ≡ mesh_line (words_of text.now) }
+    ensures within { IfOk result IsWithin }
 {
     let Some(rows) = number_at(text, 2, 1, 64) else {
         return Err(T2_NUMBER);
@@ -74,8 +83,8 @@ fn mesh_line(text: &[u8]) -> Result<Statement, u8>
 }
 
 fn link_line(symbols: &Symbols, said: &[Statement], text: &[u8]) -> Result<Statement, u8>
-    requires { controllers said.now ≤ 64 }
-    ensures { result ≡ link_line symbols.now said.now (words_of text.now) }
+    ensures says { result ≡ link_line symbols.now said.now (words_of text.now) }
+    ensures within { IfOk result IsWithin }
 {
     let Some(length) = number_at(text, 3, 0, 1000) else {
         return Err(T2_NUMBER);
@@ -94,7 +103,8 @@ fn link_line(symbols: &Symbols, said: &[Statement], text: &[u8]) -> Result<State
 }
 
 fn jitter_line(text: &[u8]) -> Result<Statement, u8>
-    ensures { result ≡ jitter_line (words_of text.now) }
+    ensures says { result ≡ jitter_line (words_of text.now) }
+    ensures within { IfOk result IsWithin }
 {
     match number_at(text, 1, 0, 1000) {
         None => Err(T2_NUMBER),
@@ -103,11 +113,12 @@ fn jitter_line(text: &[u8]) -> Result<Statement, u8>
 }
 
 fn ordered_line(text: &[u8]) -> Result<Statement, u8>
-    ensures { result ≡ ordered_line (words_of text.now) }
+    ensures says { result ≡ ordered_line (words_of text.now) }
+    ensures within { IfOk result IsWithin }
 {
     match number_at(text, 1, 0, 15) {
         None => Err(T2_NUMBER),
-        Some(network) => Ok(Statement::Ordered(network)),
+        Some(network) => Ok(Statement::Ordered(network as u16)),
     }
 }
 
@@ -174,7 +185,8 @@ fn number_named(symbols: &Symbols, machine: u16, name: &[u8]) -> Option<u16>
 }
 
 fn cache_line(symbols: &Symbols, text: &[u8]) -> Result<Statement, u8>
-    ensures { result ≡ cache_line symbols.now (words_of text.now) }
+    ensures says { result ≡ cache_line symbols.now (words_of text.now) }
+    ensures within { IfOk result IsWithin }
 {
     let Some(sets) = number_at(text, 3, 1, 65536) else {
         return Err(T2_NUMBER);
@@ -194,13 +206,14 @@ fn cache_line(symbols: &Symbols, text: &[u8]) -> Result<Statement, u8>
     Ok(Statement::Cache {
         machine,
         table,
-        sets,
-        ways,
+        sets: sets as u32,
+        ways: ways as u32,
     })
 }
 
 fn tbes_line(symbols: &Symbols, text: &[u8]) -> Result<Statement, u8>
-    ensures { result ≡ tbes_line symbols.now (words_of text.now) }
+    ensures says { result ≡ tbes_line symbols.now (words_of text.now) }
+    ensures within { IfOk result IsWithin }
 {
     let Some(entries) = number_at(text, 3, 1, 256) else {
         return Err(T2_NUMBER);
@@ -214,12 +227,13 @@ fn tbes_line(symbols: &Symbols, text: &[u8]) -> Result<Statement, u8>
     Ok(Statement::Tbes {
         machine,
         table,
-        entries,
+        entries: entries as u32,
     })
 }
 
 fn set_line(symbols: &Symbols, text: &[u8]) -> Result<Statement, u8>
-    ensures { result ≡ set_line symbols.now (words_of text.now) }
+    ensures says { result ≡ set_line symbols.now (words_of text.now) }
+    ensures within { IfOk result IsWithin }
 {
     let Some(number) = number_at(text, 3, 0, 0x7fff_ffff_ffff_ffff) else {
         return Err(T2_NUMBER);
@@ -233,13 +247,13 @@ fn set_line(symbols: &Symbols, text: &[u8]) -> Result<Statement, u8>
     Ok(Statement::Set {
         machine,
         value,
-        number,
+        number: number as i64,
     })
 }
 
 fn says(symbols: &Symbols, said: &[Statement], text: &[u8]) -> Result<Statement, u8>
-    requires { controllers said.now ≤ 64 }
-    ensures { result ≡ says_in symbols.now said.now (words_of text.now) (form_of (words_of text.now)) }
+    ensures says { result ≡ says_in symbols.now said.now (words_of text.now) (form_of (words_of text.now)) }
+    ensures within { IfOk result IsWithin }
 {
     match form_of(text) {
         None => Err(T1_FORM),
@@ -261,6 +275,7 @@ fn judged(symbols: &Symbols, said: &[Statement], text: &[u8]) -> Result<Statemen
     requires { controllers said.now ≤ 64 }
     ensures says { result ≡ judged symbols.now said.now (words_of text.now) }
     ensures room { IfOk result (λ s. controllers said.now + counted s ≤ 64) }
+    ensures within { IfOk result IsWithin }
 {
     let s = match says(symbols, said, text) {
         Ok(s) => s,
@@ -282,9 +297,11 @@ fn add_line(
     line: &[u8],
     number: u32,
 ) -> Result<(), TopoFault>
-    requires { controllers said.old ≤ 64 }
+    requires room { controllers said.old ≤ 64 }
+    requires within { All IsWithin said.old }
     ensures ok { OnOk result (with_line symbols.now said.old line.now ≡ Ok said.new) }
     ensures room { OnOk result (controllers said.new ≤ 64) }
+    ensures within { OnOk result (All IsWithin said.new) }
     ensures err { IfErr result (λ fault. ForLine fault (λ rule at. (with_line symbols.now said.old line.now ≡ Err rule) × (at ≡ number))) }
 {
     let text = before_comment(line);
@@ -314,6 +331,7 @@ pub fn read_lines(alloc: Global, symbols: &Symbols, bytes: &[u8]) -> Result<Read
     ensures said { IfOk result (λ r. reading symbols.now (lines_of bytes.now) ≡ Ok r.said) }
     ensures after { IfOk result (λ r. r.after ≡ length (lines_of bytes.now) + 1) }
     ensures room { IfOk result (λ r. controllers r.said ≤ 64) }
+    ensures within { IfOk result (λ r. All IsWithin r.said) }
     ensures err { IfErr result (λ fault. ForLine fault (λ rule line. reading symbols.now (lines_of bytes.now) ≡ Err (rule, line))) }
 {
     let mut said = Seq::new(alloc);

@@ -1,7 +1,6 @@
 //! Controllers and their names.
-ghost use Rattle.std.specs.Prelude.{◌≡◌, ◌<◌, ◌≤◌, ◌∷◌, length};
+ghost use Rattle.std.specs.Prelude.{◌≡◌, ◌∷◌};
 ghost use Rattle.std.specs.Str.{bytes_eq};
-ghost use Rattle.ruby_topology.specs.Said.{controllers};
 ghost use Rattle.ruby_topology.specs.Members.{controller_name, count_or_none, decimal, index_named, machine_name, member_in, member_named};
 
 use crate::said::count_of;
@@ -10,14 +9,13 @@ use ruby_symbols::Symbols;
 
 // Whether a text is `-` and an index as digits.
 fn is_index(text: &[u8], index: u64) -> bool
-    requires { index < 100 }
     ensures { result ≡ bytes_eq (45 ∷ decimal index) text.now }
 {
     if index < 10 {
         let digit = 48 + index as u8;
         text.len() == 2 && text[0] == b'-' && text[1] == digit
     } else {
-        let tens = 48 + (index / 10) as u8;
+        let tens = 48 + (index / 10 % 10) as u8;
         let ones = 48 + (index % 10) as u8;
         text.len() == 3 && text[0] == b'-' && text[1] == tens && text[2] == ones
     }
@@ -25,7 +23,6 @@ fn is_index(text: &[u8], index: u64) -> bool
 
 // Whether a text is the name of a machine's controller of this index.
 fn is_name(text: &[u8], machine: &[u8], index: u64) -> bool
-    requires { index < 100 }
     ensures { result ≡ bytes_eq (controller_name machine.now index) text.now }
 {
     if text.len() < machine.len() {
@@ -46,11 +43,10 @@ pub fn machine_name(symbols: &Symbols, machine: usize) -> &[u8]
 }
 
 // Which of so many controllers of a machine has this name.
-fn index_named(machine: &[u8], count: u64, text: &[u8]) -> Option<u64>
-    requires { count ≤ 64 }
+fn index_named(machine: &[u8], count: u32, text: &[u8]) -> Option<u64>
     ensures { result ≡ index_named machine.now count text.now }
 {
-    for index in 0..count {
+    for index in 0..u64::from(count) {
         if is_name(text, machine, index) {
             return Some(index);
         }
@@ -59,19 +55,13 @@ fn index_named(machine: &[u8], count: u64, text: &[u8]) -> Option<u64>
 }
 
 /// How many controllers a machine has; none before a line gives it some.
-pub fn count_or_none(said: &[Statement], machine: usize) -> u64
+pub fn count_or_none(said: &[Statement], machine: usize) -> u32
     ensures { result ≡ count_or_none said.now machine }
 {
     count_of(said, machine).unwrap_or(0)
 }
 
-fn member_in(
-    symbols: &Symbols,
-    said: &[Statement],
-    text: &[u8],
-    machine: usize,
-) -> Option<Member>
-    requires { controllers said.now ≤ 64 }
+fn member_in(symbols: &Symbols, said: &[Statement], text: &[u8], machine: usize) -> Option<Member>
     ensures { result ≡ member_in symbols.now said.now text.now machine }
 {
     let name = machine_name(symbols, machine);
@@ -81,7 +71,6 @@ fn member_in(
 
 /// The controller of this name, of those that lines have given to machines.
 pub fn member_named(symbols: &Symbols, said: &[Statement], text: &[u8]) -> Option<Member>
-    requires { controllers said.now ≤ 64 }
     ensures { result ≡ member_named symbols.now said.now text.now }
 {
     for machine in 0..symbols.machines.len() {

@@ -30,10 +30,7 @@ pub const T8_NO_SEAT: u8 = 8;
 pub enum TopoFault {
     /// The first line that breaks a rule, and the least rule that it breaks. Lines count from 1. What no line breaks but all
     /// together is told at the line after the last; a plain run has no lines, and what it lacks is told at line 0.
-    Line {
-        rule: u8,
-        line: u32,
-    },
+    Line { rule: u8, line: u32 },
     NoMemory,
 }
 

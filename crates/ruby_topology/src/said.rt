@@ -4,7 +4,7 @@ ghost use Rattle.ruby_topology.specs.Said.{controllers, count_in, count_of, coun
 
 use crate::statement::{Member, Network, Statement};
 
-fn count_in(s: &Statement, machine: usize) -> Option<u64>
+fn count_in(s: &Statement, machine: usize) -> Option<u32>
     ensures { result ≡ count_in machine s.now }
 {
     match s {
@@ -20,7 +20,7 @@ fn count_in(s: &Statement, machine: usize) -> Option<u64>
 }
 
 /// How many controllers a machine has.
-pub fn count_of(said: &[Statement], machine: usize) -> Option<u64>
+pub fn count_of(said: &[Statement], machine: usize) -> Option<u32>
     ensures { result ≡ count_of said.now machine }
 {
     for s in said {
@@ -73,7 +73,7 @@ pub fn jitter_said(said: &[Statement]) -> Option<u64>
     None
 }
 
-fn orders(s: &Statement, network: u64) -> bool
+fn orders(s: &Statement, network: u16) -> bool
     ensures { result ≡ orders network s.now }
 {
     match s {
@@ -83,7 +83,7 @@ fn orders(s: &Statement, network: u64) -> bool
 }
 
 /// Whether a line says that a virtual network keeps order.
-pub fn is_ordered_said(said: &[Statement], network: u64) -> bool
+pub fn is_ordered_said(said: &[Statement], network: u16) -> bool
     ensures { result ≡ is_ordered_said said.now network }
 {
     said.iter().any(|s| orders(s, network))
@@ -160,7 +160,7 @@ pub fn counted(s: &Statement) -> u64
     ensures { result ≡ counted s.now }
 {
     match s {
-        Statement::Machine { count, .. } => *count,
+        Statement::Machine { count, .. } => u64::from(*count),
         _ => 0,
     }
 }

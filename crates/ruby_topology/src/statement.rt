@@ -28,7 +28,7 @@ pub enum Statement {
     /// How many controllers a machine has: 1 to 64.
     Machine {
         machine: u16,
-        count: u64,
+        count: u32,
     },
     Network(Network),
     /// A link between two controllers, both ways.
@@ -40,24 +40,24 @@ pub enum Statement {
     /// The most cycles that a message may be late: 0 to 1,000.
     Jitter(u64),
     /// This virtual network keeps order.
-    Ordered(u64),
+    Ordered(u16),
     /// The sets and ways of a cache: 1 to 65,536 lines in all.
     Cache {
         machine: u16,
         table: u16,
-        sets: u64,
-        ways: u64,
+        sets: u32,
+        ways: u32,
     },
     /// How many lines a TBE table may hold: 1 to 256.
     Tbes {
         machine: u16,
         table: u16,
-        entries: u64,
+        entries: u32,
     },
     /// The number that a parameter or an object has as a run begins.
     Set {
         machine: u16,
         value: u16,
-        number: u64,
+        number: i64,
     },
 }
