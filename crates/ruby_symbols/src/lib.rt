@@ -19,6 +19,7 @@ pub use names::{
     Named, action_named, buffer_named, function_named, machine_named, mandatory, stands_for,
     takes_requests,
 };
+pub use numbers::short_number;
 pub use ruby_base::{NoMemory, Seq, Text};
 pub use states::{
     StateArgument, get_state_arguments, set_permission_arguments, set_state_arguments,

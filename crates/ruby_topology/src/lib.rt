@@ -2,12 +2,21 @@
 //! tables are.
 #![tactic(auto)]
 
+mod counts;
 mod forms;
 mod lines;
 mod members;
+mod paths;
+mod routes;
 mod rules;
 mod said;
+mod search;
 mod statement;
 mod text;
+mod topology;
 
+pub use ctl_face::Routes;
+pub use ruby_base::{NoMemory, Seq, Text};
+pub use ruby_value::Sizes;
 pub use rules::TopoFault;
+pub use topology::{Seat, Topology, plain, read_topology};

@@ -89,7 +89,8 @@ pub fn is_ordered_said(said: &[Statement], network: u16) -> bool
     said.iter().any(|s| orders(s, network))
 }
 
-fn is_member(a: Member, b: Member) -> bool
+/// Whether both are one controller.
+pub fn is_member(a: Member, b: Member) -> bool
     ensures { result ≡ is_member a b }
 {
     a.machine == b.machine && a.index == b.index

@@ -61,3 +61,11 @@ pub enum Statement {
         number: i64,
     },
 }
+
+/// A link between two controllers by their numbers, both ways.
+#[derive(Clone, Copy)]
+pub struct Link {
+    pub one: usize,
+    pub other: usize,
+    pub length: u64,
+}
