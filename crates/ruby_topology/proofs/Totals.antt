@@ -101,7 +101,7 @@ length_of_members machine [] = refl
 length_of_members machine (count ∷ counts) =
     let rest = length_of_members (machine + 1) counts in
     let both = length-append (members_of machine count) (members_from (machine + 1) counts) in
-    let first = length-map (range_with_len 0 count) (λ index. record { machine = machine; index = index }) in
+    let first = length-map {B = Member} (range_with_len 0 count) (λ index. record { machine = machine; index = index }) in
     let many = length-range_with_len 0 count in
     let all = sum_by-cons (λ (x : ℕ). x) count counts in
     omega (arith, rest, both, first, many, all)

@@ -1,11 +1,9 @@
 //! Links by numbers, buffers on virtual networks, sizes and seats.
-ghost use Rattle.std.specs.Prelude.{◌≡◌, ◌<◌, ◌≤◌, All, IfOk, IfSome, length, map};
-ghost use Rattle.std.specs.List.{filter_map, range_with_len};
-ghost use Rattle.ruby_topology.specs.declared.statement.Link.{Link as LinkRecord};
+ghost use Rattle.std.specs.Prelude.{◌≡◌, ◌≤◌, IfOk, length, map};
+ghost use Rattle.std.specs.List.{filter_map, list_any, position, range_with_len};
+ghost use Rattle.ruby_symbols.specs.declared.machine.BufferSymbol.{BufferSymbol as BufferRecord};
 ghost use Rattle.ruby_topology.specs.declared.statement.Member.{Member as MemberRecord};
-ghost use Rattle.ruby_topology.specs.Search.{IsBetween};
 ghost use Rattle.ruby_topology.specs.Topology.{cache_of, calls_ordered, can_be_asked, has_ordered, is_from, is_on, is_ordered_on, is_seat, link_in, links_of, number_in, receiving_at, receiving_of, seat_of, seats_of, sizes_of, tbes_of, value_of};
-ghost use Rattle.ruby_topology.specs.Within.{IsWithin};
 
 use crate::counts::push_some;
 use crate::said::{is_member, is_ordered_said};
@@ -64,12 +62,18 @@ fn is_from(b: &BufferSymbol, network: u16) -> bool
     }
 }
 
+fn receiving_place(m: &MachineSymbols, network: u16) -> Option<usize>
+    ensures { result ≡ position (λ (b : BufferRecord). is_from network b.place) m.now.buffers }
+{
+    m.buffers.iter().position(|b| is_from(b, network))
+}
+
 // The number of the buffer that takes the messages of a virtual network at the controllers of a machine.
 fn receiving_at(symbols: &Symbols, machine: usize, network: u16) -> Option<u16>
     ensures { result ≡ receiving_at symbols.now machine network }
 {
     let m = symbols.machines.get(machine)?;
-    short_number(m.buffers.iter().position(|b| is_from(b, network)))
+    short_number(receiving_place(m, network))
 }
 
 fn receiving_of(
@@ -130,6 +134,12 @@ fn any_ordered(machines: &[MachineSymbols], network: u16) -> bool
     machines.iter().any(|m| has_ordered(m, network))
 }
 
+fn keeps_order(symbols: &Symbols, said: &[Statement], network: u16) -> bool
+    ensures { result ≡ is_ordered_on symbols.now said.now network }
+{
+    is_ordered_said(said, network) || any_ordered(symbols.machines.as_slice(), network)
+}
+
 /// By virtual network, whether it keeps order.
 pub fn ordered(
     alloc: Global,
@@ -140,8 +150,7 @@ pub fn ordered(
 {
     let mut ordered = Seq::new(alloc);
     for network in 0..16u16 {
-        let keeps = is_ordered_said(said, network) || any_ordered(&symbols.machines, network);
-        ordered.push(keeps)?;
+        ordered.push(keeps_order(symbols, said, network))?;
     }
     Ok(ordered)
 }

@@ -82,7 +82,7 @@ fn all_sizes(
     ensures { IfOk result (λ s. s ≡ map (sizes_of (ranges_from 0 counts.now) said.now) (range_with_len 0 (length symbols.now.machines))) }
 {
     let ranges = ranges(alloc, counts)?;
-    let sizes = sizes(alloc, &ranges, said, symbols.machines.len());
+    let sizes = sizes(alloc, ranges.as_slice(), said, symbols.machines.len());
     drop(ranges);
     sizes
 }
@@ -163,7 +163,7 @@ fn paths_of(
     ensures { IfOk result (λ o. MatchOption o (HasIsland (network_of said.now) (links_of members.now said.now) (length members.now)) (AreRows (network_of said.now) (links_of members.now said.now) (length members.now))) }
 {
     let links = links(alloc, members, said)?;
-    let paths = rows(alloc, network_of(said), &links, members.len());
+    let paths = rows(alloc, network_of(said), links.as_slice(), members.len());
     drop(links);
     paths
 }
@@ -210,7 +210,7 @@ fn with_counts(
     ensures err { IfErr result (λ fault. ForLine fault (λ rule line. (line ≡ after) × IsLackingSaid symbols.now said.now rule)) }
 {
     let members = members(alloc, counts)?;
-    let topology = with_members(alloc, symbols, said, after, counts, &members);
+    let topology = with_members(alloc, symbols, said, after, counts, members.as_slice());
     drop(members);
     topology
 }
@@ -233,7 +233,7 @@ fn said_topology(
             line: after,
         }),
         Some(counts) => {
-            let topology = with_counts(alloc, symbols, said, after, &counts);
+            let topology = with_counts(alloc, symbols, said, after, counts.as_slice());
             drop(counts);
             topology
         }
@@ -252,7 +252,7 @@ pub fn read_topology(
     ensures err { IfErr result (λ fault. ForLine fault (IsRefused symbols.now bytes.now)) }
 {
     let read = read_lines(alloc, symbols, bytes)?;
-    let topology = said_topology(alloc, symbols, &read.said, read.after);
+    let topology = said_topology(alloc, symbols, read.said.as_slice(), read.after);
     drop(read);
     topology
 }
