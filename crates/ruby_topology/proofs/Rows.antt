@@ -16,17 +16,17 @@ pub computed_is_row : (network : Network) (links : List Link) (total from : ℕ)
 computed_is_row (PointToPoint length) links total from other =
     record {
       all = length-map-range_with_len (path_by (PointToPoint length) from) 0 total;
-      paths = item (path_by (PointToPoint length) from) total
+      paths = item (path_by (PointToPoint length) from) total;
     }
 computed_is_row (Crossbar length) links total from other =
     record {
       all = length-map-range_with_len (path_by (Crossbar length) from) 0 total;
-      paths = item (path_by (Crossbar length) from) total
+      paths = item (path_by (Crossbar length) from) total;
     }
 computed_is_row (Mesh rows columns length) links total from other =
     record {
       all = length-map-range_with_len (path_by (Mesh rows columns length) from) 0 total;
-      paths = item (path_by (Mesh rows columns length) from) total
+      paths = item (path_by (Mesh rows columns length) from) total;
     }
 computed_is_row Links links total from other = absurd (other refl)
 

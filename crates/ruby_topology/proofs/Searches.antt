@@ -126,24 +126,24 @@ link_more links total from u x c v z marks going inside way least most =
       all = length-set marks v (shorter (mark_at marks v) z) ∙ going.all;
       start = set_within marks v z inside from 0 going.start;
       real = each_mark (λ w m. (y : ℕ) → sum_at m ≡ Some y → HasWay links from w y) marks v (shorter (mark_at marks v) z) inside
-        (λ y e. ⊎_elim (λ (is : y ≡ z). subst (HasWay links from v) (sym is) way) (λ old. going.real v y old) (shorter_sum (mark_at marks v) z y e))
-        going.real;
+          (λ y e. ⊎_elim (λ (is : y ≡ z). subst (HasWay links from v) (sym is) way) (λ old. going.real v y old) (shorter_sum (mark_at marks v) z y e))
+          going.real;
       closed = each_mark (λ w m. (y : ℕ) → w ≢ u → m ≡ Settled y → IsClosedAt links after w y) marks v (shorter (mark_at marks v) z) inside
-        (λ y ne e link has k joins. set_within marks v z inside k (y + link.length) (going.closed v y ne (shorter_settled (mark_at marks v) z y e) link has k joins))
-        (λ w y ne e link has k joins. set_within marks v z inside k (y + link.length) (going.closed w y ne e link has k joins));
+          (λ y ne e link has k joins. set_within marks v z inside k (y + link.length) (going.closed v y ne (shorter_settled (mark_at marks v) z y e) link has k joins))
+          (λ w y ne e link has k joins. set_within marks v z inside k (y + link.length) (going.closed w y ne e link has k joins));
       here = each_mark (λ w m. mark_at marks w ≡ Settled x → m ≡ Settled x) marks v (shorter (mark_at marks v) z) inside
-        (λ e. settled_stays (mark_at marks v) z x e) (λ w e. e) u going.here;
+          (λ e. settled_stays (mark_at marks v) z x e) (λ w e. e) u going.here;
       low = each_mark (λ w m. (y : ℕ) → m ≡ Settled y → y ≤ x) marks v (shorter (mark_at marks v) z) inside
-        (λ y e. going.low v y (shorter_settled (mark_at marks v) z y e)) going.low;
+          (λ y e. going.low v y (shorter_settled (mark_at marks v) z y e)) going.low;
       high = each_mark (λ w m. (y : ℕ) → m ≡ Reached y → x ≤ y) marks v (shorter (mark_at marks v) z) inside
-        (λ y e. ⊎_elim (λ (is : y ≡ z). omega (arith, is, least)) (λ old. going.high v y old) (shorter_reached (mark_at marks v) z y e)) going.high;
+          (λ y e. ⊎_elim (λ (is : y ≡ z). omega (arith, is, least)) (λ old. going.high v y old) (shorter_reached (mark_at marks v) z y e)) going.high;
       bound = each_mark (λ w m. (y : ℕ) → sum_at m ≡ Some y → y ≤ 1000 * c + 1000) marks v (shorter (mark_at marks v) z) inside
-        (λ y e. ⊎_elim (λ (is : y ≡ z). omega (arith, is, most)) (λ old. going.bound v y old) (shorter_sum (mark_at marks v) z y e)) going.bound;
+          (λ y e. ⊎_elim (λ (is : y ≡ z). omega (arith, is, most)) (λ old. going.bound v y old) (shorter_sum (mark_at marks v) z y e)) going.bound;
       small = going.small;
       count =
-        let kept = sum_by-set (λ m. cond (is_settled m) 1 0) marks v (shorter (mark_at marks v) z) Unreached inside in
-        let same : ◌≡◌ {A = ℕ} (cond (is_settled (shorter (mark_at marks v) z)) 1 0) (cond (is_settled (mark_at marks v)) 1 0) = ap (λ b. cond b 1 0) (same_settled (mark_at marks v) z) in
-        omega (arith, kept, same, going.count)
+          let kept = sum_by-set (λ m. cond (is_settled m) 1 0) marks v (shorter (mark_at marks v) z) Unreached inside in
+          let same : ◌≡◌ {A = ℕ} (cond (is_settled (shorter (mark_at marks v) z)) 1 0) (cond (is_settled (mark_at marks v)) 1 0) = ap (λ b. cond b 1 0) (same_settled (mark_at marks v) z) in
+          omega (arith, kept, same, going.count);
     }
 
 -- Where a link leads.
@@ -153,11 +153,11 @@ joins_far link u v e =
     ⊎_elim
     (λ (one : link.one ≡ u). let t : eqb link.one u ≡ true = eq-eqb link.one u one in inl (one, some_is link.other v (rw t at e)))
     (λ (ne : link.one ≢ u).
-        let f : eqb link.one u ≡ false = ne_eqb link.one u ne in
-        ⊎_elim
-        (λ (other : link.other ≡ u). let t : eqb link.other u ≡ true = eq-eqb link.other u other in inr (some_is link.one v (rw (f, t) at e), other))
-        (λ (no : link.other ≢ u). let g : eqb link.other u ≡ false = ne_eqb link.other u no in let none = rw (f, g) at e in cc)
-        (cases_eq link.other u))
+    let f : eqb link.one u ≡ false = ne_eqb link.one u ne in
+    ⊎_elim
+    (λ (other : link.other ≡ u). let t : eqb link.other u ≡ true = eq-eqb link.other u other in inr (some_is link.one v (rw (f, t) at e), other))
+    (λ (no : link.other ≢ u). let g : eqb link.other u ≡ false = ne_eqb link.other u no in let none = rw (f, g) at e in cc)
+    (cases_eq link.other u))
     (cases_eq link.one u)
 
 far_joins : (link : Link) (u v : ℕ) → Joins link u v → far_end link u ≡ Some v
@@ -165,12 +165,12 @@ far_joins link u v joins =
     ⊎_elim
     (λ (h : (link.one ≡ u) × (link.other ≡ v)). let t : eqb link.one u ≡ true = eq-eqb link.one u h.0 in rw t (ap Some h.1))
     (λ (h : (link.one ≡ v) × (link.other ≡ u)).
-        ⊎_elim
-        (λ (one : link.one ≡ u). let t : eqb link.one u ≡ true = eq-eqb link.one u one in rw t (ap Some (h.1 ∙ sym one ∙ h.0)))
-        (λ (ne : link.one ≢ u).
-            let f : eqb link.one u ≡ false = ne_eqb link.one u ne in
-            let t : eqb link.other u ≡ true = eq-eqb link.other u h.1 in rw (f, t) (ap Some h.0))
-        (cases_eq link.one u))
+    ⊎_elim
+    (λ (one : link.one ≡ u). let t : eqb link.one u ≡ true = eq-eqb link.one u one in rw t (ap Some (h.1 ∙ sym one ∙ h.0)))
+    (λ (ne : link.one ≢ u).
+    let f : eqb link.one u ≡ false = ne_eqb link.one u ne in
+    let t : eqb link.other u ≡ true = eq-eqb link.other u h.1 in rw (f, t) (ap Some h.0))
+    (cases_eq link.one u))
     joins
 
 far_inside : (total : ℕ) (link : Link) (u v : ℕ) → IsBetween total link → far_end link u ≡ Some v → v < total
@@ -188,7 +188,7 @@ way_on links a u v x link has joins w =
       way = w.way ++ link ∷ [];
       listed = All-push (Contains links) w.way link w.listed has;
       leads = leads_on w.way link a u v w.leads joins;
-      sums = ap (λ s. s + link.length) w.sums ∙ sym (sum_by_push (λ (l : Link). l.length) w.way link)
+      sums = ap (λ s. s + link.length) w.sums ∙ sym (sum_by_push (λ (l : Link). l.length) w.way link);
     }
 
 -- All links of u.
@@ -232,15 +232,15 @@ all_gone_over links total from u x c (link ∷ over) marks has inside short goin
     record {
       going = rest.going;
       kept = λ w s h. rest.kept w s (step_within total (x + link.length) marks link u (far_end link u) refl going.all inside_first w s h);
-      reached = λ other is_in v joins. cons_case other v joins is_in (step_reaches links total from u x c marks link) rest.kept rest.reached going inside_first
+      reached = λ other is_in v joins. cons_case other v joins is_in (step_reaches links total from u x c marks link) rest.kept rest.reached going inside_first;
     }
   where
     cons_case : (other : Link) (v : ℕ) → Joins other u v → Contains (link ∷ over) other
-      → ((v : ℕ) → IsGoingOver links total from u x c marks → IsBetween total link → Joins link u v → IsWithin (relaxed u x marks link) v (x + link.length))
-      → ((w s : ℕ) → IsWithin (relaxed u x marks link) w s → IsWithin (fold (relaxed u x) (relaxed u x marks link) over) w s)
-      → ((l : Link) → Contains over l → (v : ℕ) → Joins l u v → IsWithin (fold (relaxed u x) (relaxed u x marks link) over) v (x + l.length))
-      → IsGoingOver links total from u x c marks → IsBetween total link
-      → IsWithin (fold (relaxed u x) (relaxed u x marks link) over) v (x + other.length)
+        → ((v : ℕ) → IsGoingOver links total from u x c marks → IsBetween total link → Joins link u v → IsWithin (relaxed u x marks link) v (x + link.length))
+        → ((w s : ℕ) → IsWithin (relaxed u x marks link) w s → IsWithin (fold (relaxed u x) (relaxed u x marks link) over) w s)
+        → ((l : Link) → Contains over l → (v : ℕ) → Joins l u v → IsWithin (fold (relaxed u x) (relaxed u x marks link) over) v (x + l.length))
+        → IsGoingOver links total from u x c marks → IsBetween total link
+        → IsWithin (fold (relaxed u x) (relaxed u x marks link) over) v (x + other.length)
     cons_case other v joins (zero, lt, is) first kept reached going inside_first =
         subst (λ (l : Link). IsWithin (fold (relaxed u x) (relaxed u x marks link) over) v (x + l.length)) is
         (kept v (x + link.length) (first v going inside_first (subst (λ (l : Link). Joins l u v) (sym is) joins)))
@@ -274,19 +274,20 @@ settled_begins links total from u x marks sound nearest =
       closed = λ w y ne e link has v joins. same_within marks u x inside is v (y + link.length) (sound.closed w y (sym (other_at marks u w (Settled x) ne) ∙ e) link has v joins);
       here = same_at marks u (Settled x) inside;
       low = each_mark (λ w m. (y : ℕ) → m ≡ Settled y → y ≤ x) marks u (Settled x) inside
-        (λ y e. let same = settled_is x y e in omega (arith, same)) (λ w y e. sound.order w y u x e is);
+          (λ y e. let same = settled_is x y e in omega (arith, same)) (λ w y e. sound.order w y u x e is);
       high = each_mark (λ w m. (y : ℕ) → m ≡ Reached y → x ≤ y) marks u (Settled x) inside
-        (λ y e. absurd (different x y e)) (λ w y e. nearest.2 w y (reached_inside marks w y e) e);
+          (λ y e. absurd (different x y e)) (λ w y e. nearest.2 w y (reached_inside marks w y e) e);
       bound = λ v y e. let b = sound.bound v y (sym (same_sums marks u x inside is v) ∙ e) in omega (arith, b);
       small = sound.bound u x (ap sum_at is);
       count =
-        let more = sum_by-set (λ m. cond (is_settled m) 1 0) marks u (Settled x) Unreached inside in
-        let none : ◌≡◌ {A = ℕ} (cond (is_settled (mark_at marks u)) 1 0) 0 = ap (λ m. cond (is_settled m) 1 0) is in
-        omega (arith, more, none)
+          let more = sum_by-set (λ m. cond (is_settled m) 1 0) marks u (Settled x) Unreached inside in
+          let none : ◌≡◌ {A = ℕ} (cond (is_settled (mark_at marks u)) 1 0) 0 = ap (λ m. cond (is_settled m) 1 0) is in
+          omega (arith, more, none);
     }
   where
     settled_is : (x y : ℕ) → Settled x ≡ Settled y → x ≡ y
     settled_is x y e = cc
+
     different : (x y : ℕ) → Settled x ≡ Reached y → ⊥
     different x y e = cc
 
@@ -305,16 +306,16 @@ settle_keeps links total from u x marks inside short sound nearest =
         start = going.start;
         real = going.real;
         closed = λ w y e link has v joins.
-          ⊎_elim
-          (λ (same : w ≡ u).
-              let is : y ≡ x = settled_is y x (sym e ∙ ap (mark_at after) same ∙ going.here) in
-              subst (λ s. IsWithin after v (s + link.length)) (sym is) (gone.reached link has v (subst (λ k. Joins link k v) same joins)))
-          (λ (ne : w ≢ u). going.closed w y ne e link has v joins)
-          (cases_eq w u);
+            ⊎_elim
+            (λ (same : w ≡ u).
+            let is : y ≡ x = settled_is y x (sym e ∙ ap (mark_at after) same ∙ going.here) in
+            subst (λ s. IsWithin after v (s + link.length)) (sym is) (gone.reached link has v (subst (λ k. Joins link k v) same joins)))
+            (λ (ne : w ≢ u). going.closed w y ne e link has v joins)
+            (cases_eq w u);
         order = λ w a v b settled reached. let low = going.low w a settled in let high = going.high v b reached in omega (arith, low, high);
-        bound = λ v y e. let b = going.bound v y e in let n = going.count in omega (arith, b, n)
+        bound = λ v y e. let b = going.bound v y e in let n = going.count in omega (arith, b, n);
       };
-      count = going.count
+      count = going.count;
     }
   where
     settled_is : (x y : ℕ) → Settled x ≡ Settled y → x ≡ y
@@ -349,10 +350,10 @@ searched links total from marks sound none =
       all = sound.all;
       found = λ v x inside e. record {
         some_way = sound.real v x e;
-        least = λ s w. let h = way_within links total from marks sound none v s w in let same = some_is x h.0 (sym e ∙ h.1) in let le = h.2 in omega (arith, same, le)
+        least = λ s w. let h = way_within links total from marks sound none v s w in let same = some_is x h.0 (sym e ∙ h.1) in let le = h.2 in omega (arith, same, le);
       };
       missed = λ v x inside e w. let h = way_within links total from marks sound none v x w in different h.0 (sym e ∙ h.1);
-      bound = λ v x e. let b = sound.bound v x e in let few = settled_few links total from marks sound in omega (arith, b, few)
+      bound = λ v x e. let b = sound.bound v x e in let few = settled_few links total from marks sound in omega (arith, b, few);
     }
   where
     different : (x : ℕ) → ◌≡◌ {A = Option ℕ} None (Some x) → ⊥
@@ -366,27 +367,30 @@ begins_sound links total from inside =
     let others : (w : ℕ) → mark_at none w ≡ Unreached = λ w. unreached w in
     let only : (w : ℕ) (y : ℕ) → sum_at (mark_at (set none from (Reached 0)) w) ≡ Some y → (w ≡ from) × (y ≡ 0) =
     λ w y e. ⊎_elim
-        (λ (same : w ≡ from). (same, sym (some_is 0 y (sym (ap sum_at (ap (mark_at (set none from (Reached 0))) same ∙ same_at none from (Reached 0) lt)) ∙ e))))
-        (λ (ne : w ≢ from). absurd (different y (sym (ap sum_at (other_at none from w (Reached 0) ne ∙ others w)) ∙ e)))
-        (cases_eq w from) in
+    (λ (same : w ≡ from). (same, sym (some_is 0 y (sym (ap sum_at (ap (mark_at (set none from (Reached 0))) same ∙ same_at none from (Reached 0) lt)) ∙ e))))
+    (λ (ne : w ≢ from). absurd (different y (sym (ap sum_at (other_at none from w (Reached 0) ne ∙ others w)) ∙ e)))
+    (cases_eq w from) in
     let unsettled : (w y : ℕ) → mark_at (set none from (Reached 0)) w ≡ Settled y → ⊥ =
     each_mark (λ w m. (y : ℕ) → m ≡ Settled y → ⊥) none from (Reached 0) lt (λ y e. reached_not y e) (λ w y e. unreached_not y (sym (others w) ∙ e)) in
     record {
       all = length-set none from (Reached 0) ∙ many;
       start = (0, ap sum_at (same_at none from (Reached 0) lt), omega arith);
       real = λ v x e. let is = only v x e in
-        record { way = []; listed = All-nil (Contains links); leads = sym is.0; sums = is.1 };
+          record { way = []; listed = All-nil (Contains links); leads = sym is.0; sums = is.1 };
       closed = λ u x e. absurd (unsettled u x e);
       order = λ u x v y e f. absurd (unsettled u x e);
-      bound = λ v x e. let is = only v x e in let z = is.1 in omega (arith, z)
+      bound = λ v x e. let is = only v x e in let z = is.1 in omega (arith, z);
     }
   where
     different : (x : ℕ) → ◌≡◌ {A = Option ℕ} None (Some x) → ⊥
     different x e = cc
+
     reached_not : (y : ℕ) → Reached 0 ≡ Settled y → ⊥
     reached_not y e = cc
+
     unreached_not : (y : ℕ) → Unreached ≡ Settled y → ⊥
     unreached_not y e = cc
+
     unreached : (w : ℕ) → mark_at (replicate total Unreached) w ≡ Unreached
     unreached w = ⊎_elim (λ (lt : w < total). get_or-replicate total w Unreached Unreached lt)
         (λ (le : total ≤ w). get_or_past (replicate total Unreached) w Unreached (let many = length-replicate total Unreached in omega (arith, many)))

@@ -21,9 +21,6 @@ use Rattle.ruby_topology.specs.Search.{IsBetween}
 use Rattle.ruby_topology.specs.Topology.{counts_of, link_in, links_of, members_from, members_of, network_of, number_in}
 use Rattle.ruby_topology.specs.Within.{IsNetworkWithin, IsWithin}
 
-
-
-
 -- it is before the range
 one_before : (f : ℕ → ℕ) (k c a n : ℕ) → k < a → sum_by (λ m. cond (eqb k m) c (f m)) (range_with_len a n) ≡ sum_by f (range_with_len a n)
 one_before f k c a zero before = refl
@@ -43,15 +40,15 @@ one_more f k c a (suc n) =
     let old = sum_by-cons f a (range_with_len (a + 1) n) in
     ⊎_elim
     (λ (same : k ≡ a).
-        let t : eqb k a ≡ true = eq-eqb k a same in
-        let here : g a ≡ c = ap (λ b. cond b c (f a)) t in
-        let rest = one_before f k c (a + 1) n (omega (arith, same)) in
-        omega (arith, first, old, here, rest))
+    let t : eqb k a ≡ true = eq-eqb k a same in
+    let here : g a ≡ c = ap (λ b. cond b c (f a)) t in
+    let rest = one_before f k c (a + 1) n (omega (arith, same)) in
+    omega (arith, first, old, here, rest))
     (λ (ne : k ≢ a).
-        let other : eqb k a ≡ false = ne_eqb k a ne in
-        let here : g a ≡ f a = ap (λ b. cond b c (f a)) other in
-        let rest = one_more f k c (a + 1) n in
-        omega (arith, first, old, here, rest))
+    let other : eqb k a ≡ false = ne_eqb k a ne in
+    let here : g a ≡ f a = ap (λ b. cond b c (f a)) other in
+    let rest = one_more f k c (a + 1) n in
+    omega (arith, first, old, here, rest))
     (cases_eq k a)
 
 zeros : (a n : ℕ) → sum_by (λ (m : ℕ). 0) (range_with_len a n) ≡ 0
@@ -64,8 +61,9 @@ zeros a (suc n) =
 first_count : (k c : ℕ) (said : List Statement) (m : ℕ) → count_or_none (Machine k c ∷ said) m ≡ cond (eqb k m) c (count_or_none said m)
 first_count k c said m =
     elim (eqb k m) as (λ b. unwrap_or (option_or (cond b (Some c) None) (count_of said m)) 0 ≡ cond b c (count_or_none said m)) [
-      true ↦ refl
-      | false ↦ refl ]
+      | true ↦ refl
+      | false ↦ refl
+    ]
 
 same_sums : (f g : ℕ → ℕ) (xs : List ℕ) → ((x : ℕ) → f x ≡ g x) → sum_by f xs ≡ sum_by g xs
 same_sums f g [] same = refl
@@ -122,9 +120,9 @@ pub record IsPlaced (total length : ℕ) (l : LinkOf) : Type 0 where
   pub same : l.length ≡ length
 
 both_placed : (members : List Member) (a b : Option ℕ) (length_said : ℕ) (l : LinkOf)
-  → ((n : ℕ) → a ≡ Some n → n < length members) → ((n : ℕ) → b ≡ Some n → n < length members)
-  → option_and_then (λ i. option_and_then (λ j. Some (record { one = i; other = j; length = length_said })) b) a ≡ Some l
-  → IsPlaced (length members) length_said l
+    → ((n : ℕ) → a ≡ Some n → n < length members) → ((n : ℕ) → b ≡ Some n → n < length members)
+    → option_and_then (λ i. option_and_then (λ j. Some (record { one = i; other = j; length = length_said })) b) a ≡ Some l
+    → IsPlaced (length members) length_said l
 both_placed members None b n l a_in b_in e = cc
 both_placed members (Some i) None n l a_in b_in e = cc
 both_placed members (Some i) (Some j) n l a_in b_in e =

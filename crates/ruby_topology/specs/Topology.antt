@@ -1,7 +1,7 @@
 -- The topology that the lines of a file say, and why there is none. The lines say it only where none breaks a rule, each machine
 -- has a line, any two controllers have a path, and some controller can be asked by a driver. What isn't said has its default: a
 -- network `pt2pt 1`, no jitter. The form of a topology is this project's own.
-use Rattle.std.specs.Prelude.{ℕ, ◌≡◌, ◌<◌, ◌+◌, ◌==◌, ◌&&◌, ◌||◌, Bool, true, false, cond, ℤ, Option, None, Some, Result, Ok, Err, List, [], ◌∷◌, ◌++◌, is_none, is_some, length, map, option_and_then, position, slice_get, unwrap_or}
+use Rattle.std.specs.Prelude.{ℕ, ◌≡◌, ◌≤◌, ◌+◌, ◌==◌, ◌&&◌, ◌||◌, All, Bool, true, false, cond, ℤ, Option, None, Some, Result, Ok, Err, List, [], ◌∷◌, ◌++◌, is_none, is_some, length, map, option_and_then, position, slice_get, unwrap_or}
 use Rattle.std.specs.List.{enumerate_from, filter_map, list_any, range_with_len}
 use Rattle.std.specs.Option.{option_map_or}
 use Rattle.ctl_face.specs.declared.routes.Routes.{Routes}
@@ -25,8 +25,9 @@ use Rattle.ruby_topology.specs.declared.topology.Topology.{Topology}
 use Rattle.ruby_topology.specs.Lines.{reading}
 use Rattle.ruby_topology.specs.Members.{controller_name, count_or_none, machine_name}
 use Rattle.ruby_topology.specs.Paths.{AreRows, HasIsland}
-use Rattle.ruby_topology.specs.Said.{count_of, is_member, is_ordered_said, jitter_said, network_said}
+use Rattle.ruby_topology.specs.Said.{controllers, count_of, is_member, is_ordered_said, jitter_said, network_said}
 use Rattle.ruby_topology.specs.Text.{lines_of}
+use Rattle.ruby_topology.specs.Within.{IsWithin}
 
 -- Controllers.
 
@@ -176,7 +177,7 @@ pub data IsLackingSaid (symbols : Symbols) (said : List Statement) (rule : ℕ) 
   no_line : rule ≡ T5_NO_LINE → lacks_line symbols said ≡ true → IsLackingSaid symbols said rule
   no_path : rule ≡ T7_NO_PATH → lacks_line symbols said ≡ false → HasIslandSaid symbols said → IsLackingSaid symbols said rule
   no_seat : rule ≡ T8_NO_SEAT → lacks_line symbols said ≡ false → (HasIslandSaid symbols said → ⊥)
-    → seats_of symbols (members_said symbols said) ≡ [] → IsLackingSaid symbols said rule
+      → seats_of symbols (members_said symbols said) ≡ [] → IsLackingSaid symbols said rule
 
 -- it is the topology of a file
 pub record IsTopologyOf (symbols : Symbols) (bytes : List ℕ) (t : Topology) : Type 0 where
@@ -184,12 +185,19 @@ pub record IsTopologyOf (symbols : Symbols) (bytes : List ℕ) (t : Topology) : 
   pub is_said : reading symbols (lines_of bytes) ≡ Ok said
   pub topology : IsTopologySaid symbols said t
 
+-- what the lines of a file say is within the ranges of topologies, with 64 controllers at most
+pub record IsSaidWithin (symbols : Symbols) (bytes : List ℕ) : Type 0 where
+  pub said : List Statement
+  pub is_said : reading symbols (lines_of bytes) ≡ Ok said
+  pub within : All IsWithin said
+  pub few : controllers said ≤ 64
+
 -- a file is no topology, by this rule at this line: the first line that breaks one, and the least that it breaks; what no line
 -- breaks but all together is told at the line after the last
 pub data IsRefused (symbols : Symbols) (bytes : List ℕ) (rule line : ℕ) : Type 0 where
   at_line : reading symbols (lines_of bytes) ≡ Err (rule, line) → IsRefused symbols bytes rule line
   after_last : (said : List Statement) → reading symbols (lines_of bytes) ≡ Ok said → line ≡ length (lines_of bytes) + 1
-    → IsLackingSaid symbols said rule → IsRefused symbols bytes rule line
+      → IsLackingSaid symbols said rule → IsRefused symbols bytes rule line
 
 -- A plain run: one machine with one controller, which a driver asks through its own buffer `mandatoryQueue`, on which a port of
 -- type `RubyRequest` is. All else has its default.

@@ -89,11 +89,7 @@ fn controller_name(alloc: Global, machine: &[u8], index: u64) -> Result<Text, No
 }
 
 /// The names of controllers.
-pub fn names(
-    alloc: Global,
-    symbols: &Symbols,
-    members: &[Member],
-) -> Result<Seq<Text>, NoMemory>
+pub fn names(alloc: Global, symbols: &Symbols, members: &[Member]) -> Result<Seq<Text>, NoMemory>
     ensures { IfOk result (λ names. names ≡ map (name_of symbols.now) members.now) }
 {
     let mut names = Seq::new(alloc);

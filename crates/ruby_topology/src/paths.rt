@@ -41,12 +41,8 @@ fn path_by(network: Network, a: u64, b: u64) -> u64
     ensures { result ≡ path_by network a b }
 {
     match network {
-        Network::PointToPoint(length) => {
-            if a == b { 0 } else { length }
-        }
-        Network::Crossbar(length) => {
-            if a == b { 0 } else { 2 * length }
-        }
+        Network::PointToPoint(length) => { if a == b { 0 } else { length } }
+        Network::Crossbar(length) => { if a == b { 0 } else { 2 * length } }
         Network::Mesh {
             rows,
             columns,

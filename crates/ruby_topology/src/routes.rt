@@ -39,11 +39,7 @@ fn link_in(members: &[Member], s: &Statement) -> Option<Link>
 }
 
 /// The links between controllers by their numbers.
-pub fn links(
-    alloc: Global,
-    members: &[Member],
-    said: &[Statement],
-) -> Result<Seq<Link>, NoMemory>
+pub fn links(alloc: Global, members: &[Member], said: &[Statement]) -> Result<Seq<Link>, NoMemory>
     ensures { IfOk result (λ links. links ≡ links_of members.now said.now) }
 {
     let mut links = Seq::new(alloc);
@@ -141,11 +137,7 @@ fn keeps_order(symbols: &Symbols, said: &[Statement], network: u16) -> bool
 }
 
 /// By virtual network, whether it keeps order.
-pub fn ordered(
-    alloc: Global,
-    symbols: &Symbols,
-    said: &[Statement],
-) -> Result<Seq<bool>, NoMemory>
+pub fn ordered(alloc: Global, symbols: &Symbols, said: &[Statement]) -> Result<Seq<bool>, NoMemory>
     ensures { IfOk result (λ ordered. ordered ≡ map (is_ordered_on symbols.now said.now) (range_with_len 0 16)) }
 {
     let mut ordered = Seq::new(alloc);
@@ -241,11 +233,7 @@ fn all_tbes_of(
     Ok(list)
 }
 
-fn values_of(
-    alloc: Global,
-    said: &[Statement],
-    machine: usize,
-) -> Result<Seq<(u16, i64)>, NoMemory>
+fn values_of(alloc: Global, said: &[Statement], machine: usize) -> Result<Seq<(u16, i64)>, NoMemory>
     ensures { IfOk result (λ values. values ≡ filter_map (value_of machine) said.now) }
 {
     let mut list = Seq::new(alloc);
@@ -322,11 +310,7 @@ fn seat_of(symbols: &Symbols, number: usize, c: Member) -> Option<Seat>
 }
 
 /// The controllers that a driver can ask, in increasing number.
-pub fn seats(
-    alloc: Global,
-    symbols: &Symbols,
-    members: &[Member],
-) -> Result<Seq<Seat>, NoMemory>
+pub fn seats(alloc: Global, symbols: &Symbols, members: &[Member]) -> Result<Seq<Seat>, NoMemory>
     requires { length members.now ≤ 64 }
     ensures { IfOk result (λ seats. seats ≡ seats_of symbols.now members.now) }
 {

@@ -37,13 +37,7 @@ fn nearer(best: Option<(usize, u64)>, v: usize, mark: Mark) -> Option<(usize, u6
     };
     match best {
         None => Some((v, sum)),
-        Some(b) => {
-            if sum < b.1 {
-                Some((v, sum))
-            } else {
-                Some(b)
-            }
-        }
+        Some(b) => { if sum < b.1 { Some((v, sum)) } else { Some(b) } }
     }
 }
 

@@ -1,11 +1,11 @@
 //! The topology of a file, and that of a plain run.
-ghost use Rattle.std.specs.Prelude.{◌≡◌, ◌≤◌, ◌∷◌, [], All, IfErr, IfOk, MatchOption, false, length, map, sum};
+ghost use Rattle.std.specs.Prelude.{◌≡◌, ◌≤◌, ◌∷◌, [], All, IfErr, IfOk, MatchOption, OnOk, false, length, map, sum};
 ghost use Rattle.std.specs.List.{range_with_len};
 ghost use Rattle.ruby_topology.specs.declared.statement.Network.TheVariants.{PointToPoint};
 ghost use Rattle.ruby_topology.specs.Faults.{ForLine};
 ghost use Rattle.ruby_topology.specs.Paths.{AreRows, HasIsland};
 ghost use Rattle.ruby_topology.specs.Said.{controllers};
-ghost use Rattle.ruby_topology.specs.Topology.{HasParts, HasRoutes, IsLackingSaid, IsPlainOf, IsRefused, IsRefusedPlain, IsTopologyOf, IsTopologySaid, can_be_plain, counts_of, lacks_line, links_of, members_from, network_of, ranges_from, sizes_of};
+ghost use Rattle.ruby_topology.specs.Topology.{HasParts, HasRoutes, IsLackingSaid, IsPlainOf, IsRefused, IsRefusedPlain, IsSaidWithin, IsTopologyOf, IsTopologySaid, can_be_plain, counts_of, lacks_line, links_of, members_from, network_of, ranges_from, sizes_of};
 ghost use Rattle.ruby_topology.specs.Within.{IsWithin};
 
 use crate::counts::{counts, members, names, ranges};
@@ -242,13 +242,10 @@ fn said_topology(
 
 /// The topology that a file says for a protocol with these symbols, or the first line that breaks a rule with the least rule that
 /// it breaks; what no line breaks but all together is told at the line after the last. docs/LANGUAGE.md has the lines and the rules.
-pub fn read_topology(
-    alloc: Global,
-    bytes: &[u8],
-    symbols: &Symbols,
-) -> Result<Topology, TopoFault>
+pub fn read_topology(alloc: Global, bytes: &[u8], symbols: &Symbols) -> Result<Topology, TopoFault>
     requires { length bytes.now ≤ 1048576 }
     ensures ok { IfOk result (IsTopologyOf symbols.now bytes.now) }
+    ensures within { OnOk result (IsSaidWithin symbols.now bytes.now) }
     ensures err { IfErr result (λ fault. ForLine fault (IsRefused symbols.now bytes.now)) }
 {
     let read = read_lines(alloc, symbols, bytes)?;

@@ -107,14 +107,26 @@ fn cache_tables(alloc: Global) -> Result<Seq<TableSymbol>, NoMemory> {
 
 fn cache_values(alloc: Global) -> Result<Seq<FieldSymbol>, NoMemory> {
     let mut values = Seq::new(alloc);
-    add_value(alloc, &mut values, "exclusive", Kind::Bool, Value::Bool(true))?;
+    add_value(
+        alloc,
+        &mut values,
+        "exclusive",
+        Kind::Bool,
+        Value::Bool(true),
+    )?;
     add_value(alloc, &mut values, "latency", Kind::Int, Value::Int(1))?;
     Ok(values)
 }
 
 fn cache_buffers(alloc: Global) -> Result<Seq<BufferSymbol>, NoMemory> {
     let mut buffers = Seq::new(alloc);
-    add_buffer(alloc, &mut buffers, "mandatoryQueue", BufferPlace::Local, false)?;
+    add_buffer(
+        alloc,
+        &mut buffers,
+        "mandatoryQueue",
+        BufferPlace::Local,
+        false,
+    )?;
     let to = BufferPlace::To {
         network: 0,
         destination: None,
@@ -173,7 +185,13 @@ fn directory(alloc: Global) -> Result<MachineSymbols, NoMemory> {
 // The machine `Node`, which a driver asks through its buffer.
 fn node(alloc: Global, sequencer: Option<Text>) -> Result<MachineSymbols, NoMemory> {
     let mut buffers = Seq::new(alloc);
-    add_buffer(alloc, &mut buffers, "mandatoryQueue", BufferPlace::Local, false)?;
+    add_buffer(
+        alloc,
+        &mut buffers,
+        "mandatoryQueue",
+        BufferPlace::Local,
+        false,
+    )?;
     let port = PortSymbol {
         name: text(alloc, "mandatory_in")?,
         buffer: 0,
