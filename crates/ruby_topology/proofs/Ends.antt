@@ -1,5 +1,5 @@
 -- What a topology is made of, and what it lacks.
-use Rattle.std.proofs.Common.{◌≡◌, ◌<◌, ◌≤◌, ◌+◌, ◌∙◌, ℕ, Bool, true, false, eqb, Option, None, Some, Result, Ok, Err, List, [], ◌∷◌, ap, refl, sym, subst, arith, length, sum, get_or, MatchOption, IfErr, IfOk, OnOk}
+use Rattle.std.proofs.Common.{◌≡◌, ◌≤◌, ◌+◌, ◌∙◌, ℕ, true, false, eqb, Option, Result, Ok, Err, List, [], ◌∷◌, ap, refl, sym, subst, arith, length, sum, get_or, MatchOption, IfErr, IfOk, OnOk}
 use Rattle.std.specs.List.{All}
 use Rattle.std.proofs.lemmas.Bool.{eqb-true}
 use Rattle.ruby_symbols.specs.declared.symbols.Symbols.{Symbols}

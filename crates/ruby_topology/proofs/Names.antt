@@ -1,5 +1,5 @@
 -- A text is a name with something after it where it begins with the name and goes on with that.
-use Rattle.std.proofs.Common.{◌≡◌, ◌<◌, ◌≤◌, ◌&&◌, ◌++◌, ◌∙◌, ℕ, Bool, true, false, eqb, List, [], ◌∷◌, length, take, drop, ap, refl, sym, arith}
+use Rattle.std.proofs.Common.{◌≡◌, ◌≤◌, ◌&&◌, ◌++◌, ◌∙◌, ℕ, true, false, eqb, List, [], ◌∷◌, length, take, drop, ap, refl, sym, arith}
 use Rattle.std.specs.Str.{bytes_eq}
 
 name_cut : (name tail text : List ℕ) → length name ≤ length text → bytes_eq (name ++ tail) text ≡ (bytes_eq name (take (length name) text) && bytes_eq tail (drop (length name) text))

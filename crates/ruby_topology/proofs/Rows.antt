@@ -1,5 +1,5 @@
 -- Rows of paths: those that are computed, and those that a search found.
-use Rattle.std.proofs.Common.{◌≡◌, ◌<◌, ◌+◌, ◌∙◌, ℕ, Option, None, Some, List, [], length, get_or, map, refl, sym, arith, MatchOption}
+use Rattle.std.proofs.Common.{◌≡◌, ◌<◌, ◌∙◌, ℕ, Option, None, Some, List, length, get_or, map, refl, arith, MatchOption}
 use Rattle.std.specs.List.{range_with_len}
 use Rattle.std.proofs.lemmas.List.FromFn.{length-map-range_with_len, get_or-map-range_with_len}
 use Rattle.ruby_topology.specs.declared.search.Mark.{Mark}

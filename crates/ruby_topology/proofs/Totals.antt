@@ -1,5 +1,5 @@
 -- How many controllers a topology has in all, and that its links and its network keep the ranges of the lines.
-use Rattle.std.proofs.Common.{◌≡◌, ◌≢◌, ◌<◌, ◌≤◌, ◌+◌, ◌*◌, ◌⊎◌, ◌∙◌, ◌++◌, ℕ, zero, suc, Bool, true, false, cond, eqb, Option, None, Some, List, [], ◌∷◌, ap, refl, sym, subst, arith, ⊎_elim, length, lit≤, map, sum, sum_by, unwrap_or, ◌||◌, option_and_then, position}
+use Rattle.std.proofs.Common.{◌≡◌, ◌≢◌, ◌<◌, ◌≤◌, ◌+◌, ◌∙◌, ℕ, zero, suc, Bool, true, false, cond, eqb, Option, None, Some, List, [], ◌∷◌, ap, refl, sym, subst, arith, ⊎_elim, length, lit≤, sum, sum_by, unwrap_or, ◌||◌, option_and_then}
 use Rattle.std.specs.List.{All, cons_option, filter_map, list_any, range_with_len}
 use Rattle.std.specs.Option.{option_or}
 use Rattle.std.proofs.lemmas.Bool.{cases_eq, eq-eqb, ne_eqb}
@@ -11,12 +11,11 @@ use Rattle.std.proofs.lemmas.List.Sums.{sum-map, sum_by-cons}
 use Rattle.ruby_symbols.specs.declared.symbols.Symbols.{Symbols}
 use Rattle.ruby_topology.specs.declared.statement.Link.{Link as LinkOf}
 use Rattle.ruby_topology.specs.declared.statement.Member.{Member}
-use Rattle.ruby_topology.specs.declared.statement.Network.{Network as NetworkOf}
 use Rattle.ruby_topology.specs.declared.statement.Network.TheVariants.{PointToPoint}
 use Rattle.ruby_topology.specs.declared.statement.Statement.{Statement}
 use Rattle.ruby_topology.specs.declared.statement.Statement.TheVariants.{Machine, Network, Link}
 use Rattle.ruby_topology.specs.Members.{count_or_none}
-use Rattle.ruby_topology.specs.Said.{controllers, count_in, count_of, counted, is_member, network_in, network_said}
+use Rattle.ruby_topology.specs.Said.{controllers, count_of, counted, is_member, network_in, network_said}
 use Rattle.ruby_topology.specs.Search.{IsBetween}
 use Rattle.ruby_topology.specs.Topology.{counts_of, link_in, links_of, members_from, members_of, network_of, number_in}
 use Rattle.ruby_topology.specs.Within.{IsNetworkWithin, IsWithin}

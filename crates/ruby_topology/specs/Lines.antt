@@ -1,7 +1,7 @@
 -- What each line of a topology says, or the least of the first four rules and the sixth that it breaks. A line is judged after the
 -- lines before it, none of which breaks a rule: so a link sees the counts and the network that were said before it, nothing is said
 -- twice, and there are never more than 64 controllers. The rules are this project's own.
-use Rattle.std.specs.Prelude.{ℕ, ◌==◌, ◌+◌, ◌*◌, ◌-◌, ◌^◌, Bool, true, false, cond, nat_le, nat_lt, Option, None, Some, Result, Ok, Err, pos, List, [], ◌∷◌, ◌++◌, length, slice_get, option_and_then}
+use Rattle.std.specs.Prelude.{ℕ, ◌==◌, ◌+◌, ◌*◌, Bool, true, false, cond, nat_lt, Option, None, Some, Result, Ok, Err, pos, List, [], ◌∷◌, ◌++◌, length, slice_get, option_and_then}
 use Rattle.std.specs.Option.{option_map}
 use Rattle.ruby_value.specs.declared.kind.Kind.{Kind}
 use Rattle.ruby_value.specs.declared.kind.Kind.TheVariants.{Int}

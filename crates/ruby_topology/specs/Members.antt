@@ -1,6 +1,6 @@
 -- The controllers of a run and their names. They are numbered from 0, machine by machine in the order of the protocol's text, and
 -- within a machine by index. A controller's name is its machine's name, `-` and its index. This numbering is this project's own.
-use Rattle.std.specs.Prelude.{ℕ, ◌+◌, ◌/◌, ◌%◌, cond, nat_lt, Option, None, Some, List, [], ◌∷◌, ◌++◌, codes, find, length, map, slice_get, unwrap_or}
+use Rattle.std.specs.Prelude.{ℕ, ◌+◌, ◌/◌, ◌%◌, cond, nat_lt, Option, None, Some, List, [], ◌∷◌, ◌++◌, find, length, slice_get, unwrap_or}
 use Rattle.std.specs.List.{range_with_len}
 use Rattle.std.specs.Option.{option_map}
 use Rattle.std.specs.Str.{bytes_eq}

@@ -1,6 +1,6 @@
 -- The steps of the search for least sums: controllers are marked with the least sum that was found so far, and settled nearest
 -- first.
-use Rattle.std.specs.Prelude.{ℕ, ◌≡◌, ◌<◌, ◌≤◌, ◌+◌, ◌*◌, ◌==◌, Bool, true, false, cond, nat_lt, min, Option, None, Some, List, [], ◌∷◌, fold, length, slice_set, MatchOption, All}
+use Rattle.std.specs.Prelude.{ℕ, ◌≡◌, ◌<◌, ◌≤◌, ◌+◌, ◌*◌, ◌==◌, Bool, true, false, cond, nat_lt, min, Option, None, Some, List, length, slice_set, MatchOption}
 use Rattle.std.specs.List.{slice_index_or}
 use Rattle.ruby_topology.specs.declared.search.Mark.{Mark}
 use Rattle.ruby_topology.specs.declared.search.Mark.TheVariants.{Unreached, Reached, Settled}

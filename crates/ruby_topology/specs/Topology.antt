@@ -1,7 +1,7 @@
 -- The topology that the lines of a file say, and why there is none. The lines say it only where none breaks a rule, each machine
 -- has a line, any two controllers have a path, and some controller can be asked by a driver. What isn't said has its default: a
 -- network `pt2pt 1`, no jitter. The form of a topology is this project's own.
-use Rattle.std.specs.Prelude.{ℕ, ◌≡◌, ◌≤◌, ◌+◌, ◌==◌, ◌&&◌, ◌||◌, All, Bool, true, false, cond, ℤ, Option, None, Some, Result, Ok, Err, List, [], ◌∷◌, ◌++◌, is_none, is_some, length, map, option_and_then, position, slice_get, unwrap_or}
+use Rattle.std.specs.Prelude.{ℕ, ◌≡◌, ◌≤◌, ◌+◌, ◌==◌, ◌&&◌, ◌||◌, All, Bool, true, false, cond, ℤ, Option, None, Some, Ok, Err, List, [], ◌∷◌, ◌++◌, is_none, is_some, length, map, option_and_then, position, slice_get, unwrap_or}
 use Rattle.std.specs.List.{enumerate_from, filter_map, list_any, range_with_len}
 use Rattle.std.specs.Option.{option_map_or}
 use Rattle.ctl_face.specs.declared.routes.Routes.{Routes}
@@ -19,7 +19,7 @@ use Rattle.ruby_topology.specs.declared.statement.Member.{Member}
 use Rattle.ruby_topology.specs.declared.statement.Network.{Network as NetworkOf}
 use Rattle.ruby_topology.specs.declared.statement.Network.TheVariants.{PointToPoint}
 use Rattle.ruby_topology.specs.declared.statement.Statement.{Statement}
-use Rattle.ruby_topology.specs.declared.statement.Statement.TheVariants.{Machine, Network, Link, Jitter, Ordered, Cache, Tbes, Set}
+use Rattle.ruby_topology.specs.declared.statement.Statement.TheVariants.{Link, Cache, Tbes, Set}
 use Rattle.ruby_topology.specs.declared.topology.Seat.{Seat}
 use Rattle.ruby_topology.specs.declared.topology.Topology.{Topology}
 use Rattle.ruby_topology.specs.Lines.{reading}

@@ -1,5 +1,5 @@
 -- The ranges of a topology's numbers, which are this project's own.
-use Rattle.std.specs.Prelude.{ℕ, ◌≤◌, ◌*◌, ℤ, pos, ◌≤ℤ◌}
+use Rattle.std.specs.Prelude.{ℕ, ◌≤◌, ◌*◌, pos, ◌≤ℤ◌}
 use Rattle.ruby_topology.specs.declared.statement.Network.{Network as NetworkOf}
 use Rattle.ruby_topology.specs.declared.statement.Network.TheVariants.{PointToPoint, Crossbar, Mesh, Links}
 use Rattle.ruby_topology.specs.declared.statement.Statement.{Statement}

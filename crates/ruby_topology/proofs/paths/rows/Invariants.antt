@@ -1,4 +1,4 @@
-use Rattle.std.proofs.Common.{◌≡◌, ◌<◌, ℕ, List, [], length, get_or}
+use Rattle.std.proofs.Common.{◌≡◌, ◌<◌, ℕ, [], length, get_or}
 use Rattle.ruby_topology.specs.Paths.{IsRow}
 use Rattle.ruby_topology.proofs.paths.rows.Given as goal
 

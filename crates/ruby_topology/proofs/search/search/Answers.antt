@@ -1,8 +1,8 @@
-use Rattle.std.proofs.Common.{◌≡◌, ◌<◌, ◌≤◌, ◌+◌, ◌∙◌, Option, None, Some, count_by, fold, length, set, sym, ap, subst, ℕ, arith}
+use Rattle.std.proofs.Common.{◌≡◌, ◌∙◌, None, Some, count_by, fold, length, set, sym, ap, subst, arith}
 use Rattle.std.proofs.lemmas.List.{with_items_is}
 use Rattle.ruby_topology.specs.declared.search.Mark.TheVariants.{Settled}
 use Rattle.ruby_topology.specs.Search.{IsNearest, is_settled, relaxed, sum_at}
-use Rattle.ruby_topology.proofs.Searches.{IsSettled, IsSound, searched, settle_keeps, settled_few}
+use Rattle.ruby_topology.proofs.Searches.{IsSound, searched, settle_keeps, settled_few}
 use Rattle.ruby_topology.proofs.search.search.Goals as goal
 
 pub settle-requires-clause-room : goal.settle-requires-clause-room

@@ -1,5 +1,5 @@
-use Rattle.std.proofs.Common.{arith, subst}
-use Rattle.ruby_topology.proofs.Texts.{NoEndBefore, line_at, lines_none}
+use Rattle.std.proofs.Common.{arith}
+use Rattle.ruby_topology.proofs.Texts.{line_at, lines_none}
 use Rattle.ruby_topology.proofs.text.first_line.Goals as goal
 
 pub returns-then-b-eq10-clause-line : goal.returns-then-b-eq10-clause-line
