@@ -1,5 +1,5 @@
 // What a machine may be, and what routes its controllers may go by.
-use ctl_face::{BufferPlace, MachineSetup, NoMemory, TableSize, has_routes, is_machine};
+use ctl_face::{BufferPlace, TableSize, has_routes, is_machine};
 use ruby_value::Kind;
 use sample_controllers::{BufferRow, MachineRow, Network, TableRow, machine, routes};
 use std::alloc::Global;
@@ -301,35 +301,16 @@ const MACHINES: &[(&str, &[TableRow], &[BufferRow], bool)] = &[
     ("two buffers from one network", &[PARAMETERS], TWICE, true),
 ];
 
-// The machine of these tables and buffers.
-fn machine_of(
-    alloc: Global,
-    tables: &'static [TableRow],
-    buffers: &'static [BufferRow],
-) -> Result<MachineSetup, NoMemory> {
-    let row = MachineRow {
-        tables,
-        buffers,
-        default_state: None,
-        has_sequencer: true,
-    };
-    machine(alloc, &row)
-}
-
-fn may_be_machine(
-    alloc: Global,
-    tables: &'static [TableRow],
-    buffers: &'static [BufferRow],
-) -> Result<bool, NoMemory> {
-    let m = machine_of(alloc, tables, buffers)?;
-    Ok(is_machine(&m))
-}
-
 #[test]
 fn a_machine_is_within_its_limits(rt: HostRuntime) -> Result<(), Fail> {
     for (name, tables, buffers, may_be) in MACHINES {
-        let answer = may_be_machine(rt.alloc(), *tables, *buffers)?;
-        assert_eq!(rt; answer, *may_be, "{name}");
+        let row = MachineRow {
+            tables: *tables,
+            buffers: *buffers,
+            ..CACHES
+        };
+        let m = machine(rt.alloc(), &row)?;
+        assert_eq!(rt; is_machine(&m), *may_be, "{name}");
     }
     Ok(())
 }
@@ -353,55 +334,34 @@ const FIRST_TWICE: Receiving = &[None, Some(0)];
 
 const SECOND_TWICE: Receiving = &[None, Some(1)];
 
-// The machine of a controller.
-#[derive(Clone, Copy)]
-enum Setup {
-    Caches,
-    Directories,
-    TwoFromOne,
-}
+const CACHES: MachineRow = MachineRow {
+    tables: &[CACHE, PARAMETERS],
+    buffers: CACHE_BUFFERS,
+    default_state: None,
+    has_sequencer: true,
+};
 
-fn tables_of(setup: Setup) -> &'static [TableRow] {
-    match setup {
-        Setup::Caches => &[CACHE, PARAMETERS],
-        Setup::Directories => &[DIRECTORY, PARAMETERS],
-        Setup::TwoFromOne => &[PARAMETERS],
-    }
-}
+const DIRECTORIES: MachineRow = MachineRow {
+    tables: &[DIRECTORY, PARAMETERS],
+    buffers: DIRECTORY_BUFFERS,
+    ..CACHES
+};
 
-fn buffers_of(setup: Setup) -> &'static [BufferRow] {
-    match setup {
-        Setup::Caches => CACHE_BUFFERS,
-        Setup::Directories => DIRECTORY_BUFFERS,
-        Setup::TwoFromOne => TWICE,
-    }
-}
+const TWO_FROM_ONE: MachineRow = MachineRow {
+    tables: &[PARAMETERS],
+    buffers: TWICE,
+    ..CACHES
+};
 
 // Of the routes between two caches, which are controllers 0 and 1, and a directory: the machine and the number of the controller that is to go
 // by them, its path to itself, each other path, the jitter, whether network 1 keeps order, what takes messages at the controller, and whether
 // its acts may go by them.
-const ROUTES: &[(&str, Setup, u32, [u64; 3], bool, Receiving, bool)] = &[
-    (
-        "first cache",
-        Setup::Caches,
-        0,
-        [0, 4, 3],
-        true,
-        AT_CACHE,
-        true,
-    ),
-    (
-        "second cache",
-        Setup::Caches,
-        1,
-        [0, 4, 3],
-        true,
-        AT_CACHE,
-        true,
-    ),
+const ROUTES: &[(&str, MachineRow, u32, [u64; 3], bool, Receiving, bool)] = &[
+    ("first cache", CACHES, 0, [0, 4, 3], true, AT_CACHE, true),
+    ("second cache", CACHES, 1, [0, 4, 3], true, AT_CACHE, true),
     (
         "directory",
-        Setup::Directories,
+        DIRECTORIES,
         2,
         [0, 4, 3],
         true,
@@ -410,34 +370,18 @@ const ROUTES: &[(&str, Setup, u32, [u64; 3], bool, Receiving, bool)] = &[
     ),
     (
         "no jitter",
-        Setup::Directories,
+        DIRECTORIES,
         2,
         [0, 4, 0],
         true,
         AT_DIRECTORY,
         true,
     ),
-    (
-        "most",
-        Setup::Caches,
-        0,
-        [0, 126_000, 1000],
-        true,
-        AT_CACHE,
-        true,
-    ),
-    (
-        "own path",
-        Setup::Caches,
-        0,
-        [7, 4, 3],
-        true,
-        AT_CACHE,
-        false,
-    ),
+    ("most", CACHES, 0, [0, 126_000, 1000], true, AT_CACHE, true),
+    ("own path", CACHES, 0, [7, 4, 3], true, AT_CACHE, false),
     (
         "long path",
-        Setup::Caches,
+        CACHES,
         0,
         [0, 126_001, 3],
         true,
@@ -446,7 +390,7 @@ const ROUTES: &[(&str, Setup, u32, [u64; 3], bool, Receiving, bool)] = &[
     ),
     (
         "more jitter",
-        Setup::Caches,
+        CACHES,
         0,
         [0, 4, 1001],
         true,
@@ -455,7 +399,7 @@ const ROUTES: &[(&str, Setup, u32, [u64; 3], bool, Receiving, bool)] = &[
     ),
     (
         "a buffer from it is ordered",
-        Setup::Caches,
+        CACHES,
         0,
         [0, 4, 3],
         false,
@@ -464,25 +408,17 @@ const ROUTES: &[(&str, Setup, u32, [u64; 3], bool, Receiving, bool)] = &[
     ),
     (
         "a buffer to it is ordered",
-        Setup::Directories,
+        DIRECTORIES,
         2,
         [0, 4, 3],
         false,
         AT_DIRECTORY,
         false,
     ),
-    (
-        "none named",
-        Setup::Caches,
-        1,
-        [0, 4, 3],
-        true,
-        NOWHERE,
-        false,
-    ),
+    ("none named", CACHES, 1, [0, 4, 3], true, NOWHERE, false),
     (
         "one unnamed",
-        Setup::Directories,
+        DIRECTORIES,
         2,
         [0, 4, 3],
         true,
@@ -491,7 +427,7 @@ const ROUTES: &[(&str, Setup, u32, [u64; 3], bool, Receiving, bool)] = &[
     ),
     (
         "from another network",
-        Setup::Caches,
+        CACHES,
         0,
         [0, 4, 3],
         true,
@@ -500,7 +436,7 @@ const ROUTES: &[(&str, Setup, u32, [u64; 3], bool, Receiving, bool)] = &[
     ),
     (
         "to a network",
-        Setup::Caches,
+        CACHES,
         1,
         [0, 4, 3],
         true,
@@ -509,7 +445,7 @@ const ROUTES: &[(&str, Setup, u32, [u64; 3], bool, Receiving, bool)] = &[
     ),
     (
         "those of a cache",
-        Setup::Directories,
+        DIRECTORIES,
         2,
         [0, 4, 3],
         true,
@@ -518,7 +454,7 @@ const ROUTES: &[(&str, Setup, u32, [u64; 3], bool, Receiving, bool)] = &[
     ),
     (
         "first of two",
-        Setup::TwoFromOne,
+        TWO_FROM_ONE,
         0,
         [0, 4, 3],
         true,
@@ -527,7 +463,7 @@ const ROUTES: &[(&str, Setup, u32, [u64; 3], bool, Receiving, bool)] = &[
     ),
     (
         "second of two",
-        Setup::TwoFromOne,
+        TWO_FROM_ONE,
         0,
         [0, 4, 3],
         true,
@@ -539,12 +475,12 @@ const ROUTES: &[(&str, Setup, u32, [u64; 3], bool, Receiving, bool)] = &[
 // Whether the acts of a controller of the machine may go by such routes.
 fn may_go_by(
     alloc: Global,
-    setup: Setup,
+    row: &MachineRow,
     me: u32,
     [own_path, path, jitter]: [u64; 3],
     in_order: bool,
     at_me: Receiving,
-) -> Result<bool, NoMemory> {
+) -> Result<bool, Fail> {
     let mut receiving = [AT_CACHE, AT_CACHE, AT_DIRECTORY];
     if let Some(buffers) = receiving.get_mut(me as usize) {
         *buffers = at_me;
@@ -555,15 +491,15 @@ fn may_go_by(
         jitter,
         in_order,
     };
+    let m = machine(alloc, row)?;
     let routes = routes(alloc, &network, &receiving)?;
-    let m = machine_of(alloc, tables_of(setup), buffers_of(setup))?;
     Ok(has_routes(&m, me, &routes))
 }
 
 #[test]
 fn acts_go_by_routes_that_fit_the_machine(rt: HostRuntime) -> Result<(), Fail> {
-    for (name, setup, me, lengths, in_order, at_me, fit) in ROUTES {
-        let answer = may_go_by(rt.alloc(), *setup, *me, *lengths, *in_order, *at_me)?;
+    for (name, row, me, lengths, in_order, at_me, fit) in ROUTES {
+        let answer = may_go_by(rt.alloc(), row, *me, *lengths, *in_order, *at_me)?;
         assert_eq!(rt; answer, *fit, "{name}");
     }
     Ok(())
