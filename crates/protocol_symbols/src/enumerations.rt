@@ -6,6 +6,7 @@ ghost use Rattle.slicc_ast.specs.declared.tree.declaration.State.{State as State
 ghost use Rattle.slicc_ast.specs.declared.tree.declaration.Symbol.{Symbol as SymbolRecord};
 ghost use Rattle.slicc_ast.specs.declared.tree.machine.Machine.{Machine as MachineRecord};
 ghost use Rattle.slicc_plan.specs.BuiltIn.{members_of};
+ghost use Rattle.slicc_plan.specs.Declarations.{machines_of};
 ghost use Rattle.slicc_plan.specs.SymbolsOfTypes.{built_in_symbols, enumeration_symbol, enumeration_symbols, owner};
 ghost use Rattle.built_ins.specs.Types.{texts_of};
 ghost use Rattle.declared_types.specs.Lent.{scope_of};
@@ -26,10 +27,12 @@ fn machine_place(machines: &[&Machine], name: &[u8]) -> Option<usize>
     machines.iter().position(|m| m.name.text.as_slice() == name)
 }
 
-fn machine_number(machines: &[&Machine], name: &[u8]) -> Option<usize>
-    ensures { result ≡ position (λ (m : MachineRecord). bytes_eq m.name.text name.now) (map (λ m. m.now) machines.now) }
+// The number of the first machine of this name.
+fn machine_number(types: &TypeNumbers<'_>, name: &[u8]) -> Option<usize>
+    requires { AreNumbered types.now }
+    ensures { result ≡ position (λ (m : MachineRecord). bytes_eq m.name.text name.now) (machines_of (trees_of types.now)) }
 {
-    machine_place(machines, name)
+    machine_place(&types.machines, name)
 }
 
 /// The number of the machine that a declaration is made in, if it is made in one.
@@ -39,7 +42,7 @@ pub fn owner(types: &TypeNumbers<'_>, scope: Scope<'_>) -> Result<Option<u16>, N
 {
     match scope {
         Scope::Everywhere => Ok(None),
-        Scope::Within(m) => kept(machine_number(&types.machines, &m.name.text)),
+        Scope::Within(m) => kept(machine_number(types, &m.name.text)),
     }
 }
 
