@@ -6,7 +6,7 @@ ghost use Rattle.slicc_ast.specs.declared.tree.declaration.State.{State as State
 ghost use Rattle.slicc_ast.specs.declared.tree.declaration.Symbol.{Symbol as SymbolRecord};
 ghost use Rattle.slicc_ast.specs.declared.tree.machine.Machine.{Machine as MachineRecord};
 ghost use Rattle.slicc_plan.specs.BuiltIn.{members_of};
-ghost use Rattle.slicc_plan.specs.Declarations.{machines_of};
+ghost use Rattle.slicc_plan.specs.Declarations.{machine_names, machines_of};
 ghost use Rattle.slicc_plan.specs.SymbolsOfTypes.{built_in_symbols, enumeration_symbol, enumeration_symbols, owner};
 ghost use Rattle.built_ins.specs.Types.{texts_of};
 ghost use Rattle.declared_types.specs.Lent.{scope_of};
@@ -114,25 +114,31 @@ fn fixed_enumeration(
     with_members(alloc, name, None, members, 0)
 }
 
-fn machine_type(alloc: Global, machines: &[&Machine]) -> Result<EnumerationSymbol, NoMemory>
-    ensures { IfOk result (λ e. e ≡ record { name = codes "MachineType"; machine = None; members = map (λ (m : MachineRecord). m.name.text) (map (λ m. m.now) machines.now); default = 0 }) }
+fn machine_texts_of(alloc: Global, types: &TypeNumbers<'_>) -> Result<Seq<Text>, NoMemory>
+    requires { AreNumbered types.now }
+    ensures { IfOk result (λ list. list ≡ machine_names (trees_of types.now)) }
 {
-    let members = machine_texts(alloc, machines)?;
+    machine_texts(alloc, &types.machines)
+}
+
+fn machine_type(alloc: Global, types: &TypeNumbers<'_>) -> Result<EnumerationSymbol, NoMemory>
+    requires { AreNumbered types.now }
+    ensures { IfOk result (λ e. e ≡ record { name = codes "MachineType"; machine = None; members = machine_names (trees_of types.now); default = 0 }) }
+{
+    let members = machine_texts_of(alloc, types)?;
     with_members(alloc, b"MachineType", None, members, 0)
 }
 
-fn add_built_ins(
-    alloc: Global,
-    list: &mut Seq<EnumerationSymbol>,
-    types: &TypeNumbers<'_>,
-) -> Result<(), NoMemory>
+fn built_ins(alloc: Global, types: &TypeNumbers<'_>) -> Result<Seq<EnumerationSymbol>, NoMemory>
     requires { AreNumbered types.now }
-    ensures { OnOk result (list.new ≡ list.old ++ built_in_symbols (trees_of types.now)) }
+    ensures { IfOk result (λ list. list ≡ built_in_symbols (trees_of types.now)) }
 {
-    list.push(machine_type(alloc, &types.machines)?)?;
+    let mut list = Seq::new(alloc);
+    list.push(machine_type(alloc, types)?)?;
     list.push(fixed_enumeration(alloc, b"AccessPermission", BuiltInType::AccessPermission)?)?;
     list.push(fixed_enumeration(alloc, b"RubyRequestType", BuiltInType::RequestType)?)?;
-    list.push(fixed_enumeration(alloc, b"MessageSizeType", BuiltInType::MessageSize)?)
+    list.push(fixed_enumeration(alloc, b"MessageSizeType", BuiltInType::MessageSize)?)?;
+    Ok(list)
 }
 
 fn of_symbols(
@@ -207,8 +213,7 @@ pub fn enumeration_symbols(
     requires { AreNumbered types.now }
     ensures { IfOk result (λ list. list ≡ enumeration_symbols (trees_of types.now)) }
 {
-    let mut list = Seq::new(alloc);
-    add_built_ins(alloc, &mut list, types)?;
+    let mut list = built_ins(alloc, types)?;
     add_enumerations(alloc, &mut list, types, &types.enumerations)?;
     Ok(list)
 }

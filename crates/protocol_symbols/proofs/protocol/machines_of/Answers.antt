@@ -1,4 +1,4 @@
-use Rattle.std.proofs.Common.{Bor, ◌++◌, ◌∷◌, [], ◌∙◌, ap, map, sym}
+use Rattle.std.proofs.Common.{Bor, ◌++◌, ◌∷◌, [], ◌∙◌, ap, map, sym, take}
 use Rattle.std.proofs.lemmas.List.{take_all}
 use Rattle.slicc_ast.specs.declared.tree.machine.Machine.{Machine}
 use Rattle.slicc_plan.specs.SymbolsOf.{machines_from}
