@@ -35,6 +35,13 @@ fn machine_number(types: &TypeNumbers<'_>, name: &[u8]) -> Option<usize>
     machine_place(&types.machines, name)
 }
 
+fn owner_within(types: &TypeNumbers<'_>, m: &Machine) -> Result<Option<u16>, NoMemory>
+    requires { AreNumbered types.now }
+    ensures { IfOk result (λ number. number ≡ position (λ (n : MachineRecord). bytes_eq n.name.text m.now.name.text) (machines_of (trees_of types.now))) }
+{
+    kept(machine_number(types, &m.name.text))
+}
+
 /// The number of the machine that a declaration is made in, if it is made in one.
 pub fn owner(types: &TypeNumbers<'_>, scope: Scope<'_>) -> Result<Option<u16>, NoMemory>
     requires { AreNumbered types.now }
@@ -42,7 +49,7 @@ pub fn owner(types: &TypeNumbers<'_>, scope: Scope<'_>) -> Result<Option<u16>, N
 {
     match scope {
         Scope::Everywhere => Ok(None),
-        Scope::Within(m) => kept(machine_number(types, &m.name.text)),
+        Scope::Within(m) => owner_within(types, m),
     }
 }
 
