@@ -7,7 +7,8 @@ ghost use Rattle.ctl_face.specs.Callback.{read_back, write_back, block_after_wri
 ghost use Rattle.ctl_face.specs.Deallocate.{deallocate};
 ghost use Rattle.ctl_face.specs.Does.{Does, DoesWith, Reads};
 ghost use Rattle.ctl_face.specs.Enqueue.{enqueue};
-ghost use Rattle.ctl_face.specs.Fits.{IsLawful, IsLine};
+ghost use Rattle.ctl_face.specs.Fits.{IsLawful};
+ghost use Rattle.ruby_value.specs.Lines.{IsLine};
 ghost use Rattle.ctl_face.specs.Free.{free};
 ghost use Rattle.ctl_face.specs.Get.{get};
 ghost use Rattle.ctl_face.specs.LocalView.{LocalView};
@@ -33,8 +34,7 @@ use ruby_value::{Block, Fields, MachineSetup, Message, Ref, Value};
 /// A call that changes it `Does` what the definition of its name has, and a call that only reads answers what its definition
 /// has; `send` is the definition `enqueue`. A fault comes exactly where that definition has it, unless there was no memory.
 /// After a fault or want of memory the local is as it was. A call that can't answer want of memory takes none. What always
-/// holds is the law `lawful`, which says that each local is lawful, and not by which proof; a run's locals go by routes that fit
-/// the whole run besides. Which words the faults are is this project's own.
+/// holds is the law `lawful`, which says that each local is lawful; a run's locals go by routes that fit the whole run besides. Which words the faults are is this project's own.
 pub trait Local {
     ghost view: { Self → LocalView };
 
@@ -195,5 +195,5 @@ pub trait Local {
     fn again(&mut self) -> Result<(), Trouble>
         ensures { Does (Ok (again (view self.old))) result (view self.old) (view self.new) };
 
-    ghost lawful: { (l : Self) → ∥ IsLawful (view l) ∥₁ };
+    ghost lawful: { (l : Self) → IsLawful (view l) };
 }

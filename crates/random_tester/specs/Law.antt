@@ -14,12 +14,13 @@ use Rattle.ruby_value.specs.declared.fault.Finding.{Finding}
 use Rattle.ruby_value.specs.declared.fault.Finding.TheVariants.{Deadlock}
 use Rattle.ruby_value.proofs.Contained.{Contains-cons_here, Contains-cons_there}
 use Rattle.sequencer.specs.Drive.{CanIssue, CanIssueOne, CanTake, Drive, IsFindingAt, IsLawful, after_taking}
-use Rattle.sequencer.specs.Requests.{IsLine, IsRequest, Requests, first_of}
+use Rattle.ruby_value.specs.Lines.{IsLine}
+use Rattle.ruby_value.specs.Requests.{IsRequest, Requests, first_of}
 use Rattle.sequencer.specs.Seats.{FitSeats, FitsSeat, Seat, Seating, controller_at, first_answer_at, outstanding_at, with_seats, without_answer_at}
 use Rattle.sequencer.proofs.FitsByLine.{by_line-fits}
 use Rattle.random_tester.specs.declared.slot.Slot.{Slot}
 use Rattle.random_tester.specs.Answers.{from, none-at, taken-at}
-use Rattle.random_tester.specs.SeatsAfter.{controllers, controllers-kept, fit-after, length-kept, length-of-one}
+use Rattle.sequencer.proofs.SeatsAfter.{controllers, controllers-kept, fit-after, length-kept, length-of-one}
 use Rattle.random_tester.specs.Slot.{first_difference, fresh_slot, request_of}
 use Rattle.random_tester.specs.State.{State, drawn_on, made, opening, with_slot}
 use Rattle.random_tester.specs.Took.{took-none, took-on, took-stop}

@@ -3,9 +3,9 @@ pub mod Callbacks
 pub mod Drive
 pub mod Kept
 pub mod Outstanding
+pub mod OwnedSeats
 pub mod Place
 pub mod PlainDriver
 pub mod PlainLaw
 pub mod Reads
-pub mod Requests
 pub mod Seats

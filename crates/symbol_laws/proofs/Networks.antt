@@ -10,7 +10,8 @@ use Rattle.slicc_plan.specs.AllRules.{IsAccepted}
 use Rattle.slicc_plan.specs.Buffers.{BufferIn, Place, own, to_network, from_network, buffer_in}
 use Rattle.slicc_plan.specs.Declarations.{Declaration, within, machine_declarations, machines_of}
 use Rattle.slicc_plan.specs.MessageTypes.{message_type, network_type, type_at}
-use Rattle.slicc_plan.specs.Setups.{attributes_of, buffer_place, network_of}
+use Rattle.slicc_plan.specs.Setups.{attributes_of, buffer_place}
+use Rattle.ruby_value.specs.NetworkOf.{network_of}
 use Rattle.slicc_plan.specs.SymbolsOf.{symbols_of}
 use Rattle.slicc_plan.specs.SymbolsOfMachines.{buffer_of_place, buffer_symbol, machine_symbols}
 use Rattle.slicc_plan.specs.TypeNumbers.{structure_number}
