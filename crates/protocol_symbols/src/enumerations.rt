@@ -6,6 +6,7 @@ ghost use Rattle.slicc_ast.specs.declared.tree.declaration.State.{State as State
 ghost use Rattle.slicc_ast.specs.declared.tree.declaration.Symbol.{Symbol as SymbolRecord};
 ghost use Rattle.slicc_ast.specs.declared.tree.machine.Machine.{Machine as MachineRecord};
 ghost use Rattle.slicc_plan.specs.BuiltIn.{members_of};
+ghost use Rattle.slicc_plan.specs.Declarations.{machine_names, machines_of};
 ghost use Rattle.slicc_plan.specs.SymbolsOfTypes.{built_in_symbols, enumeration_symbol, enumeration_symbols, owner};
 ghost use Rattle.built_ins.specs.Types.{texts_of};
 ghost use Rattle.declared_types.specs.Lent.{scope_of};
@@ -26,10 +27,19 @@ fn machine_place(machines: &[&Machine], name: &[u8]) -> Option<usize>
     machines.iter().position(|m| m.name.text.as_slice() == name)
 }
 
-fn machine_number(machines: &[&Machine], name: &[u8]) -> Option<usize>
-    ensures { result ≡ position (λ (m : MachineRecord). bytes_eq m.name.text name.now) (map (λ m. m.now) machines.now) }
+// The number of the first machine of this name.
+fn machine_number(types: &TypeNumbers<'_>, name: &[u8]) -> Option<usize>
+    requires { AreNumbered types.now }
+    ensures { result ≡ position (λ (m : MachineRecord). bytes_eq m.name.text name.now) (machines_of (trees_of types.now)) }
 {
-    machine_place(machines, name)
+    machine_place(&types.machines, name)
+}
+
+fn owner_within(types: &TypeNumbers<'_>, m: &Machine) -> Result<Option<u16>, NoMemory>
+    requires { AreNumbered types.now }
+    ensures { IfOk result (λ number. number ≡ position (λ (n : MachineRecord). bytes_eq n.name.text m.now.name.text) (machines_of (trees_of types.now))) }
+{
+    kept(machine_number(types, &m.name.text))
 }
 
 /// The number of the machine that a declaration is made in, if it is made in one.
@@ -39,7 +49,7 @@ pub fn owner(types: &TypeNumbers<'_>, scope: Scope<'_>) -> Result<Option<u16>, N
 {
     match scope {
         Scope::Everywhere => Ok(None),
-        Scope::Within(m) => kept(machine_number(&types.machines, &m.name.text)),
+        Scope::Within(m) => owner_within(types, m),
     }
 }
 
@@ -111,25 +121,31 @@ fn fixed_enumeration(
     with_members(alloc, name, None, members, 0)
 }
 
-fn machine_type(alloc: Global, machines: &[&Machine]) -> Result<EnumerationSymbol, NoMemory>
-    ensures { IfOk result (λ e. e ≡ record { name = codes "MachineType"; machine = None; members = map (λ (m : MachineRecord). m.name.text) (map (λ m. m.now) machines.now); default = 0 }) }
+fn machine_texts_of(alloc: Global, types: &TypeNumbers<'_>) -> Result<Seq<Text>, NoMemory>
+    requires { AreNumbered types.now }
+    ensures { IfOk result (λ list. list ≡ machine_names (trees_of types.now)) }
 {
-    let members = machine_texts(alloc, machines)?;
+    machine_texts(alloc, &types.machines)
+}
+
+fn machine_type(alloc: Global, types: &TypeNumbers<'_>) -> Result<EnumerationSymbol, NoMemory>
+    requires { AreNumbered types.now }
+    ensures { IfOk result (λ e. e ≡ record { name = codes "MachineType"; machine = None; members = machine_names (trees_of types.now); default = 0 }) }
+{
+    let members = machine_texts_of(alloc, types)?;
     with_members(alloc, b"MachineType", None, members, 0)
 }
 
-fn add_built_ins(
-    alloc: Global,
-    list: &mut Seq<EnumerationSymbol>,
-    types: &TypeNumbers<'_>,
-) -> Result<(), NoMemory>
+fn built_ins(alloc: Global, types: &TypeNumbers<'_>) -> Result<Seq<EnumerationSymbol>, NoMemory>
     requires { AreNumbered types.now }
-    ensures { OnOk result (list.new ≡ list.old ++ built_in_symbols (trees_of types.now)) }
+    ensures { IfOk result (λ list. list ≡ built_in_symbols (trees_of types.now)) }
 {
-    list.push(machine_type(alloc, &types.machines)?)?;
+    let mut list = Seq::new(alloc);
+    list.push(machine_type(alloc, types)?)?;
     list.push(fixed_enumeration(alloc, b"AccessPermission", BuiltInType::AccessPermission)?)?;
     list.push(fixed_enumeration(alloc, b"RubyRequestType", BuiltInType::RequestType)?)?;
-    list.push(fixed_enumeration(alloc, b"MessageSizeType", BuiltInType::MessageSize)?)
+    list.push(fixed_enumeration(alloc, b"MessageSizeType", BuiltInType::MessageSize)?)?;
+    Ok(list)
 }
 
 fn of_symbols(
@@ -204,8 +220,7 @@ pub fn enumeration_symbols(
     requires { AreNumbered types.now }
     ensures { IfOk result (λ list. list ≡ enumeration_symbols (trees_of types.now)) }
 {
-    let mut list = Seq::new(alloc);
-    add_built_ins(alloc, &mut list, types)?;
+    let mut list = built_ins(alloc, types)?;
     add_enumerations(alloc, &mut list, types, &types.enumerations)?;
     Ok(list)
 }

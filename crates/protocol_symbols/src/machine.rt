@@ -1,6 +1,8 @@
 //! A machine of a protocol as symbols.
 ghost use Rattle.std.specs.Prelude.{◌≡◌, ℕ, IfOk, List, map};
 ghost use Rattle.ruby_symbols.specs.Names.{action_among, function_among};
+ghost use Rattle.slicc_ast.specs.declared.tree.item.Tree.{Tree as TreeRecord};
+ghost use Rattle.slicc_ast.specs.declared.tree.machine.Machine.{Machine as MachineRecord};
 ghost use Rattle.slicc_plan.specs.Declarations.{machine_declarations};
 ghost use Rattle.slicc_plan.specs.Limits.{is_events, is_states};
 ghost use Rattle.slicc_plan.specs.MachineValues.{references_of, values_of};
@@ -180,11 +182,11 @@ fn together(numbers: Numbers, objects: Objects, bodies: Bodies, rest: Rest) -> M
         → AreObjects trees number m objects → AreBodies trees m (buffer_symbols trees number m) bodies → AreRest trees m rest
         → result ≡ machine_symbols trees number m }
 {
+    let get_state = function_among(&bodies.functions, b"getState");
+    let set_state = function_among(&bodies.functions, b"setState");
+    let set_permission = function_among(&bodies.functions, b"setAccessPermission");
+    let stall = action_among(&bodies.actions, b"z_stall");
     MachineSymbols {
-        get_state: function_among(&bodies.functions, b"getState"),
-        set_state: function_among(&bodies.functions, b"setState"),
-        set_permission: function_among(&bodies.functions, b"setAccessPermission"),
-        stall: action_among(&bodies.actions, b"z_stall"),
         name: rest.name,
         states: numbers.states,
         permissions: rest.permissions,
@@ -202,6 +204,10 @@ fn together(numbers: Numbers, objects: Objects, bodies: Bodies, rest: Rest) -> M
         entry: numbers.entry,
         directory: numbers.directory,
         tbe: numbers.tbe,
+        get_state,
+        set_state,
+        set_permission,
+        stall,
     }
 }
 

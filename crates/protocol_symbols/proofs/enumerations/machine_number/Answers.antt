@@ -1,4 +1,5 @@
-use Rattle.std.proofs.Common.{Bor, sym, ◌∙◌}
+use Rattle.std.proofs.Common.{Bor, ap, sym, ◌∙◌}
+use Rattle.std.specs.Prelude.{position}
 use Rattle.std.specs.Str.{bytes_eq}
 use Rattle.slicc_ast.specs.declared.tree.machine.Machine.{Machine}
 use Rattle.type_numbers.proofs.Lists.{position_map}
@@ -7,4 +8,6 @@ use Rattle.protocol_symbols.proofs.enumerations.machine_number.Goals as goal
 pub returns : goal.returns
 returns c =
     c.machine_place.ensures
-    ∙ sym (position_map (λ (m : Machine). bytes_eq m.name.text c.args.name.now) (λ (m : Bor Machine). m.now) c.args.machines.now)
+    ∙ ap (position (λ (m : Bor Machine). bytes_eq m.now.name.text c.args.name.now)) c.deref.ensures
+    ∙ sym (position_map (λ (m : Machine). bytes_eq m.name.text c.args.name.now) (λ (m : Bor Machine). m.now) c.args.types.now.machines)
+    ∙ ap (position (λ (m : Machine). bytes_eq m.name.text c.args.name.now)) c.requires.machines

@@ -1,4 +1,4 @@
-use Rattle.std.proofs.Common.{Bor, ◌++◌, ◌∷◌, [], ◌∙◌, ap, map, sym}
+use Rattle.std.proofs.Common.{Bor, ◌++◌, ◌∷◌, [], ◌∙◌, ap, map, sym, take}
 use Rattle.std.proofs.lemmas.List.{take_all}
 use Rattle.slicc_ast.specs.declared.tree.machine.Machine.{Machine}
 use Rattle.slicc_plan.specs.SymbolsOf.{machines_from}
@@ -12,8 +12,8 @@ loop-number-preserved c =
     let trees = trees_of c.args.types.now in
     let m = c.index-machines-number.result in
     c.in_ok-push.ensures.ok
-    ∙ ap (λ xs. xs ++ c.in_ok-machine_symbols.value ∷ []) c.loop-number.invariant
-    ∙ ap (λ s. machines_from trees 0 (map (λ m. m.now) (take c.loop-number.number c.args.machines.now)) ++ s ∷ []) c.in_ok-machine_symbols.ensures
+    ∙ ap (λ xs. xs ++ c.in_ok-machine_symbols.field-0 ∷ []) c.loop-number.invariant
+    ∙ ap (λ s. machines_from trees 0 (map (λ m. m.now) (take c.loop-number.number c.args.machines.now)) ++ s ∷ []) (c.in_ok-machine_symbols.ensures ∙ ap (λ k. machine_symbols trees k m.now) c.in_ok-kept.ensures)
     ∙ sym (machines_step (λ m. m.now) trees c.args.machines.now c.loop-number.number m c.loop-number-test.true c.index-machines-number.is)
 
 pub returns : goal.returns
