@@ -1,5 +1,5 @@
 -- Ranges that follow on one another: each number below the free one is in one of them, and in no other.
-use Rattle.std.proofs.Common.{◌≡◌, ◌<◌, ◌≤◌, ◌+◌, ◌&&◌, ◌↔◌, ◌⊎◌, ℕ, zero, suc, Bool, true, false, cond, List, [], ◌∷◌, Option, None, Some, IsSomeAnd, inl, inr, ⊎_elim, length, refl, sym, ap, subst, ◌∙◌, arith, nat_le, nat_lt, position, get_or, slice_get}
+use Rattle.std.proofs.Common.{◌≡◌, ◌<◌, ◌≤◌, ◌+◌, ◌&&◌, ◌↔◌, ◌⊎◌, ℕ, zero, suc, Bool, true, false, cond, List, [], ◌∷◌, Option, None, Some, IsSome, IsSomeAnd, inl, inr, ⊎_elim, length, refl, sym, ap, subst, ◌∙◌, arith, nat_le, nat_lt, position, get_or, slice_get}
 use Rattle.std.proofs.lemmas.Bool.{and_from, and_parts, cases_lt, cond-true, le-leb, leb-true, lt-ltb, ltb-true}
 use Rattle.std.proofs.lemmas.List.Quantifiers.{position-Some}
 use Rattle.std.proofs.lemmas.List.Sums.{fails_before_first, passes_at_first}
@@ -61,7 +61,7 @@ pub some-range : (first free : ℕ) (ranges : List (ℕ × ℕ)) (c : ℕ) → A
 some-range first free [] c is above below = absurd (omega (arith, is))
 some-range first free (r ∷ ranges) c is above below =
     ⊎_elim
-    (λ here. (0, (let same = is.0 in omega arith), (let same = is.0 in omega arith)))
+    (λ here. (0, ((let same = is.0 in omega arith), (let same = is.0 in omega arith))))
     (λ later. let rest = some-range (first + r.1) free ranges c is.2 later below in (suc rest.0, rest.1))
     (cases_lt c (first + r.1))
 
@@ -84,3 +84,16 @@ machine-is first free ranges c k is here =
     let found : machine_of ranges c ≡ Some i = cond-true (nat_lt i (length ranges)) (Some i) None (lt-ltb i (length ranges) inside) in
     found ∙ ap (λ (n : ℕ). Some n) (one-range first free ranges i k c is (machine-says ranges c i found) here))
     (cases_lt k i)
+
+pub machine-found : (total : ℕ) (ranges : List (ℕ × ℕ)) (k c : ℕ) → AreNumbered 0 total ranges → (machine_of ranges c ≡ Some k) ↔ IsOfMachine ranges k c
+machine-found total ranges k c is = (machine-says ranges c k, machine-is 0 total ranges c k is)
+
+pub machine-there : (total : ℕ) (ranges : List (ℕ × ℕ)) (c : ℕ) → AreNumbered 0 total ranges → IsSome (machine_of ranges c) ↔ (c < total)
+machine-there total ranges c is = (λ some. says (machine_of ranges c) refl some, λ below. there (some-range 0 total ranges c is (omega arith) below))
+  where
+    says : (o : Option ℕ) → machine_of ranges c ≡ o → IsSome o → c < total
+    says None found none = absurd (cc none)
+    says (Some k) found some = below-free 0 total ranges k c is (machine-says ranges c k found)
+
+    there : (k : ℕ) × IsOfMachine ranges k c → IsSome (machine_of ranges c)
+    there (k, here) = subst (λ (o : Option ℕ). IsSome o) (sym (machine-is 0 total ranges c k is here)) refl
