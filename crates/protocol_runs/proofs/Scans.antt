@@ -120,10 +120,10 @@ module _ {D : Type 0} (p : Meaning) (drive : D → List Seat → ℕ → own.Dri
       same : SameScan V w
       same = left_scan V w left
 
-      left-fits : Fits fit.setup c (with_one_fired w.ctl) now
+      pub left-fits : Fits fit.setup c (with_one_fired w.ctl) now
       left-fits = let after = left_lawful V w left lawful in fired_keeps fit.setup c now w.ctl (fits-still V w same after.scan.fits)
 
-      left-awake : has_mark w.ctl.mail.marks now ≡ has_mark x.mail.marks now
+      pub left-awake : has_mark w.ctl.mail.marks now ≡ has_mark x.mail.marks now
       left-awake = let marks = left_marks V w left in marks.none_due now (omega arith)
 
       mailed-left : HasMailed w

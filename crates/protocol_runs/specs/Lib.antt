@@ -5,5 +5,4 @@ pub mod Requests
 pub mod Turn
 pub mod Rules
 pub mod IsSetting
-pub mod IsDriver
 pub mod Kept
