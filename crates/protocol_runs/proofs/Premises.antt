@@ -121,14 +121,13 @@ module _ {D : Type 0} (p : Meaning) (drive : D → List Seat → ℕ → own.Dri
 
     fires-keeps : (acts : Acts) (copies : List (Delivery Message)) (after : Ctl) → IsFired (begun p drive least s is c fit.setup x now) acts copies after
         → Keeps c now x (with_one_fired after) × runs.AllSuit R (FitsRun s) (SuitsReceiver s) (HasSeats s least) now copies
-    fires-keeps acts copies after f =
-        (
-          keeps (with_one_fired after)
+    fires-keeps acts copies after f = (
+      keeps (with_one_fired after)
           (subst (λ (y : Ctl). Fits fit.setup c (with_one_fired y) now) (sym f.after_is) (left-fits p drive least s is c x now fit f.local f.left))
           (ap (λ (y : Ctl). has_mark y.mail.marks now) f.after_is ∙ left-awake p drive least s is c x now fit f.local f.left),
-          subst (λ (ds : List (Delivery Message)). All (λ (d : Delivery Message). SuitsReceiver s d.receiver d.message now) ds) (sym f.copies_are)
+      subst (λ (ds : List (Delivery Message)). All (λ (d : Delivery Message). SuitsReceiver s d.receiver d.message now) ds) (sym f.copies_are)
           (copies-suit p drive least s is c x now fit f.local f.left),
-        )
+    )
 
     fires-moves : (acts : Acts) (copies : List (Delivery Message)) (after : Ctl) → IsFired (begun p drive least s is c fit.setup x now) acts copies after
         → runs.MovesMail R c x acts copies (with_one_fired after)

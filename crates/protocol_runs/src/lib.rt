@@ -1,6 +1,12 @@
-//! Runs of a protocol.
+//! What a run of a protocol is, over whatever its scans do and over any driver: an instance of the rules of runs, with its premises and
+//! laws. There is no code here; the functions do nothing, and their contracts are the laws.
 #![tactic(auto)]
 
 mod laws;
+mod run_laws;
 
 pub use laws::machines_of_controllers_are_found;
+pub use run_laws::{
+    accounts_for_each_message, controllers_fit, invalid_comes_exactly, numbers_are_fresh,
+    one_worker_makes_one_run, protocols_meet_the_premises, turns_end_or_go_on, wakes_once,
+};

@@ -11,3 +11,4 @@ pub mod InvalidExactly
 pub mod Alone
 pub mod Change
 pub mod Premises
+pub mod Fresh
