@@ -6,3 +6,4 @@ pub mod Turn
 pub mod Rules
 pub mod IsSetting
 pub mod Kept
+pub mod Sample

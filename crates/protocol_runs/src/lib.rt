@@ -4,7 +4,9 @@
 
 mod laws;
 mod run_laws;
+mod sample_run;
 
+pub use sample_run::a_sample_meets_the_premises;
 pub use laws::machines_of_controllers_are_found;
 pub use run_laws::{
     accounts_for_each_message, controllers_fit, invalid_comes_exactly, numbers_are_fresh,
