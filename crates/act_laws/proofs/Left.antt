@@ -11,10 +11,10 @@ use Rattle.acts.specs.Act.{Act, answer}
 use Rattle.acts.specs.Acting.{Acting, ends, stops, acts, follow, fault_of, run}
 use Rattle.acts.specs.After.{HoldsAfter}
 use Rattle.acts.specs.Done.{Done, does}
-use Rattle.act_laws.specs.Kept.{IsMarked, MarksStay}
+use Rattle.act_laws.specs.Kept.{CountsStay, IsMarked, MarksStay}
 use Rattle.act_laws.specs.Left.{IsLeft}
 use Rattle.act_laws.specs.Mailed.{HasMailed}
-use Rattle.act_laws.proofs.Instances.{copies_have_receivers, mail_moves, marks_stay, stays_in_run, stays_in_scan, stays_lawful, stays_marked}
+use Rattle.act_laws.proofs.Instances.{copies_have_receivers, counts_stay, mail_moves, marks_stay, stays_in_run, stays_in_scan, stays_lawful, stays_marked}
 
 pub left_here : (v : LocalView) → IsLeft v v
 unfolding run
@@ -70,6 +70,9 @@ module _ (v w : LocalView) (left : IsLeft v w) where
 
   pub left_scan : SameScan v w
   left_scan = holds_of_left (SameScan v) (stays_in_scan left.body v)
+
+  pub left_counts : CountsStay v w
+  left_counts = holds_of_left (CountsStay v) (counts_stay left.body v)
 
   pub left_lawful : IsLawful v → IsLawful w
   left_lawful l = holds_of_left IsLawful (stays_lawful left.body v l)

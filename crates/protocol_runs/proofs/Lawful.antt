@@ -1,5 +1,5 @@
 -- The laws of runs, for runs of a protocol.
-use Rattle.std.proofs.Common.{◌≡◌, ◌+◌, ◌∙◌, ℕ, List, Option, None, Some, ap, slice_get, sym}
+use Rattle.std.proofs.Common.{◌≡◌, ◌+◌, ◌∙◌, ℕ, List, Option, None, Some, ap, map, slice_get, sym}
 use Rattle.std.proofs.lemmas.Option.{same_Some}
 use Rattle.run_journal.specs.declared.entry.Entry.{Entry}
 use Rattle.run_journal.specs.declared.event.Event.{Event}
@@ -18,13 +18,15 @@ use Rattle.ruby_runs.proofs.OneRun as one
 use Rattle.ruby_runs.proofs.Woken as waking
 use Rattle.ctl_face.specs.Ctl.{Ctl}
 use Rattle.sequencer.specs.Drive.{Drive}
-use Rattle.sequencer.specs.Seats.{Seat}
+use Rattle.sequencer.specs.Seats.{FitSeats, Seat}
 use Rattle.protocol_runs.specs.IsSetting.{IsSetting}
 use Rattle.protocol_runs.specs.Kept.{FitsRun, HasSeats, SuitsReceiver}
 use Rattle.protocol_runs.specs.Meaning.{IsMeaning, Meaning}
 use Rattle.protocol_runs.specs.Rules.{rules}
 use Rattle.protocol_runs.specs.Setting.{Setting}
+use Rattle.protocol_runs.specs.Turn.{seats_in}
 use Rattle.protocol_runs.proofs.Driver.{IsDriver}
+use Rattle.protocol_runs.proofs.Turns.{seats-fit}
 use Rattle.protocol_runs.proofs.Premises.{carries_mail, keeps_marks, reports_invalid, sound}
 
 pub one_end : {D : Type 0} (p : Meaning) (drive : D → List Seat → ℕ → Drive D) (s : Setting D) (history : List Event) (w v : World Ctl D) (journal told : List Entry)
@@ -70,6 +72,15 @@ module _ {D : Type 0} (drive : D → List Seat → ℕ → Drive D) (needs : D �
       → IsRun (rules p drive s) history w journal → HasEnded w → IsAlone (rules p drive s) history
       → IsRun (rules p drive s) other v told → HasEnded v → IsAlone (rules p drive s) other → history ≡ other
   one_history = one.one-history (rules p drive s) (FitsRun s) (SuitsReceiver s) (HasSeats s least) (sound p drive needs least s means driver is)
+
+  pub seats_fit :
+      (history : List Event) (w : World Ctl D) (journal : List Entry) → IsRun (rules p drive s) history w journal → w.verdict ≡ None
+      → FitSeats (least w.driver) (seats_in s.seats (map (λ (place : Place Ctl). place.controller) w.places))
+  seats_fit history w journal is_run running =
+      let fits =
+      fitting.world-fits (rules p drive s) (FitsRun s) (SuitsReceiver s) (HasSeats s least) (sound p drive needs least s means driver is) history w journal is_run in
+      seats-fit p drive least s is w.driver (map (λ (place : Place Ctl). place.controller) w.places) w.now w.issued
+      (fitting.asked-in (rules p drive s) (FitsRun s) (SuitsReceiver s) (HasSeats s least) (sound p drive needs least s means driver is) w running fits)
 
   pub all_fit : OfRuns (λ history w journal. (c : ℕ) (place : Place Ctl) → slice_get w.places c ≡ Some place → FitsRun s c place.controller w.now)
   all_fit = fitting.all-fit (rules p drive s) (FitsRun s) (SuitsReceiver s) (HasSeats s least) (sound p drive needs least s means driver is)

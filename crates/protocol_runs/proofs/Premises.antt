@@ -27,24 +27,25 @@ use Rattle.ctl_face.specs.Inbox.{with_message}
 use Rattle.ctl_face.specs.Mailing.{incoming_message}
 use Rattle.ctl_face.specs.Opening.{opening_ctl}
 use Rattle.ctl_face.specs.OfMachine.{TakesFields}
-use Rattle.ctl_face.proofs.Betweens.{arrival_keeps, begun_keeps, halted_keeps, wake_up_keeps}
+use Rattle.ctl_face.proofs.Betweens.{arrival_keeps, begun_keeps, driver_mail, halted_keeps, wake_up_keeps}
 use Rattle.ctl_face.proofs.Moved as moved
 use Rattle.ctl_face.proofs.OneKey.{marks_from-has, with_mark-has}
 use Rattle.ctl_face.proofs.Opened.{opening_fits}
-use Rattle.act_laws.proofs.Marks.{marks_kept, marks_with, same_bool}
+use Rattle.act_laws.specs.Kept.{AreMarked}
+use Rattle.act_laws.proofs.Marks.{marked_put, marked_with, marks_kept, marks_with, same_bool}
 use Rattle.sequencer.specs.Drive as own
 use Rattle.sequencer.specs.Seats.{Seat}
 use Rattle.protocol_runs.specs.IsSetting.{IsSetting}
 use Rattle.protocol_runs.specs.Kept.{FitsRun, HasSeats, SuitsReceiver}
 use Rattle.protocol_runs.specs.Machines.{machine_of, setup_of}
-use Rattle.protocol_runs.specs.Turn.{seats_in}
+use Rattle.protocol_runs.specs.Turn.{acts_at, seats_in}
 use Rattle.protocol_runs.specs.Meaning.{IsFired, IsMeaning, IsRefusedTry, Meaning, Rests, acts_told, deliveries_of}
 use Rattle.protocol_runs.specs.Rules.{has_row_of, mailed, opening_controllers, rules}
 use Rattle.protocol_runs.specs.Setting.{Setting}
 use Rattle.protocol_runs.proofs.Controllers.{IsOne, Opened, and-some, lawful-machine, one-by, opened, setup-is}
 use Rattle.protocol_runs.proofs.Driver.{IsDriver}
-use Rattle.protocol_runs.proofs.Scans.{Fitting, begun, copies-suit, fits-run, fitting, left-awake, left-fits, maps-join, moves, scan-of}
-use Rattle.protocol_runs.proofs.Turns.{IsRequestFor, issued-known, lawful-turn, requests-known, requests-numbered, served-fits, served-mail, turn}
+use Rattle.protocol_runs.proofs.Scans.{Fitting, begun, copies-suit, fits-run, fitting, left-awake, left-few, left-fits, left-marked, maps-join, moves, scan-of}
+use Rattle.protocol_runs.proofs.Turns.{IsRequestFor, issued-known, lawful-turn, requests-known, requests-numbered, served-fits, turn}
 
 -- a later mark doesn't change whether there is one for this cycle
 later-mark : (marks : List ℕ) (mark now : ℕ) → now < mark → has_mark (with_mark marks mark) now ≡ has_mark marks now
@@ -69,6 +70,13 @@ later-left marks next cycle later =
     same_bool (has_mark (marks_from next marks) cycle) (has_mark marks cycle)
     (λ has. ((marks_from-has marks next cycle).0 has).1)
     (λ has. (marks_from-has marks next cycle).1 (later, has))
+
+-- as a cycle begins
+begun-marked : (marks : List ℕ) (now next : ℕ) (inbox : List InboxMessage) → now < next → AreMarked now marks inbox → AreMarked next (marks_from next marks) inbox
+begun-marked marks now next inbox above all =
+    All-weaker (λ (o : InboxMessage). now < o.message.arrival → IsTrue (has_mark marks o.message.arrival))
+    (λ (o : InboxMessage). next < o.message.arrival → IsTrue (has_mark (marks_from next marks) o.message.arrival))
+    (λ o has later. (marks_from-has marks next o.message.arrival).1 (omega (arith, later), has (omega (arith, above, later)))) inbox all
 
 -- a number that isn't in an inbox comes before or after each that is
 apart : (a b : MsgNo) → same_number a b ≡ false → number_before a b ≡ not (number_before b a)
@@ -105,31 +113,36 @@ module _ {D : Type 0} (p : Meaning) (drive : D → List Seat → ℕ → own.Dri
       let o = opening-is c x there in
       let one = one-by s least is c o.machine o.setup o.of_machine o.there in
       fits-run p drive least s is c x 0 o.setup one
-      (subst (λ (y : Ctl). Fits o.setup c y 0) (sym o.is) (opening_fits o.setup c 0 (lawful-machine s least is c o.setup one))) (omega arith)
+      (subst (λ (y : Ctl). Fits o.setup c y 0) (sym o.is) (opening_fits o.setup c 0 (lawful-machine s least is c o.setup one)))
+      (subst (λ (y : Ctl). AreMarked 0 y.mail.marks y.mail.inbox) (sym o.is) (All-nil (λ (m : InboxMessage). 0 < m.message.arrival → IsTrue (has_mark [] m.message.arrival))))
+      (let none : x.fired ≡ 0 = ap (λ (y : Ctl). y.fired) o.is in omega (arith, none)) (omega arith)
 
   module _ (c now : ℕ) (x : Ctl) (fits : FitsRun s c x now) where
     abbrev fit : Fitting p drive least s is c x now
     fit = fitting p drive least s is c x now fits
 
     -- with another controller of the same machine
-    keeps : (after : Ctl) → Fits fit.setup c after now → has_mark after.mail.marks now ≡ has_mark x.mail.marks now → Keeps c now x after
-    keeps after here awake = record { fits = fits-run p drive least s is c after now fit.setup fit.one here fit.bound; awake = awake }
+    keeps : (after : Ctl) → Fits fit.setup c after now → AreMarked now after.mail.marks after.mail.inbox → after.fired ≤ s.limit
+        → has_mark after.mail.marks now ≡ has_mark x.mail.marks now → Keeps c now x after
+    keeps after here marked few awake = record { fits = fits-run p drive least s is c after now fit.setup fit.one here marked few fit.bound; awake = awake }
 
     fires : (note : FireNote) (acts : Acts) (copies : List (Delivery Message)) (after : Ctl) → (R.scan c x now).outcome ≡ Fired note acts copies after
-        → IsFired (begun p drive least s is c fit.setup x now) acts copies after
+        → IsFired (begun p drive least s is c fit.setup x now) s.limit acts copies after
     fires note acts copies after fired = let scan = scan-of p drive least s is means c x now fit.setup fit.one in scan.fires note acts copies after fired
 
-    fires-keeps : (acts : Acts) (copies : List (Delivery Message)) (after : Ctl) → IsFired (begun p drive least s is c fit.setup x now) acts copies after
+    fires-keeps : (acts : Acts) (copies : List (Delivery Message)) (after : Ctl) → IsFired (begun p drive least s is c fit.setup x now) s.limit acts copies after
         → Keeps c now x (with_one_fired after) × runs.AllSuit R (FitsRun s) (SuitsReceiver s) (HasSeats s least) now copies
     fires-keeps acts copies after f = (
       keeps (with_one_fired after)
           (subst (λ (y : Ctl). Fits fit.setup c (with_one_fired y) now) (sym f.after_is) (left-fits p drive least s is c x now fit f.local f.left))
+          (subst (λ (y : Ctl). AreMarked now y.mail.marks y.mail.inbox) (sym f.after_is) (left-marked p drive least s is c x now fit f.local f.left))
+          (subst (λ (y : Ctl). (with_one_fired y).fired ≤ s.limit) (sym f.after_is) (left-few p drive least s is c x now fit f.local f.left f.few))
           (ap (λ (y : Ctl). has_mark y.mail.marks now) f.after_is ∙ left-awake p drive least s is c x now fit f.local f.left),
       subst (λ (ds : List (Delivery Message)). All (λ (d : Delivery Message). SuitsReceiver s d.receiver d.message now) ds) (sym f.copies_are)
           (copies-suit p drive least s is c x now fit f.local f.left),
     )
 
-    fires-moves : (acts : Acts) (copies : List (Delivery Message)) (after : Ctl) → IsFired (begun p drive least s is c fit.setup x now) acts copies after
+    fires-moves : (acts : Acts) (copies : List (Delivery Message)) (after : Ctl) → IsFired (begun p drive least s is c fit.setup x now) s.limit acts copies after
         → runs.MovesMail R c x acts copies (with_one_fired after)
     fires-moves acts copies after f =
         subst (λ (a : Acts). runs.MovesMail R c x a copies (with_one_fired after)) (sym f.acts_are)
@@ -138,13 +151,13 @@ module _ {D : Type 0} (p : Meaning) (drive : D → List Seat → ℕ → own.Dri
         (moves p drive least s is c x now fit f.local f.left)))
 
     marked-keeps : (mark : ℕ) → now < mark → Keeps c now x (with_wake_up x mark)
-    marked-keeps mark later = keeps (with_wake_up x mark) (wake_up_keeps fit.setup c now x mark fit.fits) (later-mark x.mail.marks mark now later)
+    marked-keeps mark later = keeps (with_wake_up x mark) (wake_up_keeps fit.setup c now x mark fit.fits) (marked_with now mark x.mail.marks x.mail.inbox fit.marked) fit.few (later-mark x.mail.marks mark now later)
 
     rests : (after : Ctl) → (R.scan c x now).outcome ≡ Idle after → Rests (begun p drive least s is c fit.setup x now) after
     rests after idle = let scan = scan-of p drive least s is means c x now fit.setup fit.one in scan.idles after idle
 
     rest-keeps : (after : Ctl) → Rests (begun p drive least s is c fit.setup x now) after → Keeps c now x after
-    rest-keeps after (inl same) = subst (λ (y : Ctl). Keeps c now x y) (sym same) (keeps x fit.fits refl)
+    rest-keeps after (inl same) = subst (λ (y : Ctl). Keeps c now x y) (sym same) (keeps x fit.fits fit.marked fit.few refl)
     rest-keeps after (inr same) = subst (λ (y : Ctl). Keeps c now x y) (sym same) (marked-keeps (now + 1) (omega arith))
 
     rest-mail : (after : Ctl) → Rests (begun p drive least s is c fit.setup x now) after → runs.KeepsMail R x after
@@ -157,6 +170,7 @@ module _ {D : Type 0} (p : Meaning) (drive : D → List Seat → ℕ → own.Dri
         let same : setup ≡ fit.setup = same_Some setup fit.setup (sym there ∙ setup-is s c fit.setup fit.one) in
         keeps (with_arrival x m)
         (arrival_keeps fit.setup c now x m (subst (λ (k : MachineSetup). TakesFields k.buffers m.buffer m.fields) same takes) suits.other fit.fits)
+        (marked_put now x.mail.marks x.mail.inbox m fit.marked) fit.few
         (later-mark x.mail.marks m.arrival now suits.later)
 
     -- what a try of its scan has, by the protocol
@@ -177,7 +191,8 @@ module _ {D : Type 0} (p : Meaning) (drive : D → List Seat → ℕ → own.Dri
   begins : (c now next : ℕ) (x : Ctl) → FitsRun s c x now → now < next → next ≤ s.cycles → FitsRun s c (R.at_cycle x next) next
   begins c now next x fits later within =
       let f = fitting p drive least s is c x now fits in
-      fits-run p drive least s is c (R.at_cycle x next) next f.setup f.one (begun_keeps f.setup c now next x later f.fits) within
+      fits-run p drive least s is c (R.at_cycle x next) next f.setup f.one (begun_keeps f.setup c now next x later f.fits)
+      (begun-marked x.mail.marks now next x.mail.inbox later f.marked) (omega arith) within
 
   abbrev Asked : D → List Ctl → ℕ → ℕ → Type 0
   Asked d xs now issued = runs.IsAsked R (FitsRun s) (SuitsReceiver s) (HasSeats s least) d xs now issued
@@ -186,7 +201,7 @@ module _ {D : Type 0} (p : Meaning) (drive : D → List Seat → ℕ → own.Dri
       → Keeps c now x ((R.drive d xs now issued).controller_after c x)
   serves d xs now issued asked c x there = record {
     fits = served-fits p drive least s is needs driver d xs now issued asked c x (asked.fits c x there);
-    awake = ap (λ mail. has_mark mail.marks now) (served-mail s.seats c (turn p drive least s is needs driver d xs now issued asked) x);
+    awake = ap (λ mail. has_mark mail.marks now) (driver_mail (acts_at s.seats c (turn p drive least s is needs driver d xs now issued asked)) x);
   }
 
   requests : (d : D) (xs : List Ctl) (now issued : ℕ) → Asked d xs now issued → All (IsRequestFor p drive least s is now) (R.drive d xs now issued).requests
@@ -199,7 +214,7 @@ module _ {D : Type 0} (p : Meaning) (drive : D → List Seat → ℕ → own.Dri
     fires = λ c now x fits note acts copies after fired. fires-keeps c now x fits acts copies after (fires c now x fits note acts copies after fired);
     idles = λ c now x fits after idle. rest-keeps c now x fits after (rests c now x fits after idle);
     fills = λ c now x fits full. marked-keeps c now x fits (now + 1) (omega arith);
-    stops = λ c now x fits at stop. keeps c now x fits (with_stop x) (let f = fitting p drive least s is c x now fits in halted_keeps f.setup c now x f.fits) refl;
+    stops = λ c now x fits at stop. keeps c now x fits (with_stop x) (let f = fitting p drive least s is c x now fits in halted_keeps f.setup c now x f.fits) fits.marked fits.few refl;
     arrives = λ c now x m fits suits. arrives c now x fits m suits;
     begins = begins;
     serves = serves;
@@ -247,7 +262,7 @@ module _ {D : Type 0} (p : Meaning) (drive : D → List Seat → ℕ → own.Dri
     begins = λ x next. record { mail = refl; sent = refl };
     arrives = λ c now x m fits suits new. takes-mail x m new;
     serves = λ d xs now issued asked c x there.
-        let same = served-mail s.seats c (turn p drive least s is needs driver d xs now issued asked) x in
+        let same = driver_mail (acts_at s.seats c (turn p drive least s is needs driver d xs now issued asked)) x in
         record { mail = ap (λ mail. map mailed mail.inbox) same; sent = ap (λ mail. mail.sent) same };
     asks = λ d xs now issued asked.
         requests-numbered p drive least s is now issued (turn p drive least s is needs driver d xs now issued asked).issued

@@ -1,7 +1,7 @@
 -- The sample meets the premises.
 use Rattle.std.proofs.Common.{◌≡◌, ◌<◌, ◌≤◌, ◌+◌, ◌∙◌, ℕ, zero, suc, Bool, true, false, cond, List, [], ◌∷◌, Option, None, Some, Result, Ok, Err, All, IfSome, IsSomeAnd, IsTrue, inl, inr, length, nat_le, refl, sym, ap, arith, replicate, slice_get}
 use Rattle.std.proofs.lemmas.List.Elements.{All-cons, All-nil, All-replicate}
-use Rattle.std.proofs.lemmas.Bool.{cond_both}
+use Rattle.std.proofs.lemmas.Bool.{cond_both, leb-false}
 use Rattle.std.specs.List.{AllPairs}
 use Rattle.std.specs.Option.{option_flatten}
 use Rattle.ruby_value.specs.declared.fault.Fault.{Fault}
@@ -33,8 +33,8 @@ use Rattle.ruby_value.proofs.Ordered.{AllPairs-nil}
 use Rattle.std.proofs.lemmas.List.Kept.{AllPairs-cons}
 
 -- what is known of an outcome, by which one it is
-record Answers (v : LocalView) (o : Outcome Ctl Message) : Type 0 where
-  fires : (note : FireNote) (acts : Acts) (copies : List (Delivery Message)) (after : Ctl) → o ≡ Fired note acts copies after → IsFired v acts copies after
+record Answers (v : LocalView) (limit : ℕ) (o : Outcome Ctl Message) : Type 0 where
+  fires : (note : FireNote) (acts : Acts) (copies : List (Delivery Message)) (after : Ctl) → o ≡ Fired note acts copies after → IsFired v limit acts copies after
   idles : (after : Ctl) → o ≡ Idle after → Rests v after
   valid : (at : StopAt) → o ≡ Stop at → at.fault ≡ Invalid → ⊥
 
@@ -45,28 +45,28 @@ fault-in f (Fired note acts copies after) = f
 fault-in f (Stop at) = at.fault
 fault-in f (Idle after) = f
 
-full-answers : (v : LocalView) → Answers v Full
-full-answers v = record {
+full-answers : (v : LocalView) (limit : ℕ) → Answers v limit Full
+full-answers v limit = record {
   fires = λ note acts copies after is. absurd (cc is);
   idles = λ after is. absurd (cc is);
   valid = λ at is invalid. cc is;
 }
 
-fired-answers : (v : LocalView) (d : Done Bool) → run taking v ≡ Ok d → (b : Bool) → Answers v (cond b (outcome_of v (Ok (record { value = true; view = d.view }))) (Idle v.ctl))
-fired-answers v d ran true = record {
-  fires = λ note acts copies after is. record { local = d.view; left = left_by taking v d ran; acts_are = cc is; copies_are = cc is; after_is = cc is };
+fired-answers : (v : LocalView) (limit : ℕ) (d : Done Bool) → v.ctl.fired < limit → run taking v ≡ Ok d → (b : Bool) → Answers v limit (cond b (outcome_of v (Ok (record { value = true; view = d.view }))) (Idle v.ctl))
+fired-answers v limit d few ran true = record {
+  fires = λ note acts copies after is. record { few = few; local = d.view; left = left_by taking v d ran; acts_are = cc is; copies_are = cc is; after_is = cc is };
   idles = λ after is. absurd (cc is);
   valid = λ at is invalid. cc is;
 }
-fired-answers v d ran false = record {
+fired-answers v limit d few ran false = record {
   fires = λ note acts copies after is. absurd (cc is);
   idles = λ after is. inl (sym (cc is));
   valid = λ at is invalid. cc is;
 }
 
-body-answers : (v : LocalView) (r : Result (Done Bool) Fault) → run taking v ≡ r → Answers v (outcome_of v r)
-body-answers v (Ok d) ran = fired-answers v d ran d.value
-body-answers v (Err f) ran = record {
+body-answers : (v : LocalView) (limit : ℕ) (r : Result (Done Bool) Fault) → v.ctl.fired < limit → run taking v ≡ r → Answers v limit (outcome_of v r)
+body-answers v limit (Ok d) few ran = fired-answers v limit d few ran d.value
+body-answers v limit (Err f) few ran = record {
   fires = λ note acts copies after is. absurd (cc is);
   idles = λ after is. absurd (cc is);
   valid = λ at is invalid.
@@ -78,9 +78,9 @@ body-answers v (Err f) ran = record {
 nothing-tried : (t : Tried) (k : ℕ) → k < 0 → ⊥
 nothing-tried t k within = omega (arith, within)
 
-sample-answers : (v : LocalView) (limit : ℕ) → Answers v (cond (nat_le limit v.ctl.fired) Full (outcome_of v (run taking v)))
+sample-answers : (v : LocalView) (limit : ℕ) → Answers v limit (cond (nat_le limit v.ctl.fired) Full (outcome_of v (run taking v)))
 sample-answers v limit =
-    cond_both (nat_le limit v.ctl.fired) Full (outcome_of v (run taking v)) (Answers v) (λ _. full-answers v) (λ _. body-answers v (run taking v) refl)
+    cond_both (nat_le limit v.ctl.fired) Full (outcome_of v (run taking v)) (Answers v limit) (λ _. full-answers v limit) (λ (not : nat_le limit v.ctl.fired ≡ false). body-answers v limit (run taking v) (leb-false limit v.ctl.fired not) refl)
 
 pub sample-means : IsMeaning sample
 sample-means machine setup actor now limit ctl =

@@ -4,7 +4,9 @@ use Rattle.std.specs.Prelude.{count_by}
 use Rattle.std.proofs.lemmas.List.{length-map}
 use Rattle.std.proofs.lemmas.List.Elements.{All-map, All-weaker}
 use Rattle.ruby_value.specs.Ascending.{has_mark}
+use Rattle.ruby_value.specs.declared.message.Delivery as posted_to
 use Rattle.ruby_value.specs.declared.message.Message.{Message}
+use Rattle.ruby_value.specs.declared.message.Sent as face_sent
 use Rattle.ruby_value.specs.declared.message.MsgNo.{MsgNo}
 use Rattle.ruby_value.specs.declared.setup.MachineSetup.{MachineSetup}
 use Rattle.run_journal.specs.declared.entry.Sent.{Sent}
@@ -13,7 +15,6 @@ use Rattle.ruby_runs.specs.Rules as runs_rules
 use Rattle.ruby_runs.specs.Rules.{Acts, Delivery, Rules, Scan}
 use Rattle.ruby_runs.specs.Step.{delivery_numbers}
 use Rattle.ctl_face.specs.Acts as face
-use Rattle.ctl_face.specs.Acts.{Copy, Note}
 use Rattle.ctl_face.specs.ActsFit.{numbers_in}
 use Rattle.ctl_face.specs.Between.{with_one_fired}
 use Rattle.ctl_face.specs.Ctl.{Ctl, InboxMessage, Mail}
@@ -23,15 +24,15 @@ use Rattle.ctl_face.specs.InRun.{IsInRun}
 use Rattle.ctl_face.specs.LocalView.{Actor, LocalView, SameScan}
 use Rattle.ctl_face.specs.OfMachine.{TakesFields}
 use Rattle.ctl_face.specs.ScanView.{scan_view}
-use Rattle.ctl_face.specs.SendAdds as face_sends
+use Rattle.ruby_value.specs.NumbersFrom as face_sends
 use Rattle.ctl_face.proofs.Betweens.{fired_keeps}
 use Rattle.ctl_face.proofs.LawfulAfter.{scan_begins}
 use Rattle.ctl_face.proofs.OwnBuffers.{fit_each}
-use Rattle.act_laws.specs.Kept.{MarksStay}
+use Rattle.act_laws.specs.Kept.{AreMarked, IsMarked}
 use Rattle.act_laws.specs.Left.{IsLeft}
 use Rattle.act_laws.specs.Mailed as mailed_acts
 use Rattle.act_laws.specs.Mailed.{HasMailed, IsPosted}
-use Rattle.act_laws.proofs.Left.{left_copies, left_lawful, left_mailed, left_marks, left_scan}
+use Rattle.act_laws.proofs.Left.{left_copies, left_counts, left_lawful, left_mailed, left_marked as left_marked_after, left_marks, left_scan}
 use Rattle.sequencer.specs.Drive as own
 use Rattle.sequencer.specs.Seats.{Seat}
 use Rattle.protocol_runs.specs.IsSetting.{IsSetting}
@@ -83,16 +84,19 @@ module _ {D : Type 0} (p : Meaning) (drive : D → List Seat → ℕ → own.Dri
     pub setup : MachineSetup
     pub one : IsOne s c setup
     pub fits : Fits setup c x now
+    pub marked : AreMarked now x.mail.marks x.mail.inbox
+    pub few : x.fired ≤ s.limit
     pub bound : now ≤ s.cycles
 
   pub fitting : (c : ℕ) (x : Ctl) (now : ℕ) → FitsRun s c x now → Fitting c x now
   fitting c x now fits =
       let (m, there, holds) = and-some (λ (m : MachineSetup). Fits m c x now) (setup_of s c) fits.fits in
-      record { setup = m; one = one-of s c m there; fits = holds; bound = fits.bound }
+      record { setup = m; one = one-of s c m there; fits = holds; marked = fits.marked; few = fits.few; bound = fits.bound }
 
-  pub fits-run : (c : ℕ) (x : Ctl) (now : ℕ) (m : MachineSetup) → IsOne s c m → Fits m c x now → now ≤ s.cycles → FitsRun s c x now
-  fits-run c x now m one fits bound =
-      record { fits = some-and (λ (setup : MachineSetup). Fits setup c x now) (setup_of s c) m (setup-is s c m one) fits; bound = bound }
+  pub fits-run : (c : ℕ) (x : Ctl) (now : ℕ) (m : MachineSetup) → IsOne s c m → Fits m c x now → AreMarked now x.mail.marks x.mail.inbox → x.fired ≤ s.limit → now ≤ s.cycles
+      → FitsRun s c x now
+  fits-run c x now m one fits marked few bound =
+      record { fits = some-and (λ (setup : MachineSetup). Fits setup c x now) (setup_of s c) m (setup-is s c m one) fits; marked = marked; few = few; bound = bound }
 
   -- its scan, as the protocol has it
   pub scan-is : (c : ℕ) (x : Ctl) (now : ℕ) (m : MachineSetup) (one : IsOne s c m) → R.scan c x now ≡ p.scan one.machine (begun c m x now) s.limit
@@ -100,9 +104,9 @@ module _ {D : Type 0} (p : Meaning) (drive : D → List Seat → ℕ → own.Dri
       ap (λ (o : Option ℕ). scan_of p drive s c x now o) one.found ∙ ap (λ (o : Option MachineSetup). scan_by p drive s c x now one.machine o) one.there
 
   pub scan-of : IsMeaning p → (c : ℕ) (x : Ctl) (now : ℕ) (m : MachineSetup) (one : IsOne s c m)
-      → IsScanOf (begun c m x now) (p.has_row one.machine) (R.scan c x now)
+      → IsScanOf (begun c m x now) s.limit (p.has_row one.machine) (R.scan c x now)
   scan-of means c x now m one =
-      subst (IsScanOf (begun c m x now) (p.has_row one.machine)) (sym (scan-is c x now m one)) (means one.machine m (actor_of s c) now s.limit x)
+      subst (IsScanOf (begun c m x now) s.limit (p.has_row one.machine)) (sym (scan-is c x now m one)) (means one.machine m (actor_of s c) now s.limit x)
 
   module _ (c : ℕ) (x : Ctl) (now : ℕ) (fit : Fitting c x now) where
     abbrev V : LocalView
@@ -123,18 +127,27 @@ module _ {D : Type 0} (p : Meaning) (drive : D → List Seat → ℕ → own.Dri
       pub left-fits : Fits fit.setup c (with_one_fired w.ctl) now
       left-fits = let after = left_lawful V w left lawful in fired_keeps fit.setup c now w.ctl (fits-still V w same after.scan.fits)
 
+      pub left-marked : AreMarked now w.ctl.mail.marks w.ctl.mail.inbox
+      left-marked =
+          let begins : IsMarked V = record { arrivals = fit.marked; next = λ again. absurd (cc again) } in
+          let after = left_marked_after V w left begins in
+          subst (λ (n : ℕ). AreMarked n w.ctl.mail.marks w.ctl.mail.inbox) same.now after.arrivals
+
+      pub left-few : x.fired < s.limit → (with_one_fired w.ctl).fired ≤ s.limit
+      left-few few = let counts = left_counts V w left in omega (arith, few, counts.fired)
+
       pub left-awake : has_mark w.ctl.mail.marks now ≡ has_mark x.mail.marks now
       left-awake = let marks = left_marks V w left in marks.none_due now (omega arith)
 
       mailed-left : HasMailed w
       mailed-left = left_mailed V w left lawful
 
-      posted : All (λ (d : Copy). IsPosted c now d × FitsReceiver s.machines s.ranges d) w.acts.posted
+      posted : All (λ (d : (posted_to.Delivery Message)). IsPosted c now d × FitsReceiver s.machines s.ranges d) w.acts.posted
       posted =
           all-both (IsPosted c now) (FitsReceiver s.machines s.ranges) w.acts.posted (posted-still V w same mailed-left.posted)
           (left_copies V w left s.machines s.ranges in-run)
 
-      suits : (d : Copy) → IsPosted c now d × FitsReceiver s.machines s.ranges d → SuitsReceiver s d.receiver d.message now
+      suits : (d : (posted_to.Delivery Message)) → IsPosted c now d × FitsReceiver s.machines s.ranges d → SuitsReceiver s d.receiver d.message now
       suits d (from, fits) =
           let (m, there, takes) = and-some (λ (m : MachineSetup). TakesFields m.buffers d.message.buffer d.message.fields) (slice_get s.machines fits.machine) fits.takes in
           let one = one-by s least is d.receiver fits.machine m fits.of_machine there in
@@ -148,21 +161,21 @@ module _ {D : Type 0} (p : Meaning) (drive : D → List Seat → ℕ → own.Dri
       pub copies-suit : All (λ (d : Delivery Message). SuitsReceiver s d.receiver d.message now) (deliveries_of w.acts.posted)
       copies-suit =
           All-map (λ (d : Delivery Message). SuitsReceiver s d.receiver d.message now) delivery_of w.acts.posted
-          (All-weaker (λ (d : Copy). IsPosted c now d × FitsReceiver s.machines s.ranges d) (λ (d : Copy). SuitsReceiver s d.receiver d.message now) suits w.acts.posted posted)
+          (All-weaker (λ (d : (posted_to.Delivery Message)). IsPosted c now d × FitsReceiver s.machines s.ranges d) (λ (d : (posted_to.Delivery Message)). SuitsReceiver s d.receiver d.message now) suits w.acts.posted posted)
 
       have-receivers : All (λ (d : Delivery Message). d.receiver < length R.controllers) (deliveries_of w.acts.posted)
       have-receivers =
           All-map (λ (d : Delivery Message). d.receiver < length R.controllers) delivery_of w.acts.posted
-          (All-weaker (λ (d : Copy). IsPosted c now d × FitsReceiver s.machines s.ranges d) (λ (d : Copy). d.receiver < length R.controllers)
+          (All-weaker (λ (d : (posted_to.Delivery Message)). IsPosted c now d × FitsReceiver s.machines s.ranges d) (λ (d : (posted_to.Delivery Message)). d.receiver < length R.controllers)
           (λ d (from, fits). below-count s least is d.receiver fits.machine fits.of_machine) w.acts.posted posted)
 
       numbers-in : (inbox : List InboxMessage) → map (λ (o : runs_rules.Mailed). o.number) (map mailed inbox) ≡ numbers_in inbox
       numbers-in inbox = maps-join (λ (o : runs_rules.Mailed). o.number) mailed inbox
 
-      numbers-sent : (notes : List Note) → map (λ (n : Sent). n.number) (map sent_of notes) ≡ map (λ (n : Note). n.number) notes
+      numbers-sent : (notes : List face_sent.Sent) → map (λ (n : Sent). n.number) (map sent_of notes) ≡ map (λ (n : face_sent.Sent). n.number) notes
       numbers-sent notes = maps-join (λ (n : Sent). n.number) sent_of notes
 
-      numbers-posted : (copies : List Copy) → delivery_numbers R (deliveries_of copies) ≡ map (λ (d : Copy). d.message.number) copies
+      numbers-posted : (copies : List (posted_to.Delivery Message)) → delivery_numbers R (deliveries_of copies) ≡ map (λ (d : (posted_to.Delivery Message)). d.message.number) copies
       numbers-posted copies = maps-join (λ (d : Delivery Message). d.message.number) delivery_of copies
 
       pub moves : runs.MovesMail R c x (acts_told w.acts) (deliveries_of w.acts.posted) (with_one_fired w.ctl)

@@ -6,7 +6,7 @@ use Rattle.std.proofs.lemmas.List.{length-append, length-map, length-set, get_or
 use Rattle.std.proofs.lemmas.List.Elements.{All-append, All-cons, All-head, All-map, All-nil, All-tail, All-weaker, All-contains_itself}
 use Rattle.std.proofs.lemmas.List.Kept.{AllPairs-cons}
 use Rattle.std.proofs.lemmas.Option.{IfSome_then, slice_get-get_or, slice_get_within}
-use Rattle.std.specs.List.{AllPairs, fold}
+use Rattle.std.specs.List.{AllPairs, flat_map}
 use Rattle.std.specs.Option.{option_and_then, option_map}
 use Rattle.ruby_value.specs.declared.asked.Answer.{Answer}
 use Rattle.ruby_value.specs.declared.asked.Ask.{Ask}
@@ -22,15 +22,15 @@ use Rattle.ruby_value.proofs.Ordered.{AllPairs-head, AllPairs-nil, AllPairs-tail
 use Rattle.ruby_runs.specs.Premises as runs
 use Rattle.ruby_runs.specs.Rules.{Delivery, Rules}
 use Rattle.ruby_runs.specs.Step.{delivery_numbers}
-use Rattle.ctl_face.specs.Between.{with_request, without_first_answer}
-use Rattle.ctl_face.specs.Ctl.{Ctl, Mail, Requests}
-use Rattle.ctl_face.specs.Fits as face
+use Rattle.ctl_face.specs.Between.{DriverAct, IsDriverAct, Issues, Takes, after_driver_act, after_driver_acts}
+use Rattle.ctl_face.specs.Ctl.{Ctl, Mail}
+use Rattle.act_laws.specs.Kept.{AreMarked}
 use Rattle.ctl_face.specs.Fits.{Fits, FitsSequencer}
 use Rattle.ctl_face.specs.OfMachine.{TakesFields}
-use Rattle.ctl_face.proofs.Betweens.{answer_keeps, request_keeps}
+use Rattle.ctl_face.proofs.Betweens.{driver_keeps, driver_mail}
 use Rattle.sequencer.specs.declared.issued.Issued.{Issued}
 use Rattle.sequencer.specs.Drive.{CanIssue, Drive, IsLawful, Taken, after_taking, seats_after_taking}
-use Rattle.sequencer.specs.Requests as own
+use Rattle.ruby_value.specs.Requests.{FitsRequests, IsRequest, Requests, with_request, without_first_answer}
 use Rattle.sequencer.specs.Seats as seats
 use Rattle.sequencer.specs.Seats.{FitSeats, FitsSeat, Seat, Seating, changed_at, changed_seat, with_issued, with_seat, without_answer_at}
 use Rattle.protocol_runs.specs.IsSetting.{AreApart, HasQueue, IsSetting, TakesRequests}
@@ -40,7 +40,7 @@ use Rattle.protocol_runs.specs.Meaning.{Meaning}
 use Rattle.protocol_runs.specs.Requests.{request_at, request_fields, request_kinds, request_message, request_messages}
 use Rattle.protocol_runs.specs.Rules.{rules}
 use Rattle.protocol_runs.specs.Setting.{SeatSetup, Setting}
-use Rattle.protocol_runs.specs.Turn.{after_issued, after_taken, is_seat_of, own_requests, requests_of, seat_in, seats_in, served}
+use Rattle.protocol_runs.specs.Turn.{acts_at, is_seat_of, issued_at, seat_in, seats_in, served, taken_at}
 use Rattle.protocol_runs.proofs.Controllers.{IsOne, and-some, at-place, below-count, of-one, one-of, setup-is, some-and}
 use Rattle.protocol_runs.proofs.Driver.{IsDriver}
 use Rattle.protocol_runs.proofs.Scans.{Fitting, fits-run, fitting}
@@ -54,89 +54,77 @@ apart-map P Q f to (x ∷ xs) pairs =
     (All-map (Q (f x)) f xs (All-weaker (P x) (λ b. Q (f x) (f b)) (to x) xs (AllPairs-head P x xs pairs)))
     (apart-map P Q f to xs (AllPairs-tail P x xs pairs))
 
--- a request asks for bytes of one line, as both crates have it
-as-request : (a : Asked) → own.IsRequest a → face.IsRequest a
-as-request a is = record { line = is.line; some_bytes = is.some_bytes; within = is.within }
-
-own-request : (a : Asked) → face.IsRequest a → own.IsRequest a
-own-request a is = record { line = is.line; some_bytes = is.some_bytes; within = is.within }
-
-own-fit : (r : Requests) → face.FitsRequests r → own.FitsRequests (own_requests r)
-own-fit r fits = record {
-  outstanding = λ line. IfSome_then (own.request_for (own_requests r) line) (fits.outstanding line) (λ a is. (is.0, own-request a is.1));
-  finished = All-weaker (λ (a : Answer). face.IsRequest a.asked) (λ (a : Answer). own.IsRequest a.asked) (λ a is. own-request a.asked is) r.finished fits.finished;
-}
-
-own-fits : (has : Bool) (o : Option Requests) → FitsSequencer has o → IfSome (option_map own_requests o) own.FitsRequests
-own-fits has None fits = tt
-own-fits true (Some r) fits = own-fit r fits
-own-fits false (Some r) fits = absurd fits
+sequencer-fits : (has : Bool) (o : Option Requests) → FitsSequencer has o → IfSome o FitsRequests
+sequencer-fits has None fits = tt
+sequencer-fits true (Some r) fits = fits
+sequencer-fits false (Some r) fits = absurd fits
 
 -- no turn changes how many seats there are
-same-count : (change : own.Requests → own.Requests) (xs : List Seat) (k : ℕ) (o : Option Seat) → length (with_seat xs k (option_map (changed_seat change) o)) ≡ length xs
+same-count : (change : Requests → Requests) (xs : List Seat) (k : ℕ) (o : Option Seat) → length (with_seat xs k (option_map (changed_seat change) o)) ≡ length xs
 same-count change xs k None = refl
 same-count change xs k (Some x) = length-set xs k (changed_seat change x)
 
 pub taken-count : (xs : List Seat) (ts : List Taken) → length (after_taking xs ts) ≡ length xs
 taken-count xs [] = refl
 taken-count xs (t ∷ ts) =
-    taken-count (without_answer_at xs t.seat) ts ∙ same-count own.without_first_answer xs t.seat (slice_get xs t.seat)
+    taken-count (without_answer_at xs t.seat) ts ∙ same-count without_first_answer xs t.seat (slice_get xs t.seat)
 
 -- what is known of each request that is issued
 pub record IsIssued (count : ℕ) (i : Issued) : Type 0 where
   pub seat : i.seat < count
-  pub request : face.IsRequest i.asked
+  pub request : IsRequest i.asked
 
 pub all-issued : (now count : ℕ) (s : Seating) (xs : List Issued) → length s.seats ≡ count → CanIssue now s xs → All (IsIssued count) xs
 all-issued now count s [] same can = All-nil (IsIssued count)
 all-issued now count s (i ∷ rest) same can =
     let first = can.0 in
-    All-cons (IsIssued count) i rest (record { seat = omega (arith, same, first.seat); request = as-request i.asked first.request })
-    (all-issued now count (with_issued s i) rest (same-count (λ q. own.with_request q i.asked) s.seats i.seat (slice_get s.seats i.seat) ∙ same) can.1)
+    All-cons (IsIssued count) i rest (record { seat = omega (arith, same, first.seat); request = first.request })
+    (all-issued now count (with_issued s i) rest (same-count (λ q. with_request q i.asked) s.seats i.seat (slice_get s.seats i.seat) ∙ same) can.1)
 
 -- the fields of a request are those of its type
 request-kinds : (a : Asked) → has_kinds request_kinds (request_fields a) ≡ true
 request-kinds a = refl
 
-module _ (setups : List SeatSetup) (c : ℕ) where
-  -- serving a controller keeps what each act keeps
-  module _ (P : Ctl → Type 0) (taken : (x : Ctl) → P x → P (without_first_answer x)) where
-    all-taken : (ts : List Taken) (x : Ctl) → P x → P (fold (after_taken setups c) x ts)
-    all-taken [] x holds = holds
-    all-taken (t ∷ ts) x holds =
-        all-taken ts (after_taken setups c x t)
-        (cond_both (is_seat_of c (slice_get setups t.seat)) (without_first_answer x) x P (λ _. taken x holds) (λ _. holds))
+-- each act of a turn at a controller is one of a driver
+module _ (setups : List SeatSetup) (c count : ℕ) where
+  all-taken : (ts : List Taken) → All IsDriverAct (flat_map (taken_at setups c) ts)
+  all-taken [] = All-nil IsDriverAct
+  all-taken (t ∷ ts) =
+      All-append IsDriverAct (taken_at setups c t) (flat_map (taken_at setups c) ts)
+      (cond_both (is_seat_of c (slice_get setups t.seat)) (Takes ∷ []) [] (All IsDriverAct) (λ _. All-cons IsDriverAct Takes [] tt (All-nil IsDriverAct)) (λ _. All-nil IsDriverAct))
+      (all-taken ts)
 
-    all-put : (Q : Issued → Type 0) → ((x : Ctl) (i : Issued) → Q i → P x → P (with_request x i.asked)) → (xs : List Issued) (x : Ctl) → All Q xs → P x
-        → P (fold (after_issued setups c) x xs)
-    all-put Q issued [] x all holds = holds
-    all-put Q issued (i ∷ xs) x all holds =
-        all-put Q issued xs (after_issued setups c x i) (All-tail Q i xs all)
-        (cond_both (is_seat_of c (slice_get setups i.seat)) (with_request x i.asked) x P (λ _. issued x i (All-head Q i xs all) holds) (λ _. holds))
+  all-put : (xs : List Issued) → All (IsIssued count) xs → All IsDriverAct (flat_map (issued_at setups c) xs)
+  all-put [] all = All-nil IsDriverAct
+  all-put (i ∷ xs) all =
+      let known = All-head (IsIssued count) i xs all in
+      All-append IsDriverAct (issued_at setups c i) (flat_map (issued_at setups c) xs)
+      (cond_both (is_seat_of c (slice_get setups i.seat)) (Issues i.asked ∷ []) [] (All IsDriverAct)
+      (λ _. All-cons IsDriverAct (Issues i.asked) [] known.request (All-nil IsDriverAct)) (λ _. All-nil IsDriverAct))
+      (all-put xs (All-tail (IsIssued count) i xs all))
 
-    pub all-served : {D : Type 0} (Q : Issued → Type 0) → ((x : Ctl) (i : Issued) → Q i → P x → P (with_request x i.asked)) → (d : Drive D) (x : Ctl) → All Q d.issued → P x
-        → P (served setups c d x)
-    all-served Q issued d x all holds = all-put Q issued d.issued (fold (after_taken setups c) x d.taken) all (all-taken d.taken x holds)
+  pub driver-acts : {D : Type 0} (d : Drive D) → All (IsIssued count) d.issued → All IsDriverAct (acts_at setups c d)
+  driver-acts d all = All-append IsDriverAct (flat_map (taken_at setups c) d.taken) (flat_map (issued_at setups c) d.issued) (all-taken d.taken) (all-put d.issued all)
 
--- serving a controller leaves its mail
-pub served-mail : {D : Type 0} (setups : List SeatSetup) (c : ℕ) (d : Drive D) (x : Ctl) → (served setups c d x).mail ≡ x.mail
-served-mail setups c d x =
-    all-served setups c (λ (y : Ctl). y.mail ≡ x.mail) (λ y same. same) (λ i. Unit {0}) (λ y i _ same. same) d x (λ k i within. tt) refl
+driver-fired : (acts : List DriverAct) (x : Ctl) → (after_driver_acts x acts).fired ≡ x.fired
+driver-fired [] x = refl
+driver-fired (Takes ∷ acts) x = driver-fired acts (after_driver_act x Takes)
+driver-fired (Issues asked ∷ acts) x = driver-fired acts (after_driver_act x (Issues asked))
 
 -- the controllers of a run at the seats of its driver
 module _ {D : Type 0} (p : Meaning) (drive : D → List Seat → ℕ → Drive D) (least : D → ℕ) (s : Setting D) (is : IsSetting least s) where
   abbrev R : Rules Ctl Message D
   R = rules p drive s
 
-  requests-fit : (c now : ℕ) (x : Ctl) → FitsRun s c x now → IfSome (requests_of x) own.FitsRequests
-  requests-fit c now x fits = let fit = fitting p drive least s is c x now fits in own-fits fit.setup.has_sequencer x.sequencer fit.fits.sequencer
+  requests-fit : (c now : ℕ) (x : Ctl) → FitsRun s c x now → IfSome x.sequencer FitsRequests
+  requests-fit c now x fits = let fit = fitting p drive least s is c x now fits in sequencer-fits fit.setup.has_sequencer x.sequencer fit.fits.sequencer
 
   seat-fits : (xs : List Ctl) (now : ℕ) → ((c : ℕ) (x : Ctl) → slice_get xs c ≡ Some x → FitsRun s c x now) → (st : SeatSetup) → FitsSeat (seat_in xs st)
   seat-fits xs now fits st =
-      cond_both st.has_sequencer (option_and_then requests_of (slice_get xs st.controller)) None (λ (o : Option own.Requests). IfSome o own.FitsRequests)
+      cond_both st.has_sequencer (option_and_then (λ (x : Ctl). x.sequencer) (slice_get xs st.controller)) None (λ (o : Option Requests). IfSome o FitsRequests)
       (λ _. at (slice_get xs st.controller) refl) (λ _. tt)
     where
-      at : (o : Option Ctl) → slice_get xs st.controller ≡ o → IfSome (option_and_then requests_of o) own.FitsRequests
+      at : (o : Option Ctl) → slice_get xs st.controller ≡ o → IfSome (option_and_then (λ (x : Ctl). x.sequencer) o) FitsRequests
       at None there = tt
       at (Some x) there = requests-fit st.controller now x (fits st.controller x there)
 
@@ -170,9 +158,9 @@ module _ {D : Type 0} (p : Meaning) (drive : D → List Seat → ℕ → Drive D
     served-fits c x fits =
         let fit = fitting p drive least s is c x now fits in
         fits-run p drive least s is c (served s.seats c turn x) now fit.setup fit.one
-        (all-served s.seats c (λ (y : Ctl). Fits fit.setup c y now) (λ y holds. answer_keeps fit.setup c now y holds) (IsIssued (length s.seats))
-        (λ y i known holds. request_keeps fit.setup c now y i.asked known.request holds) turn x issued-known fit.fits)
-        fit.bound
+        (driver_keeps (acts_at s.seats c turn) (driver-acts s.seats c (length s.seats) turn issued-known) fit.setup c now x fit.fits)
+        (subst (λ (mail : Mail). AreMarked now mail.marks mail.inbox) (sym (driver_mail (acts_at s.seats c turn) x)) fit.marked)
+        (let same = driver-fired (acts_at s.seats c turn) x in omega (arith, same, fit.few)) fit.bound
 
   -- the messages of requests
   abbrev pub driver_number : ℕ

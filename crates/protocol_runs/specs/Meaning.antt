@@ -1,12 +1,14 @@
 -- What a run needs of the meaning of a protocol: what a scan of a controller answers, by the number of its machine, the local as the
 -- scan begins, and the most transitions that a controller may fire in a cycle; and for which states and events of a machine a
--- transition is written. And what such a scan must keep for the laws of runs to hold. Whatever it fires is what acts leave of the
--- local that it began in, and is told as these acts tell it; where it rests, the controller is as it was, but for a mark for the next
+-- transition is written. And what such a scan must keep for the laws of runs to hold. It fires only where the controller has fired
+-- fewer transitions in this cycle than it may, and leaves what acts leave of the local that it began in, told as these acts tell it; where it rests, the controller is as it was, but for a mark for the next
 -- cycle where something stalled; and it stops as `invalid` exactly where it tried a pair for which no transition is written, at that
 -- pair. Where it is full, or stops with another fault, nothing is asked of it.
-use Rattle.std.specs.Prelude.{◌≡◌, ◌⊎◌, ◌+◌, ℕ, Bool, false, List, Contains, map}
+use Rattle.std.specs.Prelude.{◌≡◌, ◌⊎◌, ◌<◌, ◌+◌, ℕ, Bool, false, List, Contains, map}
 use Rattle.ruby_value.specs.declared.fault.Fault.TheVariants.{Invalid}
+use Rattle.ruby_value.specs.declared.message.Delivery as posted
 use Rattle.ruby_value.specs.declared.message.Message.{Message}
+use Rattle.ruby_value.specs.declared.message.Sent as face_sent
 use Rattle.ruby_value.specs.declared.setup.MachineSetup.{MachineSetup}
 use Rattle.run_journal.specs.declared.entry.FireNote.{FireNote}
 use Rattle.run_journal.specs.declared.entry.Sent.{Sent}
@@ -25,7 +27,7 @@ pub record Meaning : Type 0 where
   pub has_row : (machine state event : ℕ) → Bool
 
 -- what acts have done to messages, as an entry tells it, and the copies for other controllers
-abbrev pub sent_of : face.Note → Sent
+abbrev pub sent_of : face_sent.Sent → Sent
 sent_of n = record { number = n.number; receiver = n.receiver; buffer = n.buffer; arrival = n.arrival }
 
 abbrev pub acts_told : face.Acts → Acts
@@ -37,14 +39,15 @@ acts_told a = record {
   recycled = a.recycled;
 }
 
-abbrev pub delivery_of : face.Copy → Delivery Message
+abbrev pub delivery_of : posted.Delivery Message → Delivery Message
 delivery_of c = record { receiver = c.receiver; message = c.message }
 
-abbrev pub deliveries_of : List face.Copy → List (Delivery Message)
+abbrev pub deliveries_of : List (posted.Delivery Message) → List (Delivery Message)
 deliveries_of copies = map delivery_of copies
 
 -- a scan that began in this local has fired so
-pub record IsFired (v : LocalView) (acts : Acts) (copies : List (Delivery Message)) (after : Ctl) : Type 0 where
+pub record IsFired (v : LocalView) (limit : ℕ) (acts : Acts) (copies : List (Delivery Message)) (after : Ctl) : Type 0 where
+  pub few : v.ctl.fired < limit
   pub local : LocalView
   pub left : IsLeft v local
   pub acts_are : acts ≡ acts_told local.acts
@@ -61,10 +64,10 @@ pub record IsRefusedTry (has_row : ℕ → ℕ → Bool) (s : Scan Ctl Message) 
   pub no_row : has_row t.state t.event ≡ false
 
 -- what a scan that began in this local may answer
-pub record IsScanOf (v : LocalView) (has_row : ℕ → ℕ → Bool) (s : Scan Ctl Message) : Type 0 where
+pub record IsScanOf (v : LocalView) (limit : ℕ) (has_row : ℕ → ℕ → Bool) (s : Scan Ctl Message) : Type 0 where
   pub fires :
       (note : FireNote) (acts : Acts) (copies : List (Delivery Message)) (after : Ctl)
-      → s.outcome ≡ Fired note acts copies after → IsFired v acts copies after
+      → s.outcome ≡ Fired note acts copies after → IsFired v limit acts copies after
   pub idles : (after : Ctl) → s.outcome ≡ Idle after → Rests v after
   pub caused :
       (at : StopAt) → s.outcome ≡ Stop at → at.fault ≡ Invalid
@@ -75,4 +78,4 @@ pub record IsScanOf (v : LocalView) (has_row : ℕ → ℕ → Bool) (s : Scan C
 abbrev pub IsMeaning : Meaning → Type 0
 IsMeaning p =
     (machine : ℕ) (setup : MachineSetup) (actor : Actor) (now limit : ℕ) (ctl : Ctl)
-    → IsScanOf (scan_view setup actor now ctl) (p.has_row machine) (p.scan machine (scan_view setup actor now ctl) limit)
+    → IsScanOf (scan_view setup actor now ctl) limit (p.has_row machine) (p.scan machine (scan_view setup actor now ctl) limit)

@@ -5,10 +5,8 @@ use Rattle.std.specs.Option.{option_and_then}
 use Rattle.ruby_value.specs.declared.message.Message.{Message}
 use Rattle.ruby_value.specs.declared.setup.MachineSetup.{MachineSetup}
 use Rattle.ruby_runs.specs.Rules.{Drive, Idle, Mailed, Rules, Scan}
-use Rattle.ctl_face.specs.Between.{at_cycle, with_one_fired, with_stop, with_wake_up}
+use Rattle.ctl_face.specs.Between.{at_cycle, with_message, with_one_fired, with_stop, with_wake_up}
 use Rattle.ctl_face.specs.Ctl.{Ctl, InboxMessage}
-use Rattle.ctl_face.specs.Inbox.{with_message}
-use Rattle.ctl_face.specs.Mailing.{incoming_message}
 use Rattle.ctl_face.specs.Opening.{opening_ctl}
 use Rattle.ctl_face.specs.ScanView.{scan_view}
 use Rattle.sequencer.specs.Drive as own
@@ -30,9 +28,6 @@ resting x = record { outcome = Idle x; tried = [] }
 
 abbrev pub mailed : InboxMessage → Mailed
 mailed o = record { number = o.message.number; waits = is_some o.waiting; recycled = o.message.recycled }
-
-abbrev pub with_new_message : Ctl → Message → Ctl
-with_new_message x m = record x { mail = record x.mail { inbox = with_message x.mail.inbox (incoming_message m) } }
 
 module _ {D : Type 0} (p : Meaning) (drive : D → List Seat → ℕ → own.Drive D) (s : Setting D) where
   -- the scan of a controller of the machine of this number, with this setup
@@ -69,7 +64,7 @@ module _ {D : Type 0} (p : Meaning) (drive : D → List Seat → ℕ → own.Dri
     scan = λ c x now. scan_of c x now (machine_of s.ranges c);
     has_row = λ c state event. has_row_of (machine_of s.ranges c) state event;
     drive = λ d xs now issued. turn_of now issued (drive d (seats_in s.seats xs) now);
-    with_message = with_new_message;
+    with_message = with_message;
     with_mark = with_wake_up;
     with_one_fired = with_one_fired;
     with_stop = λ x at. with_stop x;

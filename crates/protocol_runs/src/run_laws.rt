@@ -1,6 +1,6 @@
 // What holds of every run of a protocol, whatever its scans do as long as they keep the laws of acts, and with any driver, from the
 // laws of runs over any controllers. These functions do nothing: their contracts are the laws.
-ghost use Rattle.std.specs.Prelude.{◌≡◌, ◌+◌, ℕ, List, None, Some, slice_get};
+ghost use Rattle.std.specs.Prelude.{◌≡◌, ◌+◌, ℕ, List, None, Some, map, slice_get};
 ghost use Rattle.run_journal.specs.declared.entry.Entry.{Entry as EntryRecord};
 ghost use Rattle.run_journal.specs.declared.event.Event.{Event as EventRecord};
 ghost use Rattle.run_journal.specs.declared.event.Event.TheVariants.{Turn};
@@ -20,6 +20,8 @@ ghost use Rattle.protocol_runs.specs.Kept.{FitsRun, HasSeats, SuitsReceiver};
 ghost use Rattle.protocol_runs.specs.Meaning.{IsMeaning, Meaning};
 ghost use Rattle.protocol_runs.specs.Rules.{rules};
 ghost use Rattle.protocol_runs.specs.Setting.{Setting};
+ghost use Rattle.protocol_runs.specs.Turn.{seats_in};
+ghost use Rattle.sequencer.specs.Seats.{FitSeats};
 
 use sequencer::Driver;
 
@@ -35,13 +37,23 @@ pub fn protocols_meet_the_premises<D: Driver>()
         → ReportsInvalid (rules p D.drive s) (FitsRun s) (SuitsReceiver s) (HasSeats s D.least) }
 {}
 
-/// In each world of a run each controller fits its machine, at a cycle of the run.
+/// In each world of a run each controller fits its machine, at a cycle of the run; it is to wake at the arrival of each of its messages
+/// that is still to come; and it has fired no more transitions in this cycle than it may.
 pub fn controllers_fit<D: Driver>()
     ensures { (p : Meaning) (s : Setting D) → IsMeaning p → IsSetting D.least s
         → (history : List EventRecord) (w : World Ctl D) (journal : List EntryRecord)
         → IsRun (rules p D.drive s) history w journal
         → (c : ℕ) (place : Place Ctl) → slice_get w.places c ≡ Some place
         → FitsRun s c place.controller w.now }
+{}
+
+/// In each world of a run that goes on, the seats fit the driver: a turn of it may be made there.
+pub fn seats_fit_the_driver<D: Driver>()
+    ensures { (p : Meaning) (s : Setting D) → IsMeaning p → IsSetting D.least s
+        → (history : List EventRecord) (w : World Ctl D) (journal : List EntryRecord)
+        → IsRun (rules p D.drive s) history w journal → w.verdict ≡ None
+        → FitSeats (D.least w.driver)
+        (seats_in s.seats (map (λ (place : Place Ctl). place.controller) w.places)) }
 {}
 
 /// In a run each controller that must wake at a cycle ends its wake-up in it once, and no other controller does.
