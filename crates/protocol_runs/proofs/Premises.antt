@@ -8,6 +8,7 @@ use Rattle.std.proofs.lemmas.List.Sums.{sum_by-cons}
 use Rattle.std.proofs.lemmas.Option.{same_Some}
 use Rattle.ruby_value.specs.Ascending.{has_mark, marks_from, with_mark}
 use Rattle.ruby_value.specs.declared.fault.Fault.TheVariants.{Invalid}
+use Rattle.ruby_value.specs.declared.message.Delivery.{Delivery}
 use Rattle.ruby_value.specs.declared.message.Message.{Message}
 use Rattle.ruby_value.specs.declared.message.MsgNo.{MsgNo}
 use Rattle.ruby_value.specs.declared.setup.MachineSetup.{MachineSetup}
@@ -18,10 +19,10 @@ use Rattle.ruby_runs.specs.Account.{times}
 use Rattle.ruby_runs.specs.InvalidExactly.{IsInvalidTry, invalid_at}
 use Rattle.ruby_runs.specs.Premises as runs
 use Rattle.ruby_runs.specs.Rules as runs_rules
-use Rattle.ruby_runs.specs.Rules.{Acts, Delivery, Fired, Idle, Rules, Stop, Tried}
+use Rattle.ruby_runs.specs.Rules.{Acts, Fired, Idle, Rules, Stop, Tried}
 use Rattle.ctl_face.specs.ActsFit.{numbers_in}
 use Rattle.ctl_face.specs.Between.{with_arrival, with_one_fired, with_stop, with_wake_up}
-use Rattle.ctl_face.specs.Ctl.{Ctl, InboxMessage}
+use Rattle.ctl_face.specs.Ctl.{Ctl, InboxMessage, Mail}
 use Rattle.ctl_face.specs.Fits.{Fits}
 use Rattle.ctl_face.specs.Inbox.{with_message}
 use Rattle.ctl_face.specs.Mailing.{incoming_message}
@@ -39,17 +40,20 @@ use Rattle.protocol_runs.specs.IsSetting.{IsSetting}
 use Rattle.protocol_runs.specs.Kept.{FitsRun, HasSeats, SuitsReceiver}
 use Rattle.protocol_runs.specs.Machines.{machine_of, setup_of}
 use Rattle.protocol_runs.specs.Turn.{acts_at, seats_in}
-use Rattle.protocol_runs.specs.Meaning.{IsFired, IsMeaning, IsRefusedTry, Meaning, Rests, acts_told, deliveries_of}
+use Rattle.protocol_runs.specs.Meaning.{IsFired, IsMeaning, IsRefusedTry, Meaning, Rests, acts_told}
 use Rattle.protocol_runs.specs.Rules.{has_row_of, mailed, opening_controllers, rules}
 use Rattle.protocol_runs.specs.Setting.{Setting}
 use Rattle.protocol_runs.proofs.Controllers.{IsOne, Opened, and-some, lawful-machine, one-by, opened, setup-is}
 use Rattle.protocol_runs.proofs.Driver.{IsDriver}
-use Rattle.protocol_runs.proofs.Scans.{Fitting, begun, copies-suit, fits-run, fitting, left-awake, left-few, left-fits, left-marked, maps-join, moves, scan-of}
+use Rattle.protocol_runs.proofs.Scans.{Fitting, begun, copies-suit, fits-run, fitting, left-awake, left-few, left-fits, left-later, left-marked, maps-join, moves, scan-of}
 use Rattle.protocol_runs.proofs.Turns.{IsRequestFor, issued-known, lawful-turn, requests-known, requests-numbered, served-fits, turn}
 
 -- a later mark doesn't change whether there is one for this cycle
 later-mark : (marks : List ℕ) (mark now : ℕ) → now < mark → has_mark (with_mark marks mark) now ≡ has_mark marks now
 later-mark marks mark now later = let kept = marks_with marks marks now mark later (marks_kept marks now) in kept.none_due now (omega arith)
+
+mark-beside : (marks : List ℕ) (mark cycle : ℕ) → IsTrue (has_mark marks cycle) → IsTrue (has_mark (with_mark marks mark) cycle)
+mark-beside marks mark cycle has = (with_mark-has marks mark cycle).1 (inr has)
 
 marked : (marks : List ℕ) (mark cycle : ℕ) → has_mark (with_mark marks mark) cycle ≡ (mark == cycle || has_mark marks cycle)
 marked marks mark cycle =
@@ -123,8 +127,13 @@ module _ {D : Type 0} (p : Meaning) (drive : D → List Seat → ℕ → own.Dri
 
     -- with another controller of the same machine
     keeps : (after : Ctl) → Fits fit.setup c after now → AreMarked now after.mail.marks after.mail.inbox → after.fired ≤ s.limit
-        → has_mark after.mail.marks now ≡ has_mark x.mail.marks now → Keeps c now x after
-    keeps after here marked few awake = record { fits = fits-run p drive least s is c after now fit.setup fit.one here marked few fit.bound; awake = awake }
+        → has_mark after.mail.marks now ≡ has_mark x.mail.marks now → ((cycle : ℕ) → IsTrue (has_mark x.mail.marks cycle) → IsTrue (has_mark after.mail.marks cycle))
+        → Keeps c now x after
+    keeps after here marked few awake later = record {
+      fits = fits-run p drive least s is c after now fit.setup fit.one here marked few fit.bound;
+      awake = awake;
+      later = λ cycle above has. later cycle has;
+    }
 
     fires : (note : FireNote) (acts : Acts) (copies : List (Delivery Message)) (after : Ctl) → (R.scan c x now).outcome ≡ Fired note acts copies after
         → IsFired (begun p drive least s is c fit.setup x now) s.limit acts copies after
@@ -137,7 +146,8 @@ module _ {D : Type 0} (p : Meaning) (drive : D → List Seat → ℕ → own.Dri
           (subst (λ (y : Ctl). Fits fit.setup c (with_one_fired y) now) (sym f.after_is) (left-fits p drive least s is c x now fit f.local f.left))
           (subst (λ (y : Ctl). AreMarked now y.mail.marks y.mail.inbox) (sym f.after_is) (left-marked p drive least s is c x now fit f.local f.left))
           (subst (λ (y : Ctl). (with_one_fired y).fired ≤ s.limit) (sym f.after_is) (left-few p drive least s is c x now fit f.local f.left f.few))
-          (ap (λ (y : Ctl). has_mark y.mail.marks now) f.after_is ∙ left-awake p drive least s is c x now fit f.local f.left),
+          (ap (λ (y : Ctl). has_mark y.mail.marks now) f.after_is ∙ left-awake p drive least s is c x now fit f.local f.left)
+          (λ cycle has. subst (λ (y : Ctl). IsTrue (has_mark y.mail.marks cycle)) (sym f.after_is) (left-later p drive least s is c x now fit f.local f.left cycle has)),
       subst (λ (ds : List (Delivery Message)). All (λ (d : Delivery Message). SuitsReceiver s d.receiver d.message now) ds) (sym f.copies_are)
           (copies-suit p drive least s is c x now fit f.local f.left),
     )
@@ -147,17 +157,17 @@ module _ {D : Type 0} (p : Meaning) (drive : D → List Seat → ℕ → own.Dri
     fires-moves acts copies after f =
         subst (λ (a : Acts). runs.MovesMail R c x a copies (with_one_fired after)) (sym f.acts_are)
         (subst (λ (ds : List (Delivery Message)). runs.MovesMail R c x (acts_told f.local.acts) ds (with_one_fired after)) (sym f.copies_are)
-        (subst (λ (y : Ctl). runs.MovesMail R c x (acts_told f.local.acts) (deliveries_of f.local.acts.posted) (with_one_fired y)) (sym f.after_is)
+        (subst (λ (y : Ctl). runs.MovesMail R c x (acts_told f.local.acts) f.local.acts.posted (with_one_fired y)) (sym f.after_is)
         (moves p drive least s is c x now fit f.local f.left)))
 
     marked-keeps : (mark : ℕ) → now < mark → Keeps c now x (with_wake_up x mark)
-    marked-keeps mark later = keeps (with_wake_up x mark) (wake_up_keeps fit.setup c now x mark fit.fits) (marked_with now mark x.mail.marks x.mail.inbox fit.marked) fit.few (later-mark x.mail.marks mark now later)
+    marked-keeps mark later = keeps (with_wake_up x mark) (wake_up_keeps fit.setup c now x mark fit.fits) (marked_with now mark x.mail.marks x.mail.inbox fit.marked) fit.few (later-mark x.mail.marks mark now later) (mark-beside x.mail.marks mark)
 
     rests : (after : Ctl) → (R.scan c x now).outcome ≡ Idle after → Rests (begun p drive least s is c fit.setup x now) after
     rests after idle = let scan = scan-of p drive least s is means c x now fit.setup fit.one in scan.idles after idle
 
     rest-keeps : (after : Ctl) → Rests (begun p drive least s is c fit.setup x now) after → Keeps c now x after
-    rest-keeps after (inl same) = subst (λ (y : Ctl). Keeps c now x y) (sym same) (keeps x fit.fits fit.marked fit.few refl)
+    rest-keeps after (inl same) = subst (λ (y : Ctl). Keeps c now x y) (sym same) (keeps x fit.fits fit.marked fit.few refl (λ cycle has. has))
     rest-keeps after (inr same) = subst (λ (y : Ctl). Keeps c now x y) (sym same) (marked-keeps (now + 1) (omega arith))
 
     rest-mail : (after : Ctl) → Rests (begun p drive least s is c fit.setup x now) after → runs.KeepsMail R x after
@@ -171,7 +181,7 @@ module _ {D : Type 0} (p : Meaning) (drive : D → List Seat → ℕ → own.Dri
         keeps (with_arrival x m)
         (arrival_keeps fit.setup c now x m (subst (λ (k : MachineSetup). TakesFields k.buffers m.buffer m.fields) same takes) suits.other fit.fits)
         (marked_put now x.mail.marks x.mail.inbox m fit.marked) fit.few
-        (later-mark x.mail.marks m.arrival now suits.later)
+        (later-mark x.mail.marks m.arrival now suits.later) (mark-beside x.mail.marks m.arrival)
 
     -- what a try of its scan has, by the protocol
     row-is : (state event : ℕ) → R.has_row c state event ≡ p.has_row fit.one.machine state event
@@ -198,13 +208,16 @@ module _ {D : Type 0} (p : Meaning) (drive : D → List Seat → ℕ → own.Dri
   Asked d xs now issued = runs.IsAsked R (FitsRun s) (SuitsReceiver s) (HasSeats s least) d xs now issued
 
   serves : (d : D) (xs : List Ctl) (now issued : ℕ) → Asked d xs now issued → (c : ℕ) (x : Ctl) → slice_get xs c ≡ Some x
-      → Keeps c now x ((R.drive d xs now issued).controller_after c x)
-  serves d xs now issued asked c x there = record {
-    fits = served-fits p drive least s is needs driver d xs now issued asked c x (asked.fits c x there);
-    awake = ap (λ mail. has_mark mail.marks now) (driver_mail (acts_at s.seats c (turn p drive least s is needs driver d xs now issued asked)) x);
-  }
+      → Keeps c now x ((R.driver_turn d xs now issued).controller_after c x)
+  serves d xs now issued asked c x there =
+      let same = driver_mail (acts_at s.seats c (turn p drive least s is needs driver d xs now issued asked)) x in
+      record {
+        fits = served-fits p drive least s is needs driver d xs now issued asked c x (asked.fits c x there);
+        awake = ap (λ (mail : Mail). has_mark mail.marks now) same;
+        later = λ cycle above has. subst (λ (mail : Mail). IsTrue (has_mark mail.marks cycle)) (sym same) has;
+      }
 
-  requests : (d : D) (xs : List Ctl) (now issued : ℕ) → Asked d xs now issued → All (IsRequestFor p drive least s is now) (R.drive d xs now issued).requests
+  requests : (d : D) (xs : List Ctl) (now issued : ℕ) → Asked d xs now issued → All (IsRequestFor p drive least s is now) (R.driver_turn d xs now issued).requests
   requests d xs now issued asked = requests-known p drive least s is now issued (turn p drive least s is needs driver d xs now issued asked).issued
 
   pub sound : runs.IsSound R (FitsRun s) (SuitsReceiver s) (HasSeats s least)
@@ -214,13 +227,13 @@ module _ {D : Type 0} (p : Meaning) (drive : D → List Seat → ℕ → own.Dri
     fires = λ c now x fits note acts copies after fired. fires-keeps c now x fits acts copies after (fires c now x fits note acts copies after fired);
     idles = λ c now x fits after idle. rest-keeps c now x fits after (rests c now x fits after idle);
     fills = λ c now x fits full. marked-keeps c now x fits (now + 1) (omega arith);
-    stops = λ c now x fits at stop. keeps c now x fits (with_stop x) (let f = fitting p drive least s is c x now fits in halted_keeps f.setup c now x f.fits) fits.marked fits.few refl;
+    stops = λ c now x fits at stop. keeps c now x fits (with_stop x) (let f = fitting p drive least s is c x now fits in halted_keeps f.setup c now x f.fits) fits.marked fits.few refl (λ cycle has. has);
     arrives = λ c now x m fits suits. arrives c now x fits m suits;
     begins = begins;
     serves = serves;
     asks = λ d xs now issued asked.
         All-weaker (IsRequestFor p drive least s is now) (λ (e : Delivery Message). SuitsReceiver s e.receiver e.message now) (λ e known. known.suits)
-        (R.drive d xs now issued).requests (requests d xs now issued asked);
+        (R.driver_turn d xs now issued).requests (requests d xs now issued asked);
     goes_on = λ d xs now issued next asked later within. record {
       enough = (let leads = asked.leads in let same = driver.lasting d (seats_in s.seats xs) now in omega (arith, same, leads.enough));
       bound = within;
@@ -269,7 +282,7 @@ module _ {D : Type 0} (p : Meaning) (drive : D → List Seat → ℕ → own.Dri
         (issued-known p drive least s is needs driver d xs now issued asked);
     receivers = λ d xs now issued asked.
         All-weaker (IsRequestFor p drive least s is now) (λ (e : Delivery Message). e.receiver < length R.controllers) (λ e known. known.receiver)
-        (R.drive d xs now issued).requests (requests d xs now issued asked);
+        (R.driver_turn d xs now issued).requests (requests d xs now issued asked);
   }
 
   pub reports_invalid : runs.ReportsInvalid R (FitsRun s) (SuitsReceiver s) (HasSeats s least)

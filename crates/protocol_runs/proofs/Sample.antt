@@ -6,6 +6,7 @@ use Rattle.std.specs.List.{AllPairs}
 use Rattle.std.specs.Option.{option_flatten}
 use Rattle.ruby_value.specs.declared.fault.Fault.{Fault}
 use Rattle.ruby_value.specs.declared.fault.Fault.TheVariants.{Invalid}
+use Rattle.ruby_value.specs.declared.message.Delivery.{Delivery}
 use Rattle.ruby_value.specs.declared.message.Message.{Message}
 use Rattle.ruby_value.specs.declared.setup.BufferSetup.{BufferSetup}
 use Rattle.ruby_value.specs.declared.setup.MachineSetup.{MachineSetup}
@@ -13,7 +14,7 @@ use Rattle.ruby_value.specs.declared.setup.TableSetup.{TableSetup}
 use Rattle.run_journal.specs.declared.entry.FireNote.{FireNote}
 use Rattle.run_journal.specs.declared.entry.StopAt.{StopAt}
 use Rattle.ruby_runs.specs.InvalidExactly.{invalid_at}
-use Rattle.ruby_runs.specs.Rules.{Acts, Delivery, Fired, Full, Idle, Outcome, Scan, Stop, Tried}
+use Rattle.ruby_runs.specs.Rules.{Acts, Fired, Full, Idle, Outcome, Scan, Stop, Tried}
 use Rattle.ctl_face.specs.Ctl.{Ctl}
 use Rattle.ctl_face.specs.IsMachine.{AgreeOnType, AreOnOneNetwork, IsBufferSetup, IsMachine, IsTableSetup, ParametersAreLast}
 use Rattle.ctl_face.specs.LocalView.{Actor, LocalView}

@@ -1,18 +1,17 @@
 -- What a scan that fired leaves, and what it has sent.
-use Rattle.std.proofs.Common.{◌≡◌, ◌<◌, ◌≤◌, ◌+◌, ◌^◌, ◌==◌, ◌||◌, ℕ, zero, suc, Bool, List, [], ◌∷◌, Option, Some, All, slice_get, map, length, refl, sym, ap, subst, ◌∙◌, arith}
+use Rattle.std.proofs.Common.{◌≡◌, ◌<◌, ◌≤◌, ◌+◌, ◌^◌, ◌==◌, ◌||◌, ℕ, zero, suc, Bool, List, [], ◌∷◌, Option, Some, All, IsTrue, slice_get, map, length, refl, sym, ap, subst, ◌∙◌, arith}
 use Rattle.std.specs.Prelude.{count_by}
 use Rattle.std.proofs.lemmas.List.{length-map}
 use Rattle.std.proofs.lemmas.List.Elements.{All-map, All-weaker}
 use Rattle.ruby_value.specs.Ascending.{has_mark}
-use Rattle.ruby_value.specs.declared.message.Delivery as posted_to
+use Rattle.ruby_value.specs.declared.message.Delivery.{Delivery}
 use Rattle.ruby_value.specs.declared.message.Message.{Message}
-use Rattle.ruby_value.specs.declared.message.Sent as face_sent
+use Rattle.ruby_value.specs.declared.message.Sent.{Sent}
 use Rattle.ruby_value.specs.declared.message.MsgNo.{MsgNo}
 use Rattle.ruby_value.specs.declared.setup.MachineSetup.{MachineSetup}
-use Rattle.run_journal.specs.declared.entry.Sent.{Sent}
 use Rattle.ruby_runs.specs.Premises as runs
 use Rattle.ruby_runs.specs.Rules as runs_rules
-use Rattle.ruby_runs.specs.Rules.{Acts, Delivery, Rules, Scan}
+use Rattle.ruby_runs.specs.Rules.{Rules}
 use Rattle.ruby_runs.specs.Step.{delivery_numbers}
 use Rattle.ctl_face.specs.Acts as face
 use Rattle.ctl_face.specs.ActsFit.{numbers_in}
@@ -24,7 +23,6 @@ use Rattle.ctl_face.specs.InRun.{IsInRun}
 use Rattle.ctl_face.specs.LocalView.{Actor, LocalView, SameScan}
 use Rattle.ctl_face.specs.OfMachine.{TakesFields}
 use Rattle.ctl_face.specs.ScanView.{scan_view}
-use Rattle.ruby_value.specs.NumbersFrom as face_sends
 use Rattle.ctl_face.proofs.Betweens.{fired_keeps}
 use Rattle.ctl_face.proofs.LawfulAfter.{scan_begins}
 use Rattle.ctl_face.proofs.OwnBuffers.{fit_each}
@@ -38,7 +36,7 @@ use Rattle.sequencer.specs.Seats.{Seat}
 use Rattle.protocol_runs.specs.IsSetting.{IsSetting}
 use Rattle.protocol_runs.specs.Kept.{FitsRun, SuitsReceiver}
 use Rattle.protocol_runs.specs.Machines.{actor_of, machine_of, setup_of}
-use Rattle.protocol_runs.specs.Meaning.{IsFired, IsMeaning, IsScanOf, Meaning, acts_told, deliveries_of, delivery_of, sent_of}
+use Rattle.protocol_runs.specs.Meaning.{IsFired, IsMeaning, IsScanOf, Meaning, acts_told}
 use Rattle.protocol_runs.specs.Rules.{mailed, rules, scan_by, scan_of}
 use Rattle.protocol_runs.specs.Setting.{Setting}
 use Rattle.protocol_runs.proofs.Controllers.{IsOne, below-count, controller-is, lawful-machine, one-by, one-of, setup-is, some-and, and-some}
@@ -49,10 +47,6 @@ maps-join f g (x ∷ xs) = ap (λ zs. f (g x) ∷ zs) (maps-join f g xs)
 
 all-both : {X : Type 0} (P Q : X → Type 0) (xs : List X) → All P xs → All Q xs → All (λ x. P x × Q x) xs
 all-both P Q xs first second = λ k d within. (first k d within, second k d within)
-
-numbers-are : (me count n : ℕ) → face_sends.numbers_from me count n ≡ runs.numbers_from me count n
-numbers-are me count zero = refl
-numbers-are me count (suc n) = ap (λ ns. record { sender = me; count = count } ∷ ns) (numbers-are me (count + 1) n)
 
 -- what a local of the same scan has kept, by what the scan began with
 module _ (v w : LocalView) (same : SameScan v w) where
@@ -136,18 +130,21 @@ module _ {D : Type 0} (p : Meaning) (drive : D → List Seat → ℕ → own.Dri
       pub left-few : x.fired < s.limit → (with_one_fired w.ctl).fired ≤ s.limit
       left-few few = let counts = left_counts V w left in omega (arith, few, counts.fired)
 
+      pub left-later : (cycle : ℕ) → IsTrue (has_mark x.mail.marks cycle) → IsTrue (has_mark w.ctl.mail.marks cycle)
+      left-later = let marks = left_marks V w left in marks.stay
+
       pub left-awake : has_mark w.ctl.mail.marks now ≡ has_mark x.mail.marks now
       left-awake = let marks = left_marks V w left in marks.none_due now (omega arith)
 
       mailed-left : HasMailed w
       mailed-left = left_mailed V w left lawful
 
-      posted : All (λ (d : (posted_to.Delivery Message)). IsPosted c now d × FitsReceiver s.machines s.ranges d) w.acts.posted
+      posted : All (λ (d : (Delivery Message)). IsPosted c now d × FitsReceiver s.machines s.ranges d) w.acts.posted
       posted =
           all-both (IsPosted c now) (FitsReceiver s.machines s.ranges) w.acts.posted (posted-still V w same mailed-left.posted)
           (left_copies V w left s.machines s.ranges in-run)
 
-      suits : (d : (posted_to.Delivery Message)) → IsPosted c now d × FitsReceiver s.machines s.ranges d → SuitsReceiver s d.receiver d.message now
+      suits : (d : (Delivery Message)) → IsPosted c now d × FitsReceiver s.machines s.ranges d → SuitsReceiver s d.receiver d.message now
       suits d (from, fits) =
           let (m, there, takes) = and-some (λ (m : MachineSetup). TakesFields m.buffers d.message.buffer d.message.fields) (slice_get s.machines fits.machine) fits.takes in
           let one = one-by s least is d.receiver fits.machine m fits.of_machine there in
@@ -158,40 +155,28 @@ module _ {D : Type 0} (p : Meaning) (drive : D → List Seat → ℕ → own.Dri
             not_recycled = from.not_recycled;
           }
 
-      pub copies-suit : All (λ (d : Delivery Message). SuitsReceiver s d.receiver d.message now) (deliveries_of w.acts.posted)
+      pub copies-suit : All (λ (d : Delivery Message). SuitsReceiver s d.receiver d.message now) w.acts.posted
       copies-suit =
-          All-map (λ (d : Delivery Message). SuitsReceiver s d.receiver d.message now) delivery_of w.acts.posted
-          (All-weaker (λ (d : (posted_to.Delivery Message)). IsPosted c now d × FitsReceiver s.machines s.ranges d) (λ (d : (posted_to.Delivery Message)). SuitsReceiver s d.receiver d.message now) suits w.acts.posted posted)
+          All-weaker (λ (d : Delivery Message). IsPosted c now d × FitsReceiver s.machines s.ranges d) (λ (d : Delivery Message). SuitsReceiver s d.receiver d.message now) suits
+          w.acts.posted posted
 
-      have-receivers : All (λ (d : Delivery Message). d.receiver < length R.controllers) (deliveries_of w.acts.posted)
+      have-receivers : All (λ (d : Delivery Message). d.receiver < length R.controllers) w.acts.posted
       have-receivers =
-          All-map (λ (d : Delivery Message). d.receiver < length R.controllers) delivery_of w.acts.posted
-          (All-weaker (λ (d : (posted_to.Delivery Message)). IsPosted c now d × FitsReceiver s.machines s.ranges d) (λ (d : (posted_to.Delivery Message)). d.receiver < length R.controllers)
-          (λ d (from, fits). below-count s least is d.receiver fits.machine fits.of_machine) w.acts.posted posted)
+          All-weaker (λ (d : Delivery Message). IsPosted c now d × FitsReceiver s.machines s.ranges d) (λ (d : Delivery Message). d.receiver < length R.controllers)
+          (λ d (from, fits). below-count s least is d.receiver fits.machine fits.of_machine) w.acts.posted posted
 
       numbers-in : (inbox : List InboxMessage) → map (λ (o : runs_rules.Mailed). o.number) (map mailed inbox) ≡ numbers_in inbox
       numbers-in inbox = maps-join (λ (o : runs_rules.Mailed). o.number) mailed inbox
 
-      numbers-sent : (notes : List face_sent.Sent) → map (λ (n : Sent). n.number) (map sent_of notes) ≡ map (λ (n : face_sent.Sent). n.number) notes
-      numbers-sent notes = maps-join (λ (n : Sent). n.number) sent_of notes
-
-      numbers-posted : (copies : List (posted_to.Delivery Message)) → delivery_numbers R (deliveries_of copies) ≡ map (λ (d : (posted_to.Delivery Message)). d.message.number) copies
-      numbers-posted copies = maps-join (λ (d : Delivery Message). d.message.number) delivery_of copies
-
-      pub moves : runs.MovesMail R c x (acts_told w.acts) (deliveries_of w.acts.posted) (with_one_fired w.ctl)
+      pub moves : runs.MovesMail R c x (acts_told w.acts) w.acts.posted (with_one_fired w.ctl)
       moves =
           let has = moves-still V w same mailed-left.moves in
-          let count : length (map sent_of w.acts.sent) ≡ length w.acts.sent = length-map w.acts.sent sent_of in
           record {
             moved = λ f.
-                ap (λ (k : ℕ). k + count_by f (map (λ (n : Sent). n.number) (map sent_of w.acts.sent))) (ap (count_by f) (numbers-in x.mail.inbox))
-                ∙ ap (λ (k : ℕ). count_by f (numbers_in x.mail.inbox) + k) (ap (count_by f) (numbers-sent w.acts.sent))
+                ap (λ (k : ℕ). k + count_by f (map (λ (n : Sent). n.number) w.acts.sent)) (ap (count_by f) (numbers-in x.mail.inbox))
                 ∙ has.moved f
-                ∙ sym (ap (λ (k : ℕ). count_by f w.acts.consumed + k + count_by f (numbers_in w.ctl.mail.inbox)) (ap (count_by f) (numbers-posted w.acts.posted)))
-                ∙ sym (ap (λ (k : ℕ). count_by f w.acts.consumed + count_by f (delivery_numbers R (deliveries_of w.acts.posted)) + k) (ap (count_by f) (numbers-in w.ctl.mail.inbox)));
-            numbers =
-                numbers-sent w.acts.sent ∙ has.numbers ∙ numbers-are c x.mail.sent (length w.acts.sent)
-                ∙ ap (λ (n : ℕ). runs.numbers_from c x.mail.sent n) (sym count);
-            sent = has.sent ∙ ap (λ (n : ℕ). x.mail.sent + n) (sym count);
+                ∙ sym (ap (λ (k : ℕ). count_by f w.acts.consumed + count_by f (delivery_numbers R w.acts.posted) + k) (ap (count_by f) (numbers-in w.ctl.mail.inbox)));
+            numbers = has.numbers;
+            sent = has.sent;
             receivers = have-receivers;
           }

@@ -13,14 +13,16 @@ use Rattle.ruby_value.specs.declared.asked.Ask.{Ask}
 use Rattle.ruby_value.specs.declared.asked.Ask.TheVariants.{Load, Store, Fetch}
 use Rattle.ruby_value.specs.declared.asked.Asked.{Asked}
 use Rattle.ruby_value.specs.declared.kind.Kind.{Kind}
+use Rattle.ruby_value.specs.declared.message.Delivery.{Delivery}
 use Rattle.ruby_value.specs.declared.message.Message.{Message}
 use Rattle.ruby_value.specs.declared.message.MsgNo.{MsgNo}
 use Rattle.ruby_value.specs.declared.setup.BufferSetup.{BufferSetup}
 use Rattle.ruby_value.specs.declared.setup.MachineSetup.{MachineSetup}
 use Rattle.ruby_value.specs.HasKinds.{has_kinds}
+use Rattle.ruby_value.specs.NumbersFrom.{numbers_from}
 use Rattle.ruby_value.proofs.Ordered.{AllPairs-head, AllPairs-nil, AllPairs-tail}
 use Rattle.ruby_runs.specs.Premises as runs
-use Rattle.ruby_runs.specs.Rules.{Delivery, Rules}
+use Rattle.ruby_runs.specs.Rules.{Rules}
 use Rattle.ruby_runs.specs.Step.{delivery_numbers}
 use Rattle.ctl_face.specs.Between.{DriverAct, IsDriverAct, Issues, Takes, after_driver_act, after_driver_acts}
 use Rattle.ctl_face.specs.Ctl.{Ctl, Mail}
@@ -213,7 +215,7 @@ module _ {D : Type 0} (p : Meaning) (drive : D → List Seat → ℕ → Drive D
 
   -- their numbers are the driver's next ones
   pub requests-numbered : (now count : ℕ) (xs : List Issued) → All (IsIssued (length s.seats)) xs
-      → numbers (request_messages s.seats driver_number count now xs) ≡ runs.numbers_from driver_number count (length (request_messages s.seats driver_number count now xs))
+      → numbers (request_messages s.seats driver_number count now xs) ≡ numbers_from driver_number count (length (request_messages s.seats driver_number count now xs))
   requests-numbered now count [] all = refl
   requests-numbered now count (i ∷ rest) all = at (slice_get s.seats i.seat) refl (requests-numbered now (count + 1) rest (All-tail (IsIssued (length s.seats)) i rest all))
     where
@@ -222,8 +224,8 @@ module _ {D : Type 0} (p : Meaning) (drive : D → List Seat → ℕ → Drive D
 
       at : (o : Option SeatSetup) → slice_get s.seats i.seat ≡ o
           → numbers (request_messages s.seats driver_number (count + 1) now rest)
-          ≡ runs.numbers_from driver_number (count + 1) (length (request_messages s.seats driver_number (count + 1) now rest))
+          ≡ numbers_from driver_number (count + 1) (length (request_messages s.seats driver_number (count + 1) now rest))
           → numbers (request_at o (record { sender = driver_number; count = count }) now i.asked ++ request_messages s.seats driver_number (count + 1) now rest)
-          ≡ runs.numbers_from driver_number count (length (request_at o (record { sender = driver_number; count = count }) now i.asked ++ request_messages s.seats driver_number (count + 1) now rest))
+          ≡ numbers_from driver_number count (length (request_at o (record { sender = driver_number; count = count }) now i.asked ++ request_messages s.seats driver_number (count + 1) now rest))
       at None there more = absurd (cc (sym there ∙ slice_get-get_or s.seats i.seat (record { controller = 0; has_sequencer = false; queue = 0 }) within))
       at (Some st) there more = ap (λ (ns : List MsgNo). record { sender = driver_number; count = count } ∷ ns) more

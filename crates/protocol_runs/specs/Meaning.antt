@@ -4,17 +4,15 @@
 -- fewer transitions in this cycle than it may, and leaves what acts leave of the local that it began in, told as these acts tell it; where it rests, the controller is as it was, but for a mark for the next
 -- cycle where something stalled; and it stops as `invalid` exactly where it tried a pair for which no transition is written, at that
 -- pair. Where it is full, or stops with another fault, nothing is asked of it.
-use Rattle.std.specs.Prelude.{◌≡◌, ◌⊎◌, ◌<◌, ◌+◌, ℕ, Bool, false, List, Contains, map}
+use Rattle.std.specs.Prelude.{◌≡◌, ◌⊎◌, ◌<◌, ◌+◌, ℕ, Bool, false, List, Contains}
 use Rattle.ruby_value.specs.declared.fault.Fault.TheVariants.{Invalid}
-use Rattle.ruby_value.specs.declared.message.Delivery as posted
+use Rattle.ruby_value.specs.declared.message.Delivery.{Delivery}
 use Rattle.ruby_value.specs.declared.message.Message.{Message}
-use Rattle.ruby_value.specs.declared.message.Sent as face_sent
 use Rattle.ruby_value.specs.declared.setup.MachineSetup.{MachineSetup}
 use Rattle.run_journal.specs.declared.entry.FireNote.{FireNote}
-use Rattle.run_journal.specs.declared.entry.Sent.{Sent}
 use Rattle.run_journal.specs.declared.entry.StopAt.{StopAt}
 use Rattle.ruby_runs.specs.InvalidExactly.{invalid_at}
-use Rattle.ruby_runs.specs.Rules.{Acts, Delivery, Fired, Idle, Scan, Stop, Tried}
+use Rattle.ruby_runs.specs.Rules.{Acts, Fired, Idle, Scan, Stop, Tried}
 use Rattle.ctl_face.specs.Acts as face
 use Rattle.ctl_face.specs.Between.{with_wake_up}
 use Rattle.ctl_face.specs.Ctl.{Ctl}
@@ -26,24 +24,15 @@ pub record Meaning : Type 0 where
   pub scan : (machine : ℕ) → LocalView → (limit : ℕ) → Scan Ctl Message
   pub has_row : (machine state event : ℕ) → Bool
 
--- what acts have done to messages, as an entry tells it, and the copies for other controllers
-abbrev pub sent_of : face_sent.Sent → Sent
-sent_of n = record { number = n.number; receiver = n.receiver; buffer = n.buffer; arrival = n.arrival }
-
+-- what acts have done to messages, as an entry tells it
 abbrev pub acts_told : face.Acts → Acts
 acts_told a = record {
   consumed = a.consumed;
-  sent = map sent_of a.sent;
+  sent = a.sent;
   stalled = a.stalled;
   woken = a.woken;
   recycled = a.recycled;
 }
-
-abbrev pub delivery_of : posted.Delivery Message → Delivery Message
-delivery_of c = record { receiver = c.receiver; message = c.message }
-
-abbrev pub deliveries_of : List (posted.Delivery Message) → List (Delivery Message)
-deliveries_of copies = map delivery_of copies
 
 -- a scan that began in this local has fired so
 pub record IsFired (v : LocalView) (limit : ℕ) (acts : Acts) (copies : List (Delivery Message)) (after : Ctl) : Type 0 where
@@ -51,7 +40,7 @@ pub record IsFired (v : LocalView) (limit : ℕ) (acts : Acts) (copies : List (D
   pub local : LocalView
   pub left : IsLeft v local
   pub acts_are : acts ≡ acts_told local.acts
-  pub copies_are : copies ≡ deliveries_of local.acts.posted
+  pub copies_are : copies ≡ local.acts.posted
   pub after_is : after ≡ local.ctl
 
 -- the controller as a scan leaves it in which no port fired: without stall, or with one

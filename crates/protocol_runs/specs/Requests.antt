@@ -8,11 +8,11 @@ use Rattle.ruby_value.specs.declared.asked.Ask.TheVariants.{Load, Store, Fetch}
 use Rattle.ruby_value.specs.declared.asked.Asked.{Asked}
 use Rattle.ruby_value.specs.declared.kind.Kind.{Kind}
 use Rattle.ruby_value.specs.declared.kind.Kind.TheVariants as kind
+use Rattle.ruby_value.specs.declared.message.Delivery.{Delivery}
 use Rattle.ruby_value.specs.declared.message.Message.{Message}
 use Rattle.ruby_value.specs.declared.message.MsgNo.{MsgNo}
 use Rattle.ruby_value.specs.declared.value.Value.{Value}
 use Rattle.ruby_value.specs.declared.value.Value.TheVariants as value
-use Rattle.ruby_runs.specs.Rules.{Delivery}
 use Rattle.sequencer.specs.declared.issued.Issued.{Issued}
 use Rattle.protocol_runs.specs.Setting.{SeatSetup}
 

@@ -4,12 +4,12 @@ use Rattle.std.specs.Prelude.{ℕ, Bool, false, Option, None, Some, List, [], �
 use Rattle.std.specs.Option.{option_and_then}
 use Rattle.ruby_value.specs.declared.message.Message.{Message}
 use Rattle.ruby_value.specs.declared.setup.MachineSetup.{MachineSetup}
-use Rattle.ruby_runs.specs.Rules.{Drive, Idle, Mailed, Rules, Scan}
+use Rattle.ruby_runs.specs.Rules.{DriverTurn, Idle, Mailed, Rules, Scan}
 use Rattle.ctl_face.specs.Between.{at_cycle, with_message, with_one_fired, with_stop, with_wake_up}
 use Rattle.ctl_face.specs.Ctl.{Ctl, InboxMessage}
 use Rattle.ctl_face.specs.Opening.{opening_ctl}
 use Rattle.ctl_face.specs.ScanView.{scan_view}
-use Rattle.sequencer.specs.Drive as own
+use Rattle.sequencer.specs.Drive.{Drive}
 use Rattle.sequencer.specs.Seats.{Seat}
 use Rattle.protocol_runs.specs.Machines.{actor_of, machine_of}
 use Rattle.protocol_runs.specs.Meaning.{Meaning}
@@ -29,7 +29,7 @@ resting x = record { outcome = Idle x; tried = [] }
 abbrev pub mailed : InboxMessage → Mailed
 mailed o = record { number = o.message.number; waits = is_some o.waiting; recycled = o.message.recycled }
 
-module _ {D : Type 0} (p : Meaning) (drive : D → List Seat → ℕ → own.Drive D) (s : Setting D) where
+module _ {D : Type 0} (p : Meaning) (drive : D → List Seat → ℕ → Drive D) (s : Setting D) where
   -- the scan of a controller of the machine of this number, with this setup
   abbrev pub scan_by : (controller : ℕ) → Ctl → (now machine : ℕ) → Option MachineSetup → Scan Ctl Message
   scan_by controller x now machine None = resting x
@@ -47,7 +47,7 @@ module _ {D : Type 0} (p : Meaning) (drive : D → List Seat → ℕ → own.Dri
   opening_of = opening_controllers s.machines s.ranges
 
   -- a driver's turn, by what it does at its seats, where it has issued n requests before
-  abbrev pub turn_of : (now issued : ℕ) → own.Drive D → Drive Ctl Message D
+  abbrev pub turn_of : (now issued : ℕ) → Drive D → DriverTurn Ctl Message D
   turn_of now issued d = record {
     driver = d.driver;
     controller_after = λ c x. served s.seats c d x;
@@ -63,7 +63,7 @@ module _ {D : Type 0} (p : Meaning) (drive : D → List Seat → ℕ → own.Dri
     cycles = s.cycles;
     scan = λ c x now. scan_of c x now (machine_of s.ranges c);
     has_row = λ c state event. has_row_of (machine_of s.ranges c) state event;
-    drive = λ d xs now issued. turn_of now issued (drive d (seats_in s.seats xs) now);
+    driver_turn = λ d xs now issued. turn_of now issued (drive d (seats_in s.seats xs) now);
     with_message = with_message;
     with_mark = with_wake_up;
     with_one_fired = with_one_fired;

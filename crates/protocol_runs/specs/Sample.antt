@@ -28,7 +28,7 @@ use Rattle.acts.specs.Act.{Pop, Ready, Send}
 use Rattle.acts.specs.Acting.{Acting, ends, ◌>>=◌, ◌>>◌, act, either, run}
 use Rattle.acts.specs.Done.{Done}
 use Rattle.sequencer.specs.PlainDriver.{plain_drive}
-use Rattle.protocol_runs.specs.Meaning.{Meaning, acts_told, deliveries_of}
+use Rattle.protocol_runs.specs.Meaning.{Meaning, acts_told}
 use Rattle.protocol_runs.specs.Requests.{request_kinds}
 use Rattle.protocol_runs.specs.Rules.{rules}
 use Rattle.protocol_runs.specs.Setting.{Setting}
@@ -69,7 +69,7 @@ taking =
 abbrev pub outcome_of : LocalView → Result (Done Bool) Fault → Outcome Ctl Message
 outcome_of v (Ok d) =
     if d.value
-    then Fired (record { address = 0; state = 0; event = 0; next = 0 }) (acts_told d.view.acts) (deliveries_of d.view.acts.posted) d.view.ctl
+    then Fired (record { address = 0; state = 0; event = 0; next = 0 }) (acts_told d.view.acts) d.view.acts.posted d.view.ctl
     else Idle v.ctl
 outcome_of v (Err fault) = Stop (record { address = None; state = None; event = None; fault = fault })
 

@@ -11,3 +11,4 @@ pub mod Tallies
 pub mod Accounting
 pub mod Accounted
 pub mod Fresh
+pub mod Marks
