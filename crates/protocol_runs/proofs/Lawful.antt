@@ -1,5 +1,5 @@
 -- The laws of runs, for runs of a protocol.
-use Rattle.std.proofs.Common.{◌≡◌, ◌+◌, ◌∙◌, ℕ, List, Option, None, Some, ap, map, slice_get, sym}
+use Rattle.std.proofs.Common.{◌≡◌, ◌+◌, ◌∙◌, ℕ, List, Option, None, Some, ap, length, map, slice_get, sym}
 use Rattle.std.proofs.lemmas.Option.{same_Some}
 use Rattle.run_journal.specs.declared.entry.Entry.{Entry}
 use Rattle.run_journal.specs.declared.event.Event.{Event}
@@ -7,6 +7,8 @@ use Rattle.ruby_runs.specs.Account.{IsAccounted, account}
 use Rattle.ruby_runs.specs.Alone.{IsAlone}
 use Rattle.ruby_runs.specs.Fresh.{HasFreshNumbers}
 use Rattle.ruby_runs.specs.InvalidExactly.{InvalidExactly}
+use Rattle.ruby_runs.specs.MarksStay.{MarksStay}
+use Rattle.ruby_runs.specs.Step.{Stepped, step}
 use Rattle.ruby_runs.specs.Run.{HasEnded, IsRun, Ran}
 use Rattle.ruby_runs.specs.WakesOnce.{WakesOnce}
 use Rattle.ruby_runs.specs.World.{Place, World}
@@ -14,6 +16,7 @@ use Rattle.ruby_runs.proofs.Accounted as accounting
 use Rattle.ruby_runs.proofs.Fitting as fitting
 use Rattle.ruby_runs.proofs.Fresh.{fresh-numbers}
 use Rattle.ruby_runs.proofs.Invalid as invalid
+use Rattle.ruby_runs.proofs.Marks.{marks-stay}
 use Rattle.ruby_runs.proofs.OneRun as one
 use Rattle.ruby_runs.proofs.Woken as waking
 use Rattle.ctl_face.specs.Ctl.{Ctl}
@@ -67,6 +70,12 @@ module _ {D : Type 0} (drive : D → List Seat → ℕ → Drive D) (needs : D �
   fresh =
       fresh-numbers (rules p drive s) (FitsRun s) (SuitsReceiver s) (HasSeats s least) (sound p drive needs least s means driver is)
       (carries_mail p drive needs least s means driver is)
+
+  pub marks_stay : (history : List Event) (e : Event) (w : World Ctl D) (journal : List Entry) (st : Stepped Ctl D) → IsRun (rules p drive s) history w journal
+      → step (rules p drive s) (length journal) w e ≡ Some st → MarksStay (rules p drive s) w st.world
+  marks_stay =
+      marks-stay (rules p drive s) (FitsRun s) (SuitsReceiver s) (HasSeats s least) (sound p drive needs least s means driver is)
+      (keeps_marks p drive needs least s means driver is)
 
   pub one_history : (history other : List Event) (w v : World Ctl D) (journal told : List Entry)
       → IsRun (rules p drive s) history w journal → HasEnded w → IsAlone (rules p drive s) history

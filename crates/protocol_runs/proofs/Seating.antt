@@ -1,7 +1,7 @@
 -- What a turn makes of the controllers is what it makes of its seats: each seat afterwards is that of its controller as it was served,
 -- and a controller that has no seat stays.
-use Rattle.std.proofs.Common.{◌≡◌, ◌≢◌, ◌<◌, ◌+◌, ◌++◌, ◌∙◌, ◌⊎◌, ◌&&◌, ℕ, zero, suc, Bool, true, false, cond, List, [], ◌∷◌, Option, None, Some, inl, inr, ⊎_elim, length, refl, sym, ap, subst, arith, get_or, slice_get, slice_set, eqb}
-use Rattle.std.proofs.lemmas.Bool.{cases_eq, eq-eqb, ne_eqb}
+use Rattle.std.proofs.Common.{◌≡◌, ◌≢◌, ◌<◌, ◌≤◌, ◌+◌, ◌++◌, ◌∙◌, ◌⊎◌, ◌&&◌, ℕ, zero, suc, Bool, true, false, cond, List, [], ◌∷◌, Option, None, Some, inl, inr, ⊎_elim, length, refl, sym, ap, subst, arith, get_or, slice_get, slice_set, eqb}
+use Rattle.std.proofs.lemmas.Bool.{cases_eq, cases_lt, eq-eqb, ne_eqb}
 use Rattle.std.proofs.lemmas.List.Sums.{fold-append}
 use Rattle.std.proofs.lemmas.Option.{get_or_from_slice_get, slice_get-map, slice_get_within}
 use Rattle.std.specs.List.{AllPairs, flat_map}
@@ -57,7 +57,10 @@ module _ (setups : List SeatSetup) (distinct : AllPairs AreApart setups) where
       (sides j k apart)
     where
       sides : (m n : ℕ) → m ≢ n → (m < n) ⊎ (n < m)
-      sides m n differ = grind (arith, differ)
+      sides m n differ =
+          ⊎_elim (λ (less : m < n). inl less)
+          (λ (above : n ≤ m). ⊎_elim (λ (more : n < m). inr more) (λ (under : m ≤ n). absurd (differ (omega arith))) (cases_lt n m))
+          (cases_lt m n)
 
   module _ (k : ℕ) (st : SeatSetup) (there : slice_get setups k ≡ Some st) where
     -- whether what is done at a seat is done to this seat's controller

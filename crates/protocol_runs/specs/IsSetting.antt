@@ -1,7 +1,7 @@
--- What a setting must be for the laws of runs to hold: its machines are as they may be, its ranges of controllers are those of the
--- machines and follow on one another, its routes fit, the run goes no further than the last cycle of any run, and the driver has the
--- seats that it needs, each at another controller and with the buffer `mandatoryQueue` of that controller's machine, which is the
--- controller's own and takes the messages of requests.
+-- What a setting must be for the laws of runs to hold: its machines are as they may be, its ranges of controllers are those of
+-- the machines and follow on one another, its routes fit, the run goes no further than the last cycle of any run, and the driver
+-- has the seats that it needs, each at another controller and with the buffer `mandatoryQueue` of that controller's machine,
+-- which is the controller's own and takes the messages of requests.
 use Rattle.std.specs.Prelude.{◌≡◌, ◌≢◌, ◌≤◌, ℕ, Option, List, IsSomeAnd, length, slice_get}
 use Rattle.std.specs.List.{All, AllPairs}
 use Rattle.ruby_value.specs.declared.setup.BufferPlace.TheVariants as place

@@ -1,8 +1,8 @@
--- What always holds in a run of a protocol. Of a controller: its machine is known, the controller fits it and is to wake
--- at the arrival of each of its messages that is still to come, it has fired no more transitions in this cycle than it may, and the
--- cycle is one of the run's. Of a message that comes to a controller: another actor sent it, it is in a buffer of the receiver's machine whose
--- messages have fields like its own, it can be seen in a later cycle alone, and nobody has put it off yet. Of the driver: there are the
--- seats that it needs.
+-- What always holds in a run of a protocol. Of a controller: its machine is known, the controller fits it and is to wake at the
+-- arrival of each of its messages that is still to come, it has fired no more transitions in this cycle than it may, and the
+-- cycle is one of the run's. Of a message that comes to a controller: another actor sent it, it is in a buffer of the receiver's
+-- machine whose messages have fields like its own, it can be seen in a later cycle alone, and nobody has put it off yet. Of the
+-- driver: there are the seats that it needs.
 use Rattle.std.specs.Prelude.{◌≡◌, ◌<◌, ◌≤◌, ℕ, false, IsSomeAnd, length}
 use Rattle.ruby_value.specs.declared.message.Message.{Message}
 use Rattle.ruby_value.specs.declared.setup.MachineSetup.{MachineSetup}

@@ -1,5 +1,5 @@
--- The machine of a controller, by the controller's number: the first one in whose range it is. In a run's ranges it is in one at most,
--- and in one exactly where the number is below the total.
+-- The machine of a controller, by the controller's number: the first one in whose range it is. In a run's ranges it is in one at
+-- most, and in one exactly where the number is below the total.
 use Rattle.std.specs.Prelude.{ℕ, Bool, Option, List, ◌+◌, ◌&&◌, nat_le, nat_lt, position, slice_get}
 use Rattle.std.specs.Option.{option_and_then}
 use Rattle.ruby_value.specs.declared.setup.MachineSetup.{MachineSetup}

@@ -1,9 +1,10 @@
--- What a run needs of the meaning of a protocol: what a scan of a controller answers, by the number of its machine, the local as the
--- scan begins, and the most transitions that a controller may fire in a cycle; and for which states and events of a machine a
--- transition is written. And what such a scan must keep for the laws of runs to hold. It fires only where the controller has fired
--- fewer transitions in this cycle than it may, and leaves what acts leave of the local that it began in, told as these acts tell it; where it rests, the controller is as it was, but for a mark for the next
--- cycle where something stalled; and it stops as `invalid` exactly where it tried a pair for which no transition is written, at that
--- pair. Where it is full, or stops with another fault, nothing is asked of it.
+-- What a run needs of the meaning of a protocol: what a scan of a controller answers, by the number of its machine, the local as
+-- the scan begins, and the most transitions that a controller may fire in a cycle; and for which states and events of a machine a
+-- transition is written. And what such a scan must keep for the laws of runs to hold. It fires only where the controller has
+-- fired fewer transitions in this cycle than it may, and leaves what acts leave of the local that it began in, told as these acts
+-- tell it; where it rests, the controller is as it was, but for a mark for the next cycle where something stalled; and it stops
+-- as `invalid` exactly where it tried a pair for which no transition is written, at that pair. Where it is full, or stops with
+-- another fault, nothing is asked of it.
 use Rattle.std.specs.Prelude.{◌≡◌, ◌⊎◌, ◌<◌, ◌+◌, ℕ, Bool, false, List, Contains}
 use Rattle.ruby_value.specs.declared.fault.Fault.TheVariants.{Invalid}
 use Rattle.ruby_value.specs.declared.message.Delivery.{Delivery}

@@ -1,7 +1,7 @@
--- The message of a request that a driver issues: it goes to the buffer `mandatoryQueue` of the seat's controller, can be seen from the
--- next cycle on, and has the fields of `RubyRequest` in their order: `LineAddress`, `PhysicalAddress`, `Type` and `Size`. The
--- requests that drivers issue are `LD`, `ST` and `IFETCH`, the first three members of `RubyRequestType`. That such a request
--- takes one cycle is this project's own, and so is the driver's actor number, which comes after the last controller's.
+-- The message of a request that a driver issues: it goes to the buffer `mandatoryQueue` of the seat's controller, can be seen
+-- from the next cycle on, and has the fields of `RubyRequest` in their order: `LineAddress`, `PhysicalAddress`, `Type` and
+-- `Size`. The requests that drivers issue are `LD`, `ST` and `IFETCH`, the first three members of `RubyRequestType`. That such a
+-- request takes one cycle is this project's own, and so is the driver's actor number, which comes after the last controller's.
 use Rattle.std.specs.Prelude.{ℕ, ◌+◌, ◌*◌, false, Option, None, Some, List, [], ◌∷◌, ◌++◌, pos, slice_get}
 use Rattle.ruby_value.specs.declared.asked.Ask.{Ask}
 use Rattle.ruby_value.specs.declared.asked.Ask.TheVariants.{Load, Store, Fetch}

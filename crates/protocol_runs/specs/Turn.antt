@@ -1,7 +1,7 @@
--- The driver's turn among the controllers of a run. It acts at its seats: each shows the driver the number of its controller and, where
--- the seat has a sequencer, that controller's requests and answers. The answers that it takes go out of the controllers' sequencers,
--- and the requests that it issues come into them, each at its seat; a seat without a sequencer changes no controller. The messages of
--- the requests are told elsewhere. Drivers are this project's own.
+-- The driver's turn among the controllers of a run. It acts at its seats: each shows the driver the number of its controller and,
+-- where the seat has a sequencer, that controller's requests and answers. The answers that it takes go out of the controllers'
+-- sequencers, and the requests that it issues come into them, each at its seat; a seat without a sequencer changes no controller.
+-- The messages of the requests are told elsewhere. Drivers are this project's own.
 use Rattle.std.specs.Prelude.{ℕ, Bool, false, ◌==◌, ◌&&◌, Option, None, Some, List, [], ◌∷◌, ◌++◌, map, slice_get, if◌then◌else◌}
 use Rattle.std.specs.List.{flat_map}
 use Rattle.std.specs.Option.{option_and_then}

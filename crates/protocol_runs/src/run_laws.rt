@@ -1,6 +1,6 @@
 // What holds of every run of a protocol, whatever its scans do as long as they keep the laws of acts, and with any driver, from the
 // laws of runs over any controllers. These functions do nothing: their contracts are the laws.
-ghost use Rattle.std.specs.Prelude.{◌≡◌, ◌+◌, ℕ, List, None, Some, map, slice_get};
+ghost use Rattle.std.specs.Prelude.{◌≡◌, ◌+◌, ℕ, List, None, Some, length, map, slice_get};
 ghost use Rattle.run_journal.specs.declared.entry.Entry.{Entry as EntryRecord};
 ghost use Rattle.run_journal.specs.declared.event.Event.{Event as EventRecord};
 ghost use Rattle.run_journal.specs.declared.event.Event.TheVariants.{Turn};
@@ -8,6 +8,7 @@ ghost use Rattle.ruby_runs.specs.Account.{IsAccounted, account};
 ghost use Rattle.ruby_runs.specs.Alone.{IsAlone};
 ghost use Rattle.ruby_runs.specs.Fresh.{HasFreshNumbers};
 ghost use Rattle.ruby_runs.specs.InvalidExactly.{InvalidExactly};
+ghost use Rattle.ruby_runs.specs.MarksStay.{MarksStay};
 ghost use Rattle.ruby_runs.specs.Outcome.{IsOutcome, WakesAsMarked};
 ghost use Rattle.ruby_runs.specs.Premises.{CarriesMail, IsSound, KeepsMarks, ReportsInvalid};
 ghost use Rattle.ruby_runs.specs.Run.{HasEnded, IsRun};
@@ -107,6 +108,16 @@ pub fn one_worker_makes_one_run<D: Driver>()
         → (history : List EventRecord) (w v : World Ctl D) (journal told : List EntryRecord)
         → IsRun (rules p D.drive s) history w journal → IsRun (rules p D.drive s) history v told
         → (w ≡ v) × (journal ≡ told) }
+{}
+
+/// No event of a run loses a mark that a controller has for a later cycle.
+pub fn no_mark_is_lost<D: Driver>()
+    ensures { (p : Meaning) (s : Setting D) → IsMeaning p → IsSetting D.least s
+        → (history : List EventRecord) (e : EventRecord) (w : World Ctl D)
+        (journal : List EntryRecord) (st : Stepped Ctl D)
+        → IsRun (rules p D.drive s) history w journal
+        → step (rules p D.drive s) (length journal) w e ≡ Some st
+        → MarksStay (rules p D.drive s) w st.world }
 {}
 
 /// A turn ends the run with its least-numbered stopped controller, or, where none has stopped, with the first verdict that comes once

@@ -50,10 +50,10 @@ module _ {C M D : Type 0} (r : Rules C M D) (Fits : ℕ → C → ℕ → Type 0
       (λ same. moved.later cycle above (subst (λ (o : Option (Place C)). IsTrue (marked_at r cycle o)) (ap (λ (i : ℕ). slice_get w.places i) (sym same) ∙ there) has))
       (λ apart. has) in
       later-marked r w.now cycle above (slice_get set d) (slice_get (with_moved r w c m).places d) (grown.later d) changed
-  change-marked n w e st (Closes worker c idle least) running fits =
-      turn-marked n w st (change-outcome r n w e st (Closes worker c idle least) refl) running fits
-  change-marked n w e st (Turns worker idle least) running fits =
-      turn-marked n w st (change-outcome r n w e st (Turns worker idle least) refl) running fits
+  change-marked n w e st (Closes worker c idle least) running fits d cycle above within has =
+      turn-marked n w st (change-outcome r n w e st (Closes worker c idle least) refl) running fits d cycle above within has
+  change-marked n w e st (Turns worker idle least) running fits d cycle above within has =
+      turn-marked n w st (change-outcome r n w e st (Turns worker idle least) refl) running fits d cycle above within has
 
   pub marks-stay : (history : List Event) (e : Event) (w : World C D) (journal : List Entry) (st : Stepped C D) → IsRun r history w journal
       → step r (length journal) w e ≡ Some st → MarksStay r w st.world
