@@ -4,11 +4,11 @@ pub mod Outcomes
 pub mod Runs
 pub mod Places
 pub mod Fitting
+pub mod Fresh
 pub mod Woken
 pub mod Invalid
 pub mod OneRun
 pub mod Tallies
 pub mod Accounting
 pub mod Accounted
-pub mod Fresh
 pub mod Marks

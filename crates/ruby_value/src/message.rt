@@ -51,7 +51,7 @@ impl Clone for Message {
     }
 }
 
-/// A message with the controller that gets it, which may be its sender.
+/// A message on its way to a controller, which may be its sender.
 #[derive(Drop)]
 pub struct Delivery<M> {
     pub receiver: u32,

@@ -11,7 +11,8 @@ ghost use Rattle.slicc_ast.specs.declared.tree.machine.Machine.{Machine as Machi
 ghost use Rattle.slicc_plan.specs.AllRules.{IsAccepted};
 ghost use Rattle.slicc_plan.specs.Buffers.{buffers_of};
 ghost use Rattle.slicc_plan.specs.Declarations.{machines_of};
-ghost use Rattle.slicc_plan.specs.Setups.{AreSizesOf, HasRoom, HasTypeOf, NamesReceivers, is_parameters, network_of, setup_in, tables_of};
+ghost use Rattle.slicc_plan.specs.Setups.{AreSizesOf, HasRoom, HasTypeOf, NamesReceivers, is_parameters, setup_in, tables_of};
+ghost use Rattle.ruby_value.specs.NetworkOf.{network_of};
 
 /// A machine has its tables and that of its parameters, and its buffers.
 pub fn setup_has_its_parts()
