@@ -8,3 +8,4 @@ pub mod Frames
 pub mod Later
 pub mod Framed
 pub mod Instances
+pub mod Left

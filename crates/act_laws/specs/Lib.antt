@@ -1,3 +1,4 @@
 pub mod Kept
 pub mod Mailed
 pub mod Added
+pub mod Left

@@ -195,7 +195,7 @@ module _ {C M D : Type 0} (r : Rules C M D) (Fits : ℕ → C → ℕ → Type 0
     fits : WorldFits r Fits Suits Leads sound x.world
     kept : IsKept r x.world x.journal
 
-  kept-along : (history : List Event) (w : World C D) (journal : List Entry) → IsRun r history w journal → IsKept r w journal
+  pub kept-along : (history : List Event) (w : World C D) (journal : List Entry) → IsRun r history w journal → IsKept r w journal
   kept-along history w journal is =
       let known =
       hold-along r IsKnown

@@ -4,6 +4,7 @@ pub mod Outcomes
 pub mod Runs
 pub mod Places
 pub mod Fitting
+pub mod Fresh
 pub mod Woken
 pub mod Invalid
 pub mod OneRun

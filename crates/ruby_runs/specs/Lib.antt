@@ -1,6 +1,7 @@
 pub mod Account
 pub mod Alone
 pub mod Change
+pub mod Fresh
 pub mod InvalidExactly
 pub mod MarksStay
 pub mod NextCycle

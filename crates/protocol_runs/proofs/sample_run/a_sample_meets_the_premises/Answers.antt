@@ -1,0 +1,22 @@
+use Rattle.std.proofs.Common.{ℕ, Option, None, Some, refl}
+use Rattle.ruby_runs.specs.Run.{Ran, run as run_of, start}
+use Rattle.ruby_runs.specs.Step.{step}
+use Rattle.ctl_face.specs.Ctl.{Ctl}
+use Rattle.acts.specs.Acting.{act, either, run, ◌>>=◌, ◌>>◌}
+use Rattle.acts.specs.Done.{does}
+use Rattle.protocol_runs.specs.Sample.{sample_history, sample_rules, taking}
+use Rattle.protocol_runs.proofs.Sample.{sample-means}
+use Rattle.protocol_runs.proofs.sample_run.a_sample_meets_the_premises.Goals as goal
+
+abbrev ran : Option (Ran Ctl ℕ) → Ran Ctl ℕ
+ran None = start sample_rules
+ran (Some r) = r
+
+pub returns-clause-meaning : goal.returns-clause-meaning
+returns-clause-meaning c = sample-means
+
+pub returns-clause-run : goal.returns-clause-run
+unfolding step act either run ◌>>=◌ ◌>>◌ does taking
+returns-clause-run c =
+    let r = ran (run_of sample_rules sample_history) in
+    (r.world, r.journal, record { is_run = refl; consumed = refl; ends = refl })

@@ -1,0 +1,31 @@
+-- What always holds in a run of a protocol. Of a controller: its machine is known, the controller fits it and is to wake at the
+-- arrival of each of its messages that is still to come, it has fired no more transitions in this cycle than it may, and the
+-- cycle is one of the run's. Of a message that comes to a controller: another actor sent it, it is in a buffer of the receiver's
+-- machine whose messages have fields like its own, it can be seen in a later cycle alone, and nobody has put it off yet. Of the
+-- driver: there are the seats that it needs.
+use Rattle.std.specs.Prelude.{◌≡◌, ◌<◌, ◌≤◌, ℕ, false, IsSomeAnd, length}
+use Rattle.ruby_value.specs.declared.message.Message.{Message}
+use Rattle.ruby_value.specs.declared.setup.MachineSetup.{MachineSetup}
+use Rattle.ctl_face.specs.Ctl.{Ctl}
+use Rattle.ctl_face.specs.Fits.{Fits}
+use Rattle.ctl_face.specs.OfMachine.{TakesFields}
+use Rattle.act_laws.specs.Kept.{AreMarked}
+use Rattle.protocol_runs.specs.Machines.{setup_of}
+use Rattle.protocol_runs.specs.Setting.{Setting}
+
+module _ {D : Type 0} (s : Setting D) where
+  pub record FitsRun (c : ℕ) (x : Ctl) (now : ℕ) : Type 0 where
+    pub fits : IsSomeAnd (setup_of s c) (λ (m : MachineSetup). Fits m c x now)
+    pub marked : AreMarked now x.mail.marks x.mail.inbox
+    pub few : x.fired ≤ s.limit
+    pub bound : now ≤ s.cycles
+
+  pub record SuitsReceiver (c : ℕ) (m : Message) (now : ℕ) : Type 0 where
+    pub other : ¬ (m.number.sender ≡ c)
+    pub takes : IsSomeAnd (setup_of s c) (λ (setup : MachineSetup). TakesFields setup.buffers m.buffer m.fields)
+    pub later : now < m.arrival
+    pub not_recycled : m.recycled ≡ false
+
+  pub record HasSeats (least : D → ℕ) (d : D) (issued now : ℕ) : Type 0 where
+    pub enough : least d ≤ length s.seats
+    pub bound : now ≤ s.cycles

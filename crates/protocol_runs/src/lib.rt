@@ -1,0 +1,15 @@
+//! What a run of a protocol is, over whatever its scans do and over any driver: an instance of the rules of runs, with its premises and
+//! laws. There is no code here; the functions do nothing, and their contracts are the laws.
+#![tactic(auto)]
+
+mod laws;
+mod run_laws;
+mod sample_run;
+
+pub use laws::{machines_of_controllers_are_found, turns_serve_their_seats};
+pub use run_laws::{
+    accounts_for_each_message, controllers_fit, invalid_comes_exactly, no_mark_is_lost,
+    numbers_are_fresh, one_worker_makes_one_run, protocols_meet_the_premises, seats_fit_the_driver,
+    turns_end_or_go_on, wakes_once,
+};
+pub use sample_run::a_sample_meets_the_premises;
