@@ -1,5 +1,5 @@
 -- The laws of runs, for runs of a protocol.
-use Rattle.std.proofs.Common.{◌≡◌, ◌+◌, ◌∙◌, ℕ, List, Option, None, Some, ap, length, map, slice_get, sym}
+use Rattle.std.proofs.Common.{◌≡◌, ◌+◌, ◌∙◌, ℕ, List, None, Some, ap, length, map, slice_get, sym}
 use Rattle.std.proofs.lemmas.Option.{same_Some}
 use Rattle.run_journal.specs.declared.entry.Entry.{Entry}
 use Rattle.run_journal.specs.declared.event.Event.{Event}

@@ -1,5 +1,5 @@
 -- The controllers of a protocol, their messages and a driver meet what the laws of runs need.
-use Rattle.std.proofs.Common.{◌≡◌, ◌≢◌, ◌<◌, ◌≤◌, ◌+◌, ◌||◌, ◌⊎◌, ◌==◌, ℕ, zero, Bool, true, false, not, List, [], ◌∷◌, Option, None, Some, All, IsTrue, inl, inr, ⊎_elim, map, length, refl, sym, ap, cond, subst, ◌∙◌, arith, slice_get, eqb}
+use Rattle.std.proofs.Common.{◌≡◌, ◌<◌, ◌≤◌, ◌+◌, ◌||◌, ◌⊎◌, ◌==◌, ℕ, Bool, true, false, not, List, [], ◌∷◌, Option, Some, All, IsTrue, inl, inr, ⊎_elim, map, length, refl, sym, ap, cond, subst, ◌∙◌, arith, slice_get}
 use Rattle.std.specs.Prelude.{count_by}
 use Rattle.std.proofs.lemmas.Bool.{eq-eqb, eqb-true, or_left, or_right}
 use Rattle.std.proofs.lemmas.Bool.Decides.{nat_tests}
@@ -26,7 +26,6 @@ use Rattle.ctl_face.specs.Ctl.{Ctl, InboxMessage, Mail}
 use Rattle.ctl_face.specs.Fits.{Fits}
 use Rattle.ctl_face.specs.Inbox.{with_message}
 use Rattle.ctl_face.specs.Mailing.{incoming_message}
-use Rattle.ctl_face.specs.Opening.{opening_ctl}
 use Rattle.ctl_face.specs.OfMachine.{TakesFields}
 use Rattle.ctl_face.proofs.Betweens.{arrival_keeps, begun_keeps, driver_mail, halted_keeps, wake_up_keeps}
 use Rattle.ctl_face.proofs.Moved as moved
@@ -38,15 +37,15 @@ use Rattle.sequencer.specs.Drive as own
 use Rattle.sequencer.specs.Seats.{Seat}
 use Rattle.protocol_runs.specs.IsSetting.{IsSetting}
 use Rattle.protocol_runs.specs.Kept.{FitsRun, HasSeats, SuitsReceiver}
-use Rattle.protocol_runs.specs.Machines.{machine_of, setup_of}
+use Rattle.protocol_runs.specs.Machines.{setup_of}
 use Rattle.protocol_runs.specs.Turn.{acts_at, seats_in}
-use Rattle.protocol_runs.specs.Meaning.{IsFired, IsMeaning, IsRefusedTry, Meaning, Rests, acts_told}
-use Rattle.protocol_runs.specs.Rules.{has_row_of, mailed, opening_controllers, rules}
+use Rattle.protocol_runs.specs.Meaning.{IsFired, IsMeaning, Meaning, Rests, acts_told}
+use Rattle.protocol_runs.specs.Rules.{has_row_of, mailed, rules}
 use Rattle.protocol_runs.specs.Setting.{Setting}
-use Rattle.protocol_runs.proofs.Controllers.{IsOne, Opened, and-some, lawful-machine, one-by, opened, setup-is}
+use Rattle.protocol_runs.proofs.Controllers.{Opened, and-some, lawful-machine, one-by, opened, setup-is}
 use Rattle.protocol_runs.proofs.Driver.{IsDriver}
 use Rattle.protocol_runs.proofs.Scans.{Fitting, begun, copies-suit, fits-run, fitting, left-awake, left-few, left-fits, left-later, left-marked, maps-join, moves, scan-of}
-use Rattle.protocol_runs.proofs.Turns.{IsRequestFor, issued-known, lawful-turn, requests-known, requests-numbered, served-fits, turn}
+use Rattle.protocol_runs.proofs.Turns.{IsRequestFor, issued-known, requests-known, requests-numbered, served-fits, turn}
 
 -- a later mark doesn't change whether there is one for this cycle
 later-mark : (marks : List ℕ) (mark now : ℕ) → now < mark → has_mark (with_mark marks mark) now ≡ has_mark marks now

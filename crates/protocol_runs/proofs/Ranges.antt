@@ -1,9 +1,9 @@
 -- Ranges that follow on one another: each number below the free one is in one of them, and in no other.
-use Rattle.std.proofs.Common.{◌≡◌, ◌<◌, ◌≤◌, ◌+◌, ◌&&◌, ◌↔◌, ◌⊎◌, ℕ, zero, suc, Bool, true, false, cond, List, [], ◌∷◌, Option, None, Some, IsSome, IsSomeAnd, inl, inr, ⊎_elim, length, refl, sym, ap, subst, ◌∙◌, arith, nat_le, nat_lt, position, get_or, slice_get}
+use Rattle.std.proofs.Common.{◌≡◌, ◌<◌, ◌≤◌, ◌+◌, ◌↔◌, ℕ, zero, suc, true, List, [], ◌∷◌, Option, None, Some, IsSome, IsSomeAnd, ⊎_elim, length, refl, sym, ap, subst, ◌∙◌, arith, nat_le, nat_lt, get_or, slice_get}
 use Rattle.std.proofs.lemmas.Bool.{and_from, and_parts, cases_lt, cond-true, le-leb, leb-true, lt-ltb, ltb-true}
 use Rattle.std.proofs.lemmas.List.Quantifiers.{position-Some}
-use Rattle.std.proofs.lemmas.List.Sums.{fails_before_first, passes_at_first}
-use Rattle.std.proofs.lemmas.Option.{get_or_from_slice_get, same_Some, slice_get-get_or, slice_get_within}
+use Rattle.std.proofs.lemmas.List.Sums.{fails_before_first}
+use Rattle.std.proofs.lemmas.Option.{get_or_from_slice_get, slice_get-get_or, slice_get_within}
 use Rattle.std.specs.List.{position_or_len}
 use Rattle.ctl_face.specs.RoutesFit.{AreNumbered, IsOfMachine}
 use Rattle.protocol_runs.specs.Machines.{is_in_range, machine_of}

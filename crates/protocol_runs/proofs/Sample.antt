@@ -1,37 +1,22 @@
 -- The sample meets the premises.
-use Rattle.std.proofs.Common.{◌≡◌, ◌<◌, ◌≤◌, ◌+◌, ◌∙◌, ℕ, zero, suc, Bool, true, false, cond, List, [], ◌∷◌, Option, None, Some, Result, Ok, Err, All, IfSome, IsSomeAnd, IsTrue, inl, inr, length, nat_le, refl, sym, ap, arith, replicate, slice_get}
-use Rattle.std.proofs.lemmas.List.Elements.{All-cons, All-nil, All-replicate}
+use Rattle.std.proofs.Common.{◌≡◌, ◌<◌, ◌∙◌, ℕ, Bool, true, false, cond, List, Result, Ok, Err, inl, nat_le, refl, sym, ap, arith}
 use Rattle.std.proofs.lemmas.Bool.{cond_both, leb-false}
-use Rattle.std.specs.List.{AllPairs}
-use Rattle.std.specs.Option.{option_flatten}
 use Rattle.ruby_value.specs.declared.fault.Fault.{Fault}
 use Rattle.ruby_value.specs.declared.fault.Fault.TheVariants.{Invalid}
 use Rattle.ruby_value.specs.declared.message.Delivery.{Delivery}
 use Rattle.ruby_value.specs.declared.message.Message.{Message}
-use Rattle.ruby_value.specs.declared.setup.BufferSetup.{BufferSetup}
-use Rattle.ruby_value.specs.declared.setup.MachineSetup.{MachineSetup}
-use Rattle.ruby_value.specs.declared.setup.TableSetup.{TableSetup}
 use Rattle.run_journal.specs.declared.entry.FireNote.{FireNote}
 use Rattle.run_journal.specs.declared.entry.StopAt.{StopAt}
-use Rattle.ruby_runs.specs.InvalidExactly.{invalid_at}
-use Rattle.ruby_runs.specs.Rules.{Acts, Fired, Full, Idle, Outcome, Scan, Stop, Tried}
+use Rattle.ruby_runs.specs.Rules.{Acts, Fired, Full, Idle, Outcome, Stop, Tried}
 use Rattle.ctl_face.specs.Ctl.{Ctl}
-use Rattle.ctl_face.specs.IsMachine.{AgreeOnType, AreOnOneNetwork, IsBufferSetup, IsMachine, IsTableSetup, ParametersAreLast}
-use Rattle.ctl_face.specs.LocalView.{Actor, LocalView}
-use Rattle.ctl_face.specs.RoutesFit.{AgreeOnTypes, AreWithinLimits, IsOfMachine, KeepsOrder, NamesBuffers, ReceivesFrom, RoutesFit}
-use Rattle.ctl_face.specs.Routing.{path_to}
+use Rattle.ctl_face.specs.LocalView.{LocalView}
 use Rattle.ctl_face.specs.ScanView.{scan_view}
 use Rattle.acts.specs.Acting.{run}
 use Rattle.acts.specs.Done.{Done}
 use Rattle.act_laws.proofs.Instances.{never_as_invalid}
 use Rattle.act_laws.proofs.Left.{left_by}
-use Rattle.protocol_runs.specs.IsSetting.{AreApart, HasQueue, IsSetting}
-use Rattle.protocol_runs.specs.Machines.{setup_of}
-use Rattle.protocol_runs.specs.Meaning.{IsFired, IsMeaning, IsRefusedTry, Rests}
-use Rattle.protocol_runs.specs.Sample.{outcome_of, sample, sample_buffers, sample_machine, sample_routes, sample_setting, taking}
-use Rattle.protocol_runs.specs.Setting.{SeatSetup}
-use Rattle.ruby_value.proofs.Ordered.{AllPairs-nil}
-use Rattle.std.proofs.lemmas.List.Kept.{AllPairs-cons}
+use Rattle.protocol_runs.specs.Meaning.{IsFired, IsMeaning, Rests}
+use Rattle.protocol_runs.specs.Sample.{outcome_of, sample, taking}
 
 -- what is known of an outcome, by which one it is
 record Answers (v : LocalView) (limit : ℕ) (o : Outcome Ctl Message) : Type 0 where

@@ -1,23 +1,20 @@
 -- What a scan that fired leaves, and what it has sent.
-use Rattle.std.proofs.Common.{◌≡◌, ◌<◌, ◌≤◌, ◌+◌, ◌^◌, ◌==◌, ◌||◌, ℕ, zero, suc, Bool, List, [], ◌∷◌, Option, Some, All, IsTrue, slice_get, map, length, refl, sym, ap, subst, ◌∙◌, arith}
+use Rattle.std.proofs.Common.{◌≡◌, ◌<◌, ◌≤◌, ◌+◌, ℕ, List, [], ◌∷◌, Option, All, IsTrue, slice_get, map, length, refl, sym, ap, subst, ◌∙◌, arith}
 use Rattle.std.specs.Prelude.{count_by}
-use Rattle.std.proofs.lemmas.List.{length-map}
-use Rattle.std.proofs.lemmas.List.Elements.{All-map, All-weaker}
+use Rattle.std.proofs.lemmas.List.Elements.{All-weaker}
 use Rattle.ruby_value.specs.Ascending.{has_mark}
 use Rattle.ruby_value.specs.declared.message.Delivery.{Delivery}
 use Rattle.ruby_value.specs.declared.message.Message.{Message}
 use Rattle.ruby_value.specs.declared.message.Sent.{Sent}
-use Rattle.ruby_value.specs.declared.message.MsgNo.{MsgNo}
 use Rattle.ruby_value.specs.declared.setup.MachineSetup.{MachineSetup}
 use Rattle.ruby_runs.specs.Premises as runs
 use Rattle.ruby_runs.specs.Rules as runs_rules
 use Rattle.ruby_runs.specs.Rules.{Rules}
 use Rattle.ruby_runs.specs.Step.{delivery_numbers}
-use Rattle.ctl_face.specs.Acts as face
 use Rattle.ctl_face.specs.ActsFit.{numbers_in}
 use Rattle.ctl_face.specs.Between.{with_one_fired}
-use Rattle.ctl_face.specs.Ctl.{Ctl, InboxMessage, Mail}
-use Rattle.ctl_face.specs.Fits.{Fits, IsLawful, last_cycle}
+use Rattle.ctl_face.specs.Ctl.{Ctl, InboxMessage}
+use Rattle.ctl_face.specs.Fits.{Fits, IsLawful}
 use Rattle.ctl_face.specs.FitsReceiver.{FitsReceiver}
 use Rattle.ctl_face.specs.InRun.{IsInRun}
 use Rattle.ctl_face.specs.LocalView.{Actor, LocalView, SameScan}
@@ -35,8 +32,8 @@ use Rattle.sequencer.specs.Drive as own
 use Rattle.sequencer.specs.Seats.{Seat}
 use Rattle.protocol_runs.specs.IsSetting.{IsSetting}
 use Rattle.protocol_runs.specs.Kept.{FitsRun, SuitsReceiver}
-use Rattle.protocol_runs.specs.Machines.{actor_of, machine_of, setup_of}
-use Rattle.protocol_runs.specs.Meaning.{IsFired, IsMeaning, IsScanOf, Meaning, acts_told}
+use Rattle.protocol_runs.specs.Machines.{actor_of, setup_of}
+use Rattle.protocol_runs.specs.Meaning.{IsMeaning, IsScanOf, Meaning, acts_told}
 use Rattle.protocol_runs.specs.Rules.{mailed, rules, scan_by, scan_of}
 use Rattle.protocol_runs.specs.Setting.{Setting}
 use Rattle.protocol_runs.proofs.Controllers.{IsOne, below-count, controller-is, lawful-machine, one-by, one-of, setup-is, some-and, and-some}

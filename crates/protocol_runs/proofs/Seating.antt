@@ -1,6 +1,6 @@
 -- What a turn makes of the controllers is what it makes of its seats: each seat afterwards is that of its controller as it was served,
 -- and a controller that has no seat stays.
-use Rattle.std.proofs.Common.{◌≡◌, ◌≢◌, ◌<◌, ◌≤◌, ◌+◌, ◌++◌, ◌∙◌, ◌⊎◌, ◌&&◌, ℕ, zero, suc, Bool, true, false, cond, List, [], ◌∷◌, Option, None, Some, inl, inr, ⊎_elim, length, refl, sym, ap, subst, arith, get_or, slice_get, slice_set, eqb}
+use Rattle.std.proofs.Common.{◌≡◌, ◌≢◌, ◌<◌, ◌≤◌, ◌++◌, ◌∙◌, ◌⊎◌, ◌&&◌, ℕ, zero, suc, Bool, true, false, cond, List, [], ◌∷◌, Option, None, Some, inl, inr, ⊎_elim, length, refl, sym, ap, arith, get_or, slice_get, slice_set}
 use Rattle.std.proofs.lemmas.Bool.{cases_eq, cases_lt, eq-eqb, ne_eqb}
 use Rattle.std.proofs.lemmas.List.Sums.{fold-append}
 use Rattle.std.proofs.lemmas.Option.{get_or_from_slice_get, slice_get-map, slice_get_within}
@@ -14,7 +14,7 @@ use Rattle.sequencer.specs.Drive.{Drive, Taken, after_drive, after_issuing, afte
 use Rattle.sequencer.specs.Seats.{Seat, Seating, changed_at, changed_seat, with_issued, with_seat, without_answer_at}
 use Rattle.protocol_runs.specs.IsSetting.{AreApart}
 use Rattle.protocol_runs.specs.Setting.{SeatSetup}
-use Rattle.protocol_runs.specs.Turn.{acts_at, is_seat_of, issued_at, seat_in, seat_with, seats_in, served, taken_at}
+use Rattle.protocol_runs.specs.Turn.{is_seat_of, issued_at, seat_in, seat_with, seats_in, served, taken_at}
 
 -- a list in which one element is another
 set-here : {X : Type 0} (xs : List X) (k : ℕ) (x y : X) → slice_get xs k ≡ Some x → slice_get (slice_set xs k y) k ≡ Some y

@@ -1,16 +1,13 @@
 -- A driver's turn among controllers that fit: its seats fit it, each controller keeps fitting, and the messages of its requests have
 -- the driver's next numbers, and fit their receivers.
-use Rattle.std.proofs.Common.{◌≡◌, ◌≢◌, ◌<◌, ◌≤◌, ◌+◌, ◌^◌, ◌++◌, ◌==◌, ◌&&◌, ℕ, zero, suc, Bool, true, false, cond, List, [], ◌∷◌, Option, None, Some, All, IfSome, IsSomeAnd, IsTrue, map, length, refl, sym, ap, subst, ◌∙◌, arith, get_or, slice_get, slice_set, eqb}
-use Rattle.std.proofs.lemmas.Bool.{cond_both, eq-eqb}
-use Rattle.std.proofs.lemmas.List.{length-append, length-map, length-set, get_or-map}
-use Rattle.std.proofs.lemmas.List.Elements.{All-append, All-cons, All-head, All-map, All-nil, All-tail, All-weaker, All-contains_itself}
+use Rattle.std.proofs.Common.{◌≡◌, ◌<◌, ◌+◌, ◌++◌, ℕ, Bool, true, false, List, [], ◌∷◌, Option, None, Some, All, IfSome, IsSomeAnd, IsTrue, map, length, refl, sym, ap, subst, ◌∙◌, arith, get_or, slice_get}
+use Rattle.std.proofs.lemmas.Bool.{cond_both}
+use Rattle.std.proofs.lemmas.List.{length-map, length-set}
+use Rattle.std.proofs.lemmas.List.Elements.{All-append, All-cons, All-head, All-map, All-nil, All-tail, All-weaker}
 use Rattle.std.proofs.lemmas.List.Kept.{AllPairs-cons}
-use Rattle.std.proofs.lemmas.Option.{IfSome_then, slice_get-get_or, slice_get_within}
+use Rattle.std.proofs.lemmas.Option.{slice_get-get_or}
 use Rattle.std.specs.List.{AllPairs, flat_map}
 use Rattle.std.specs.Option.{option_and_then, option_map}
-use Rattle.ruby_value.specs.declared.asked.Answer.{Answer}
-use Rattle.ruby_value.specs.declared.asked.Ask.{Ask}
-use Rattle.ruby_value.specs.declared.asked.Ask.TheVariants.{Load, Store, Fetch}
 use Rattle.ruby_value.specs.declared.asked.Asked.{Asked}
 use Rattle.ruby_value.specs.declared.kind.Kind.{Kind}
 use Rattle.ruby_value.specs.declared.message.Delivery.{Delivery}
@@ -27,7 +24,7 @@ use Rattle.ruby_runs.specs.Step.{delivery_numbers}
 use Rattle.ctl_face.specs.Between.{DriverAct, IsDriverAct, Issues, Takes, after_driver_act, after_driver_acts}
 use Rattle.ctl_face.specs.Ctl.{Ctl, Mail}
 use Rattle.act_laws.specs.Kept.{AreMarked}
-use Rattle.ctl_face.specs.Fits.{Fits, FitsSequencer}
+use Rattle.ctl_face.specs.Fits.{FitsSequencer}
 use Rattle.ctl_face.specs.OfMachine.{TakesFields}
 use Rattle.ctl_face.proofs.Betweens.{driver_keeps, driver_mail}
 use Rattle.sequencer.specs.declared.issued.Issued.{Issued}
@@ -43,9 +40,9 @@ use Rattle.protocol_runs.specs.Requests.{request_at, request_fields, request_kin
 use Rattle.protocol_runs.specs.Rules.{rules}
 use Rattle.protocol_runs.specs.Setting.{SeatSetup, Setting}
 use Rattle.protocol_runs.specs.Turn.{acts_at, is_seat_of, issued_at, seat_in, seats_in, served, taken_at}
-use Rattle.protocol_runs.proofs.Controllers.{IsOne, and-some, at-place, below-count, of-one, one-of, setup-is, some-and}
+use Rattle.protocol_runs.proofs.Controllers.{and-some, at-place, below-count, of-one, one-of, some-and}
 use Rattle.protocol_runs.proofs.Driver.{IsDriver}
-use Rattle.protocol_runs.proofs.Scans.{Fitting, fits-run, fitting}
+use Rattle.protocol_runs.proofs.Scans.{fits-run, fitting}
 
 -- of a list whose elements are apart, what they are mapped to is apart, too
 apart-map : {X Y : Type 0} (P : X → X → Type 0) (Q : Y → Y → Type 0) (f : X → Y) → ((a b : X) → P a b → Q (f a) (f b))

@@ -2,7 +2,7 @@
 -- the machines and follow on one another, its routes fit, the run goes no further than the last cycle of any run, and the driver
 -- has the seats that it needs, each at another controller and with the buffer `mandatoryQueue` of that controller's machine,
 -- which is the controller's own and takes the messages of requests.
-use Rattle.std.specs.Prelude.{◌≡◌, ◌≢◌, ◌≤◌, ℕ, Option, List, IsSomeAnd, length, slice_get}
+use Rattle.std.specs.Prelude.{◌≡◌, ◌≢◌, ◌≤◌, ℕ, IsSomeAnd, length, slice_get}
 use Rattle.std.specs.List.{All, AllPairs}
 use Rattle.ruby_value.specs.declared.setup.BufferPlace.TheVariants as place
 use Rattle.ruby_value.specs.declared.setup.BufferSetup.{BufferSetup}

@@ -2,7 +2,6 @@
 -- scans; and the driver, by what it does at its seats in a cycle. The scan of a number that is no controller's rests; no run has
 -- one.
 use Rattle.std.specs.Prelude.{ℕ, Bool, false, Option, None, Some, List, [], ◌∷◌, ◌++◌, length, map, replicate, is_some, slice_get}
-use Rattle.std.specs.Option.{option_and_then}
 use Rattle.ruby_value.specs.declared.message.Message.{Message}
 use Rattle.ruby_value.specs.declared.setup.MachineSetup.{MachineSetup}
 use Rattle.ruby_runs.specs.Rules.{DriverTurn, Idle, Mailed, Rules, Scan}
