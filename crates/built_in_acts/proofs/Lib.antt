@@ -1,2 +1,4 @@
 pub mod Told
 pub mod Placing
+pub mod Going
+pub mod Cycles

@@ -5,7 +5,7 @@ use Rattle.std.specs.Prelude.{ℕ, List, [], ◌∷◌, ◌++◌, slice_get, unw
 use Rattle.built_in_acts.specs.declared.call.Call.{Call}
 use Rattle.built_in_acts.specs.declared.call.Call.TheVariants.{Message, Table, Controller, Machines, Set, Value, NotServed}
 use Rattle.built_in_acts.specs.declared.call.MessageCall.TheVariants.{IsReady, Dequeue, Recycle, RecycleFor, Stall, Wake, WakeAll}
-use Rattle.built_in_acts.specs.declared.call.TableCall.TheVariants.{Lookup, LookupTbe, IsPresent, HasPlace, Replaced, Allocate, AllocateTbe, Deallocate, Use}
+use Rattle.built_in_acts.specs.declared.call.TableCall.TheVariants.{Lookup, IsPresent, HasPlace, Replaced, Allocate, AllocateTbe, Deallocate, Use}
 use Rattle.built_in_acts.specs.declared.call.ControllerCall.TheVariants.{ReadCallback, WriteCallback, SetState, Cycle, Me}
 use Rattle.built_in_acts.specs.declared.call.MachineCall.TheVariants.{Broadcast, Home, Index, MachineOf}
 use Rattle.built_in_acts.specs.declared.call.SetCall.TheVariants.{Add, Remove, ClearSet, Count, Contains, IsEmpty, AddAll, RemoveAll}
@@ -19,7 +19,7 @@ abbrev pub calls_on_tables : List Call
 calls_on_tables =
     Table Lookup ∷ Table Lookup ∷ Table IsPresent ∷ Table HasPlace ∷ Table Replaced ∷ Table Allocate ∷ Table Deallocate ∷ Table Use
     ∷ Table Lookup ∷ Table Lookup ∷ Value HasLine ∷ Table Allocate
-    ∷ Table LookupTbe ∷ Table LookupTbe ∷ Table AllocateTbe ∷ Table Deallocate ∷ Table IsPresent ∷ []
+    ∷ Table Lookup ∷ Table Lookup ∷ Table AllocateTbe ∷ Table Deallocate ∷ Table IsPresent ∷ []
 
 -- on sets of controllers and on blocks, and callbacks with two, three and four arguments
 abbrev pub calls_on_values : List Call

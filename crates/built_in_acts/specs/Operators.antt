@@ -1,7 +1,10 @@
 -- Sums, differences, products and negations of signed numbers of 64 bits, with the fault where one is outside them, comparisons, and
--- the fields of the lines that references name. Nothing wraps, which is this project's own rule.
-use Rattle.std.specs.Prelude.{ℕ, ℤ, pos, negsuc, ◌+ℤ◌, ◌-ℤ◌, ◌*ℤ◌, ◌^◌, Bool, Result, Ok, Err, nat_lt, int_lt, int_le, if◌then◌else◌}
+-- the fields of the lines that references name. Nothing wraps, and neither sets of controllers nor references are compared: both
+-- are this project's own rules.
+use Rattle.std.specs.Prelude.{ℕ, ℤ, pos, negsuc, ◌+ℤ◌, ◌-ℤ◌, ◌*ℤ◌, ◌^◌, ◌==◌, ◌&&◌, Bool, true, false, not, Result, Ok, Err, nat_lt, int_lt, int_le, bytes_eq, if◌then◌else◌}
+use Rattle.std.specs.Ordering.{int_eq}
 use Rattle.ruby_value.specs.declared.value.Value.{Value}
+use Rattle.ruby_value.specs.declared.value.Value.TheVariants as value
 use Rattle.acts.specs.declared.body_fault.BodyFault.{BodyFault}
 use Rattle.acts.specs.declared.body_fault.BodyFault.TheVariants as own
 use Rattle.acts.specs.Act.{Get, Set}
@@ -30,6 +33,17 @@ is_less a b = int_lt (number a) (number b)
 
 abbrev pub is_at_most : Value → Value → Bool
 is_at_most a b = int_le (number a) (number b)
+
+-- whether two values are equal; two of different sorts, or of a sort that isn't compared, aren't
+abbrev pub are_equal : Value → Value → Bool
+are_equal (value.Bool true) (value.Bool b) = b
+are_equal (value.Bool false) (value.Bool b) = not b
+are_equal (value.Int a) (value.Int b) = int_eq a b
+are_equal (value.Enum d m) (value.Enum e n) = d == e && m == n
+are_equal (value.Addr a) (value.Addr b) = a == b
+are_equal (value.Machine a) (value.Machine b) = a == b
+are_equal (value.Block a) (value.Block b) = bytes_eq a.bytes b.bytes
+are_equal _ _ = false
 
 -- a field through a reference: the fault is the same whether it is to nothing or to a line that isn't there
 unfoldable pub field_of : Value → ℕ → Acting Value

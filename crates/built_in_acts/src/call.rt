@@ -23,10 +23,8 @@ pub enum MessageCall {
 /// A call on a table.
 #[derive(Clone, Copy)]
 pub enum TableCall {
-    /// `lookup` and the index of a cache or a directory.
+    /// `lookup` and the index of a table.
     Lookup,
-    /// `lookup` and the index of a TBE table.
-    LookupTbe,
     /// `isTagPresent` of a cache, `isPresent` of a TBE table.
     IsPresent,
     /// `cacheAvail`.
@@ -137,8 +135,8 @@ const CALLS: [Call; 61] = [
     Call::Table(TableCall::Lookup),
     Call::Value(ValueCall::HasLine),
     Call::Table(TableCall::Allocate),
-    Call::Table(TableCall::LookupTbe),
-    Call::Table(TableCall::LookupTbe),
+    Call::Table(TableCall::Lookup),
+    Call::Table(TableCall::Lookup),
     Call::Table(TableCall::AllocateTbe),
     Call::Table(TableCall::Deallocate),
     Call::Table(TableCall::IsPresent),

@@ -1,16 +1,22 @@
 // What each built-in call does: its arguments are read, its acts are done, and its value is made.
-ghost use Rattle.std.specs.Prelude.{◌≡◌};
+ghost use Rattle.std.specs.Prelude.{◌≡◌, Some, Ok, pos};
+ghost use Rattle.ruby_value.specs.declared.value.Value.TheVariants as value;
+ghost use Rattle.acts.specs.Act.{Now};
+ghost use Rattle.acts.specs.Acting.{act};
 ghost use Rattle.acts.specs.DoesAs.{DoesAs, itself};
-ghost use Rattle.built_in_acts.specs.BuiltIn.{line_used, of_values as of_values_is, on_machines as on_machines_is, on_messages as on_messages_is, on_table as on_table_is, used};
+ghost use Rattle.built_in_acts.specs.BuiltIn.{built_in as built_in_is, line_used, of_values as of_values_is, on_controller as on_controller_is, on_machines as on_machines_is, on_messages as on_messages_is, on_table as on_table_is, referred as referred_is, told, used};
 ghost use Rattle.built_in_acts.specs.Values.{argument};
 
-use crate::call::{MachineCall, MessageCall, TableCall, ValueCall};
+use crate::call::{Call, ControllerCall, MachineCall, MessageCall, TableCall, ValueCall, call_at};
 use crate::machines::{KeptMachines, add_range, home_in, place_of, range_at};
-use crate::sets::controllers_at;
-use crate::values::{address_of_line, controller_at, line_at, member_at, number_at, reference};
+use crate::sets::{controllers_at, of_set};
+use crate::setting::CallSetting;
+use crate::values::{
+    address_of_line, block_at, controller_at, line_at, member_at, number_at, reference,
+};
 use acts::{
-    Block, BodyFault, Local, Trouble, Value, allocate, avail, deallocate, lookup, pop, probe,
-    ready, recycle, stall, touch, wake, wake_all,
+    Block, BodyFault, Local, Ref, Trouble, Value, allocate, avail, deallocate, lookup, me, now,
+    pop, probe, read_back, ready, recycle, set_state, stall, touch, wake, wake_all, write_back,
 };
 use std::alloc::Global;
 
@@ -61,24 +67,37 @@ fn use_line<T: Local>(local: &mut T, table: u16, arguments: &[Value]) -> Result<
     touch(local, table, line)
 }
 
+// A reference to a line of a table, as a value.
+fn referred(setting: &CallSetting, table: u16, r: Option<Ref>) -> Value
+    ensures { result ≡ referred_is setting.now table r }
+{
+    match setting.tbe_references.get(usize::from(table)) {
+        Some(true) => Value::Tbe(r),
+        _ => Value::Entry(r),
+    }
+}
+
 /// Does a call on a table, with these arguments, and answers its value, if it has one.
 pub fn on_table<T: Local>(
     local: &mut T,
+    setting: &CallSetting,
     call: TableCall,
     on: u16,
     arguments: &[Value],
 ) -> Result<Option<Value>, Trouble>
-    ensures { DoesAs itself (on_table_is call on arguments.now) result (T.view local.old)
+    ensures { DoesAs itself (on_table_is setting.now call on arguments.now) result (T.view local.old)
         (T.view local.new) }
 {
     let line = line_at(arguments, 0);
     match call {
-        TableCall::Lookup => Ok(Some(Value::Entry(lookup(local, on, line)?))),
-        TableCall::LookupTbe => Ok(Some(Value::Tbe(lookup(local, on, line)?))),
+        TableCall::Lookup => Ok(Some(referred(setting, on, lookup(local, on, line)?))),
         TableCall::IsPresent => Ok(Some(Value::Bool(lookup(local, on, line)?.is_some()))),
         TableCall::HasPlace => Ok(Some(Value::Bool(avail(local, on, line)?))),
         TableCall::Replaced => Ok(Some(Value::Addr(address_of_line(probe(local, on, line)?)))),
-        TableCall::Allocate => Ok(Some(Value::Entry(Some(allocate(local, on, line)?)))),
+        TableCall::Allocate => {
+            let r = allocate(local, on, line)?;
+            Ok(Some(referred(setting, on, Some(r))))
+        }
         TableCall::AllocateTbe => {
             allocate(local, on, line)?;
             Ok(None)
@@ -91,6 +110,41 @@ pub fn on_table<T: Local>(
             use_line(local, on, arguments)?;
             Ok(None)
         }
+    }
+}
+
+// The cycle, as a number.
+fn cycle<T: Local>(local: &T) -> i64
+    ensures { DoesAs itself (told (λ n. value.Int (pos n)) (act Now)) (Ok (Some (value.Int result)))
+        (T.view local.now) (T.view local.now) }
+{
+    now(local) as i64
+}
+
+/// Does a call on a line's request or state, or on the controller itself, with these arguments, and answers its value, if it has one.
+pub fn on_controller<T: Local>(
+    local: &mut T,
+    call: ControllerCall,
+    arguments: &[Value],
+) -> Result<Option<Value>, Trouble>
+    ensures { DoesAs itself (on_controller_is call arguments.now) result (T.view local.old)
+        (T.view local.new) }
+{
+    match call {
+        ControllerCall::ReadCallback => {
+            read_back(local, line_at(arguments, 0), &block_at(arguments, 1))?;
+            Ok(None)
+        }
+        ControllerCall::WriteCallback => {
+            let block = write_back(local, line_at(arguments, 0), block_at(arguments, 1))?;
+            Ok(Some(Value::Block(block)))
+        }
+        ControllerCall::SetState => {
+            set_state(local, line_at(arguments, 0), member_at(arguments, 1))?;
+            Ok(None)
+        }
+        ControllerCall::Cycle => Ok(Some(Value::Int(cycle(local)))),
+        ControllerCall::Me => Ok(Some(Value::Machine(me(local)))),
     }
 }
 
@@ -137,5 +191,32 @@ pub fn on_machines<T: Local>(
             let placed = place_of(local, kept, controller_at(arguments, 0))?;
             Ok(Some(Value::Enum(0, placed.machine)))
         }
+    }
+}
+
+/// Does the built-in call of this number, in action code's numbering, on the table or buffer of a number where it has one, with
+/// these arguments, of which a receiver that is a value is the first. It answers the call's value, if it has one; that of a call
+/// that changes a set of controllers or a block is the changed one. A number without a call, and one whose work other
+/// instructions do, is the fault `Reference`.
+#[tactic(auto, using(acts::proofs::Walk::walk_steps), unfolding(crate::specs::BuiltIn::built_in))]
+pub fn built_in<T: Local>(
+    alloc: Global,
+    local: &mut T,
+    setting: &CallSetting,
+    n: u16,
+    on: u16,
+    arguments: &[Value],
+) -> Result<Option<Value>, Trouble>
+    ensures { DoesAs itself (built_in_is setting.now n on arguments.now) result (T.view local.old)
+        (T.view local.new) }
+{
+    match call_at(n) {
+        Call::Message(call) => on_messages(local, call, on, arguments),
+        Call::Table(call) => on_table(local, setting, call, on, arguments),
+        Call::Controller(call) => on_controller(local, call, arguments),
+        Call::Machines(call) => on_machines(alloc, local, setting.kept, call, arguments),
+        Call::Set(call) => Ok(Some(of_set(alloc, call, arguments)?)),
+        Call::Value(call) => Ok(of_values(call, arguments)),
+        Call::NotServed => Err(Trouble::from(BodyFault::Reference)),
     }
 }

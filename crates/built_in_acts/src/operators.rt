@@ -1,7 +1,7 @@
 // Sums with their fault, comparisons, and fields through references.
 ghost use Rattle.std.specs.Prelude.{◌≡◌};
 ghost use Rattle.acts.specs.DoesAs.{DoesAs, itself};
-ghost use Rattle.built_in_acts.specs.Operators.{difference as difference_of, field_of as field_is, is_at_most as at_most, is_less as less, negation as negation_of, product as product_of, sum as sum_of, with_field as with_field_is};
+ghost use Rattle.built_in_acts.specs.Operators.{are_equal as are_equal_of, difference as difference_of, field_of as field_is, is_at_most as at_most, is_less as less, negation as negation_of, product as product_of, sum as sum_of, with_field as with_field_is};
 
 use crate::values::{number, reference};
 use acts::{BodyFault, Local, Trouble, Value, get, set};
@@ -58,6 +58,21 @@ pub fn is_at_most(a: &Value, b: &Value) -> bool
     ensures { result ≡ at_most a.now b.now }
 {
     number(a) <= number(b)
+}
+
+/// Whether two values are equal, of those sorts that are compared.
+pub fn are_equal(a: &Value, b: &Value) -> bool
+    ensures { result ≡ are_equal_of a.now b.now }
+{
+    match (a, b) {
+        (Value::Bool(a), Value::Bool(b)) => *a == *b,
+        (Value::Int(a), Value::Int(b)) => *a == *b,
+        (Value::Enum(a, m), Value::Enum(b, n)) => *a == *b && *m == *n,
+        (Value::Addr(a), Value::Addr(b)) => *a == *b,
+        (Value::Machine(a), Value::Machine(b)) => *a == *b,
+        (Value::Block(a), Value::Block(b)) => a.bytes == b.bytes,
+        _ => false,
+    }
 }
 
 /// A field of the line that a reference names.

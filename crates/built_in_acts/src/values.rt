@@ -126,3 +126,12 @@ pub(crate) fn member_at(arguments: &[Value], i: usize) -> u16
         None => 0,
     }
 }
+
+pub(crate) fn block_at(arguments: &[Value], i: usize) -> Block
+    ensures { result ≡ block_of (argument arguments.now i) }
+{
+    match arguments.get(i) {
+        Some(v) => block(v),
+        None => Block { bytes: [0; 64] },
+    }
+}

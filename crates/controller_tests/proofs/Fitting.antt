@@ -2,7 +2,7 @@
 use Rattle.std.proofs.Common.{◌≡◌, ℕ, List, [], ◌∷◌, Some, None, arith}
 use Rattle.std.proofs.lemmas.List.Elements.{All-cons}
 use Rattle.ruby_value.specs.Roomy.{Roomy}
-use Rattle.sequencer.specs.Requests.{FitsRequests, Requests}
+use Rattle.ruby_value.specs.Requests.{FitsRequests, Requests}
 use Rattle.sequencer.specs.Seats.{FitSeats, FitsSeat, Seat}
 use Rattle.ruby_value.specs.declared.asked.Asked.{Asked}
 use Rattle.controller_tests.specs.OneSeat.{one_seat}

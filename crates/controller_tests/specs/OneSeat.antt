@@ -3,7 +3,7 @@ use Rattle.std.specs.Prelude.{ℕ, Option, None, Some, List, [], ◌∷◌, map}
 use Rattle.std.specs.Option.{option_map}
 use Rattle.ruby_value.specs.declared.asked.Asked.{Asked}
 use Rattle.ruby_value.specs.Roomy.{Roomy}
-use Rattle.sequencer.specs.Requests.{Requests}
+use Rattle.ruby_value.specs.Requests.{Requests}
 use Rattle.sequencer.specs.declared.issued.Issued.{Issued}
 use Rattle.sequencer.specs.Seats.{Seat, Seating}
 

@@ -1,5 +1,5 @@
 ghost use Rattle.std.specs.Prelude.{◌^◌, ◌<◌};
-ghost use Rattle.sequencer.specs.Requests.{IsRequest};
+ghost use Rattle.ruby_value.specs.Requests.{IsRequest};
 
 use crate::players::{Plays, first_wrong};
 use sequencer::{Ask, Asked, BackFault, Block, IssueFault, Sequencer};

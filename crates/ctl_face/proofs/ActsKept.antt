@@ -6,7 +6,6 @@ use Rattle.std.proofs.lemmas.Bool.{eq-eqb}
 use Rattle.std.specs.Option.{option_map}
 use Rattle.std.specs.Prelude.{count_by}
 use Rattle.std.proofs.lemmas.List.Sums.{sum_by-append}
-use Rattle.ruby_value.specs.declared.asked.Asked.{Asked}
 use Rattle.ruby_value.specs.declared.fault.Fault.{Fault}
 use Rattle.ruby_value.specs.declared.fault.Fault.TheVariants.{Callback, Front, Latency}
 use Rattle.ruby_value.specs.declared.message.Message.{Message}
@@ -19,11 +18,16 @@ use Rattle.ruby_value.specs.declared.value.Block.{Block}
 use Rattle.ruby_value.specs.declared.value.Value.{Value}
 use Rattle.ruby_value.specs.HasKinds.{has_kinds}
 use Rattle.ruby_value.specs.NumberBefore.{same_number}
-use Rattle.ctl_face.specs.Acts.{Acts, Copy, Note, note_of}
+use Rattle.ctl_face.specs.Acts.{Acts, sent_of}
+use Rattle.ruby_value.specs.declared.message.Delivery.{Delivery}
+use Rattle.ruby_value.specs.declared.message.Sent.{Sent}
 use Rattle.ctl_face.specs.ActsFit.{ActsFit, IsRouted, MailMoves, SentFits}
 use Rattle.ctl_face.specs.AtFront.{after_front, at_front}
-use Rattle.ctl_face.specs.Callback.{after_answer, finish_read, finish_write, is_store, read_back, request_for, stored_block, with_finished, write_back}
-use Rattle.ctl_face.specs.Ctl.{InboxMessage, Mail, Requests}
+use Rattle.ctl_face.specs.Callback.{after_callback, called_back, read_back, write_back}
+use Rattle.ruby_value.specs.declared.asked.BackFault.{BackFault}
+use Rattle.ruby_value.specs.Callback as callback
+use Rattle.ctl_face.specs.Ctl.{InboxMessage, Mail}
+use Rattle.ruby_value.specs.Requests.{Requests}
 use Rattle.ctl_face.specs.Enqueue.{after_sending, enqueue, for_others}
 use Rattle.ctl_face.specs.Fits.{NumbersAscend}
 use Rattle.ctl_face.specs.Front.{IsFront}
@@ -35,7 +39,8 @@ use Rattle.ctl_face.specs.Pop.{mail_without, pop}
 use Rattle.ctl_face.specs.Ready.{front_now}
 use Rattle.ctl_face.specs.Recycle.{mail_with_recycled, message_arriving_again, recycle}
 use Rattle.ctl_face.specs.Send.{Sending, no_copies, receivers_of, send}
-use Rattle.ctl_face.specs.SendAdds.{AddsCopies, IsNetworkCopy, SendAdds, numbers_from}
+use Rattle.ctl_face.specs.SendAdds.{AddsCopies, IsNetworkCopy, SendAdds}
+use Rattle.ruby_value.specs.NumbersFrom.{numbers_from}
 use Rattle.ctl_face.specs.Stall.{mail_with_waiting, message_waiting_under, stall}
 use Rattle.ctl_face.specs.Table.{Table}
 use Rattle.ctl_face.specs.Tables.{after_change, change_if_there, changed_table, table_at}
@@ -44,7 +49,8 @@ use Rattle.ctl_face.proofs.Arrivals.{arrives_later}
 use Rattle.ctl_face.proofs.Fronts.{front_first}
 use Rattle.ctl_face.proofs.Inboxes.{KeepsNumber}
 use Rattle.ctl_face.proofs.Moved.{Moved, OwnBelow, numbers-kept, send_moved, single, taken}
-use Rattle.ctl_face.proofs.Cases.{Good, good_ok, good_err, good_cond}
+use Rattle.ctl_face.proofs.Cases.{Good, good_ok, good_err}
+use Rattle.ctl_face.proofs.Routed.{routed_on}
 use Rattle.ctl_face.proofs.SendAdds.{nothing_added, send_adds}
 
 counts-append : (f : MsgNo → Bool) (xs ys : List MsgNo) → count_by f (xs ++ ys) ≡ count_by f xs + count_by f ys
@@ -104,28 +110,19 @@ module _ (v : LocalView) (acts : ActsFit v) where
   pub wake_acts : (test : InboxMessage → Bool) → ActsFit (with_woken v test)
   wake_acts test = (acts.0, kept_moves test message_waiting_no_longer (λ o. refl))
 
-  finished_acts : (line : ℕ) (asked : Asked) (block : Block) → ActsFit (after_answer v line asked block)
-  finished_acts line asked block = go v.ctl.sequencer
+  called_acts : (call : Requests → Result Requests BackFault) (requests : Option Requests) → Good ActsFit (called_back v call requests)
+  called_acts call None = good_err ActsFit Callback
+  called_acts call (Some r) = go (call r)
     where
-      go : (requests : Option Requests) → ActsFit (with_finished v line (record { asked = asked; block = block }) requests)
-      go None = acts
-      go (Some r) = acts
+      go : (o : Result Requests BackFault) → Good ActsFit (after_callback v o)
+      go (Ok after) = good_ok ActsFit _ acts
+      go (Err fault) = good_err ActsFit Callback
 
   pub read_acts : (line : ℕ) (block : Block) → Good ActsFit (read_back v line block)
-  read_acts line block = go (request_for v line)
-    where
-      go : (o : Option Asked) → Good ActsFit (finish_read v line block o)
-      go None = good_err ActsFit Callback
-      go (Some asked) = good_cond ActsFit (is_store asked.kind) (Err Callback) (Ok (after_answer v line asked block)) (λ _. good_err ActsFit Callback) (λ _. good_ok ActsFit _ (finished_acts line asked block))
+  read_acts line block = called_acts (λ r. callback.read_back r line block) v.ctl.sequencer
 
   pub write_acts : (line : ℕ) (block : Block) → Good ActsFit (write_back v line block)
-  write_acts line block = go (request_for v line)
-    where
-      go : (o : Option Asked) → Good ActsFit (finish_write v line block o)
-      go None = good_err ActsFit Callback
-      go (Some asked) =
-          let stored = stored_block asked block in
-          good_cond ActsFit (is_store asked.kind) (Ok (after_answer v line asked stored)) (Err Callback) (λ _. good_ok ActsFit _ (finished_acts line asked stored)) (λ _. good_err ActsFit Callback)
+  write_acts line block = called_acts (λ r. callback.write_back r line block) v.ctl.sequencer
 
 numbers_append : (sender count n k : ℕ) → numbers_from sender count n ++ numbers_from sender (count + n) k ≡ numbers_from sender count (n + k)
 numbers_append sender count zero k = let same : count + 0 ≡ count = omega arith in let all : 0 + k ≡ k = omega arith in rw (same, all) refl
@@ -135,114 +132,106 @@ numbers_append sender count (suc n) k =
     rw (same, more) (ap (λ (ns : List MsgNo). record { sender = sender; count = count } ∷ ns) (numbers_append sender (count + 1) n k))
 
 -- a note has the copy's number and receiver
-numbers_of_notes : (copies : List Copy) → map (λ (n : Note). n.number) (map note_of copies) ≡ map (λ (c : Copy). c.message.number) copies
+numbers_of_notes : (copies : List (Delivery Message)) → map (λ (n : Sent). n.number) (map sent_of copies) ≡ map (λ (c : Delivery Message). c.message.number) copies
 numbers_of_notes [] = refl
 numbers_of_notes (c ∷ copies) = ap (λ (ns : List MsgNo). c.message.number ∷ ns) (numbers_of_notes copies)
 
-notes_for_others : (me : ℕ) (copies : List Copy) → map note_of (for_others me copies) ≡ filter (λ (n : Note). not (eqb n.receiver me)) (map note_of copies)
+notes_for_others : (me : ℕ) (copies : List (Delivery Message)) → map sent_of (for_others me copies) ≡ filter (λ (n : Sent). not (eqb n.receiver me)) (map sent_of copies)
 notes_for_others me [] = refl
 notes_for_others me (c ∷ copies) =
-    elim (not (eqb c.receiver me)) as (λ b. map note_of (cond b (c ∷ for_others me copies) (for_others me copies)) ≡ cond b (note_of c ∷ filter (λ (n : Note). not (eqb n.receiver me)) (map note_of copies)) (filter (λ (n : Note). not (eqb n.receiver me)) (map note_of copies))) [
-      | true ↦ ap (λ (ns : List Note). note_of c ∷ ns) (notes_for_others me copies)
+    elim (not (eqb c.receiver me)) as (λ b. map sent_of (cond b (c ∷ for_others me copies) (for_others me copies)) ≡ cond b (sent_of c ∷ filter (λ (n : Sent). not (eqb n.receiver me)) (map sent_of copies)) (filter (λ (n : Sent). not (eqb n.receiver me)) (map sent_of copies))) [
+      | true ↦ ap (λ (ns : List Sent). sent_of c ∷ ns) (notes_for_others me copies)
       | false ↦ notes_for_others me copies
     ]
 
 -- with what a send adds
-more_sent : (v : LocalView) (acts : SentFits v.machine v.actor v.now v.start.mail.sent v.ctl.mail.sent v.start.mail.copies v.ctl.mail.copies v.acts.sent v.acts.posted) (s : Sending) (receivers : List ℕ) (words : ℕ) (P : Copy → Type 0) → AddsCopies v.actor v.ctl.mail receivers words P s
-    → All (λ (c : Copy). v.now < c.message.arrival) s.copies → All (IsRouted v.machine v.actor.routes) (for_others v.actor.me s.copies)
-    → SentFits v.machine v.actor v.now v.start.mail.sent s.mail.sent v.start.mail.copies s.mail.copies (v.acts.sent ++ map note_of s.copies) (v.acts.posted ++ for_others v.actor.me s.copies)
+more_sent : (v : LocalView) (acts : SentFits v.machine v.actor v.now v.start.mail.sent v.ctl.mail.sent v.start.mail.copies v.ctl.mail.copies v.acts.sent v.acts.posted) (s : Sending) (receivers : List ℕ) (words : ℕ) (P : Delivery Message → Type 0) → AddsCopies v.actor v.ctl.mail receivers words P s
+    → All (λ (c : Delivery Message). v.now < c.message.arrival) s.copies → All (IsRouted v.machine v.actor.routes) (for_others v.actor.me s.copies)
+    → SentFits v.machine v.actor v.now v.start.mail.sent s.mail.sent v.start.mail.copies s.mail.copies (v.acts.sent ++ map sent_of s.copies) (v.acts.posted ++ for_others v.actor.me s.copies)
 more_sent v acts s receivers words P adds later routed =
     let n = length v.acts.sent in
     let k = length receivers in
-    let many : length s.copies ≡ k = sym (length-map s.copies (λ (c : Copy). c.receiver)) ∙ ap length adds.to in
-    let longer : length (v.acts.sent ++ map note_of s.copies) ≡ n + k = length-append v.acts.sent (map note_of s.copies) ∙ ap (λ (j : ℕ). n + j) (length-map s.copies note_of ∙ many) in
+    let many : length s.copies ≡ k = sym (length-map s.copies (λ (c : Delivery Message). c.receiver)) ∙ ap length adds.to in
+    let longer : length (v.acts.sent ++ map sent_of s.copies) ≡ n + k = length-append v.acts.sent (map sent_of s.copies) ∙ ap (λ (j : ℕ). n + j) (length-map s.copies sent_of ∙ many) in
     let me = v.actor.me in
     record {
-      numbers = map-append (λ (m : Note). m.number) v.acts.sent (map note_of s.copies)
-          ∙ ap (λ (ns : List MsgNo). ns ++ map (λ (m : Note). m.number) (map note_of s.copies)) acts.numbers
+      numbers = map-append (λ (m : Sent). m.number) v.acts.sent (map sent_of s.copies)
+          ∙ ap (λ (ns : List MsgNo). ns ++ map (λ (m : Sent). m.number) (map sent_of s.copies)) acts.numbers
           ∙ ap (λ (ns : List MsgNo). numbers_from me v.start.mail.sent n ++ ns) (numbers_of_notes s.copies ∙ adds.numbers ∙ ap (λ (from : ℕ). numbers_from me from k) acts.count)
           ∙ numbers_append me v.start.mail.sent n k ∙ ap (numbers_from me v.start.mail.sent) (sym longer);
       count = (let here = adds.sent in let before = acts.count in omega arith);
       copies_counted = (let here = adds.copies_counted in let before = acts.copies_counted in omega arith);
-      arrivals = All-append (λ (m : Note). v.now < m.arrival) v.acts.sent (map note_of s.copies) acts.arrivals (All-map (λ (m : Note). v.now < m.arrival) note_of s.copies later);
-      for_others = map-append note_of v.acts.posted (for_others me s.copies)
-          ∙ ap (λ (ns : List Note). ns ++ map note_of (for_others me s.copies)) acts.for_others
-          ∙ ap (λ (ns : List Note). filter (λ (m : Note). not (eqb m.receiver me)) v.acts.sent ++ ns) (notes_for_others me s.copies)
-          ∙ sym (filter-append (λ (m : Note). not (eqb m.receiver me)) v.acts.sent (map note_of s.copies));
+      arrivals = All-append (λ (m : Sent). v.now < m.arrival) v.acts.sent (map sent_of s.copies) acts.arrivals (All-map (λ (m : Sent). v.now < m.arrival) sent_of s.copies later);
+      for_others = map-append sent_of v.acts.posted (for_others me s.copies)
+          ∙ ap (λ (ns : List Sent). ns ++ map sent_of (for_others me s.copies)) acts.for_others
+          ∙ ap (λ (ns : List Sent). filter (λ (m : Sent). not (eqb m.receiver me)) v.acts.sent ++ ns) (notes_for_others me s.copies)
+          ∙ sym (filter-append (λ (m : Sent). not (eqb m.receiver me)) v.acts.sent (map sent_of s.copies));
       routed = All-append (IsRouted v.machine v.actor.routes) v.acts.posted (for_others me s.copies) acts.routed routed;
     }
 
-own_aside : (P : Copy → Type 0) (me : ℕ) (copies : List Copy) → map (λ (c : Copy). c.receiver) copies ≡ me ∷ [] → All P (for_others me copies)
+own_aside : (P : Delivery Message → Type 0) (me : ℕ) (copies : List (Delivery Message)) → map (λ (c : Delivery Message). c.receiver) copies ≡ me ∷ [] → All P (for_others me copies)
 own_aside P me [] is = absurd (cc is)
 own_aside P me (c ∷ []) is =
     let same : c.receiver ≡ me = cc is in
     rw (eq-eqb c.receiver me same) (All-nil P)
 own_aside P me (c ∷ d ∷ rest) is = absurd (cc is)
 
-among_receivers : (copies : List Copy) (c : Copy) → Contains copies c → Contains (map (λ (x : Copy). x.receiver) copies) c.receiver
+among_receivers : (copies : List (Delivery Message)) (c : Delivery Message) → Contains copies c → Contains (map (λ (x : Delivery Message). x.receiver) copies) c.receiver
 among_receivers copies c there =
     let within = there.1 in
-    let same = length-map copies (λ (x : Copy). x.receiver) in
-    (there.0, omega arith, get_or-map (λ (x : Copy). x.receiver) copies there.0 c c.receiver within ∙ ap (λ (x : Copy). x.receiver) there.2)
+    let same = length-map copies (λ (x : Delivery Message). x.receiver) in
+    (there.0, omega arith, get_or-map (λ (x : Delivery Message). x.receiver) copies there.0 c c.receiver within ∙ ap (λ (x : Delivery Message). x.receiver) there.2)
 
 routed_copies : (machine : MachineSetup) (actor : Actor) (mail : Mail) (buffer latency now : ℕ) (fields : List Value) (on : BufferSetup) (p : BufferPlace) (s : Sending) → slice_get machine.buffers buffer ≡ Some on → IsTrue (has_kinds on.kinds fields) → on.place ≡ p
     → SendAdds p on.ordered actor mail buffer latency fields now s → All (IsRouted machine actor.routes) (for_others actor.me s.copies)
 routed_copies machine actor mail buffer latency now fields on place.Local s is takes at adds = own_aside (IsRouted machine actor.routes) actor.me s.copies adds.0.to
 routed_copies machine actor mail buffer latency now fields on (place.To network destination) s is takes at adds =
-    All-filter (λ (c : Copy). not (eqb c.receiver actor.me)) (IsRouted machine actor.routes) s.copies
+    All-filter (λ (c : Delivery Message). not (eqb c.receiver actor.me)) (IsRouted machine actor.routes) s.copies
     (All-weaker (Contains s.copies) (IsRouted machine actor.routes) routed s.copies (All-contains_itself s.copies))
   where
-    routed : (c : Copy) → Contains s.copies c → IsRouted machine actor.routes c
+    routed : (c : Delivery Message) → Contains s.copies c → IsRouted machine actor.routes c
     routed c there =
         let copy = All-contains (IsNetworkCopy actor mail network latency (receivers_of destination fields) fields now) s.copies c adds.0.each there in
         let among = subst (λ (rs : List ℕ). Contains rs c.receiver) adds.0.to (among_receivers s.copies c there) in
-        record {
-          network = network;
-          destination = destination;
-          on = buffer;
-          sends = rw (is, copy.fields_sent) (at, takes);
-          named = rw copy.fields_sent among;
-          receives = copy.buffer;
-          not_recycled = copy.not_recycled;
-        }
+        routed_on machine actor.routes c network buffer destination on is at (rw copy.fields_sent takes) (rw copy.fields_sent among) copy.buffer copy.not_recycled
 routed_copies machine actor mail buffer latency now fields on (place.From network) s is takes at adds =
-    All-filter (λ (c : Copy). not (eqb c.receiver actor.me)) (IsRouted machine actor.routes) s.copies
-    (All-weaker (λ (c : Copy). ⊥) (IsRouted machine actor.routes) (λ c none. absurd none) s.copies adds.0.each)
+    All-filter (λ (c : Delivery Message). not (eqb c.receiver actor.me)) (IsRouted machine actor.routes) s.copies
+    (All-weaker (λ (c : Delivery Message). ⊥) (IsRouted machine actor.routes) (λ c none. absurd none) s.copies adds.0.each)
 
 sending_acts : (v : LocalView) (buffer : ℕ) (latency : ℤ) (fields : List Value) (sent : SentFits v.machine v.actor v.now v.start.mail.sent v.ctl.mail.sent v.start.mail.copies v.ctl.mail.copies v.acts.sent v.acts.posted) (o : Option BufferSetup) → slice_get v.machine.buffers buffer ≡ o
     → IsTrue (has_kinds (unwrap_or (option_map (λ (b : BufferSetup). b.kinds) o) []) fields) → (s : Sending) → send v.machine v.actor v.ctl.mail buffer latency fields v.now ≡ Ok s
-    → SentFits v.machine v.actor v.now v.start.mail.sent s.mail.sent v.start.mail.copies s.mail.copies (v.acts.sent ++ map note_of s.copies) (v.acts.posted ++ for_others v.actor.me s.copies)
+    → SentFits v.machine v.actor v.now v.start.mail.sent s.mail.sent v.start.mail.copies s.mail.copies (v.acts.sent ++ map sent_of s.copies) (v.acts.posted ++ for_others v.actor.me s.copies)
 sending_acts v buffer latency fields before (Some on) is takes s sent =
     go on.place refl (send_adds v.machine v.actor v.ctl.mail buffer latency fields v.now on s is sent)
   where
-    later : All (λ (c : Copy). v.now < c.message.arrival) s.copies
+    later : All (λ (c : Delivery Message). v.now < c.message.arrival) s.copies
     later = arrives_later v.machine v.actor v.ctl.mail buffer latency fields v.now s sent
 
     routed : (p : BufferPlace) → on.place ≡ p → SendAdds p on.ordered v.actor v.ctl.mail buffer (nat_abs latency) fields v.now s → All (IsRouted v.machine v.actor.routes) (for_others v.actor.me s.copies)
     routed p at adds = routed_copies v.machine v.actor v.ctl.mail buffer (nat_abs latency) v.now fields on p s is takes at adds
 
     go : (p : BufferPlace) → on.place ≡ p → SendAdds p on.ordered v.actor v.ctl.mail buffer (nat_abs latency) fields v.now s
-        → SentFits v.machine v.actor v.now v.start.mail.sent s.mail.sent v.start.mail.copies s.mail.copies (v.acts.sent ++ map note_of s.copies) (v.acts.posted ++ for_others v.actor.me s.copies)
+        → SentFits v.machine v.actor v.now v.start.mail.sent s.mail.sent v.start.mail.copies s.mail.copies (v.acts.sent ++ map sent_of s.copies) (v.acts.posted ++ for_others v.actor.me s.copies)
     go place.Local at adds = more_sent v before s _ _ _ adds.0 later (routed place.Local at adds)
     go (place.To network destination) at adds = more_sent v before s _ _ _ adds.0 later (routed (place.To network destination) at adds)
     go (place.From network) at adds = more_sent v before s _ _ _ adds.0 later (routed (place.From network) at adds)
 sending_acts v buffer latency fields before None is takes s sent = none (is_latency latency) (rw is at sent)
   where
-    none : (b : Bool) → cond b (Ok (no_copies v.ctl.mail)) (Err Latency) ≡ Ok s → SentFits v.machine v.actor v.now v.start.mail.sent s.mail.sent v.start.mail.copies s.mail.copies (v.acts.sent ++ map note_of s.copies) (v.acts.posted ++ for_others v.actor.me s.copies)
+    none : (b : Bool) → cond b (Ok (no_copies v.ctl.mail)) (Err Latency) ≡ Ok s → SentFits v.machine v.actor v.now v.start.mail.sent s.mail.sent v.start.mail.copies s.mail.copies (v.acts.sent ++ map sent_of s.copies) (v.acts.posted ++ for_others v.actor.me s.copies)
     none true same =
         let is_none : no_copies v.ctl.mail ≡ s = cc same in
-        subst (λ (x : Sending). SentFits v.machine v.actor v.now v.start.mail.sent x.mail.sent v.start.mail.copies x.mail.copies (v.acts.sent ++ map note_of x.copies) (v.acts.posted ++ for_others v.actor.me x.copies)) is_none
-        (more_sent v before (no_copies v.ctl.mail) [] 0 (λ c. ⊥) (nothing_added v.actor v.ctl.mail) (All-nil (λ (c : Copy). v.now < c.message.arrival)) (All-nil (IsRouted v.machine v.actor.routes)))
+        subst (λ (x : Sending). SentFits v.machine v.actor v.now v.start.mail.sent x.mail.sent v.start.mail.copies x.mail.copies (v.acts.sent ++ map sent_of x.copies) (v.acts.posted ++ for_others v.actor.me x.copies)) is_none
+        (more_sent v before (no_copies v.ctl.mail) [] 0 (λ c. ⊥) (nothing_added v.actor v.ctl.mail) (All-nil (λ (c : Delivery Message). v.now < c.message.arrival)) (All-nil (IsRouted v.machine v.actor.routes)))
     none false same = absurd (cc same)
 
 sent_moves : (v : LocalView) (s : Sending) → MailMoves v.start.mail.inbox v.ctl.mail.inbox v.acts.consumed v.acts.sent v.acts.posted → Moved v.actor v.ctl.mail s
-    → MailMoves v.start.mail.inbox s.mail.inbox v.acts.consumed (v.acts.sent ++ map note_of s.copies) (v.acts.posted ++ for_others v.actor.me s.copies)
+    → MailMoves v.start.mail.inbox s.mail.inbox v.acts.consumed (v.acts.sent ++ map sent_of s.copies) (v.acts.posted ++ for_others v.actor.me s.copies)
 sent_moves v s before step f =
     let new = step.moved f in
     let old = before f in
-    let number : Note → MsgNo = λ n. n.number in
-    let of_copy : Copy → MsgNo = λ c. c.message.number in
-    let notes = ap (count_by f) (map-append number v.acts.sent (map note_of s.copies)) ∙ counts-append f (map number v.acts.sent) (map number (map note_of s.copies)) in
+    let number : Sent → MsgNo = λ n. n.number in
+    let of_copy : Delivery Message → MsgNo = λ c. c.message.number in
+    let notes = ap (count_by f) (map-append number v.acts.sent (map sent_of s.copies)) ∙ counts-append f (map number v.acts.sent) (map number (map sent_of s.copies)) in
     let of_notes = ap (count_by f) (numbers_of_notes s.copies) in
     let posted = ap (count_by f) (map-append of_copy v.acts.posted (for_others v.actor.me s.copies)) ∙ counts-append f (map of_copy v.acts.posted) (map of_copy (for_others v.actor.me s.copies)) in
     omega arith

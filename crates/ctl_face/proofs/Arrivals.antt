@@ -10,7 +10,8 @@ use Rattle.ruby_value.specs.declared.setup.BufferPlace.{BufferPlace}
 use Rattle.ruby_value.specs.declared.setup.BufferSetup.{BufferSetup}
 use Rattle.ruby_value.specs.declared.setup.MachineSetup.{MachineSetup}
 use Rattle.ruby_value.specs.declared.setup.BufferPlace.TheVariants as place
-use Rattle.ctl_face.specs.Acts.{Copy}
+use Rattle.ruby_value.specs.declared.message.Delivery.{Delivery}
+use Rattle.ruby_value.specs.declared.message.Message.{Message}
 use Rattle.ctl_face.specs.Ctl.{Mail}
 use Rattle.ctl_face.specs.LocalView.{Actor}
 use Rattle.ctl_face.specs.Lasts.{last_at, lasts_on}
@@ -26,7 +27,7 @@ pub positive : (latency : ℤ) → is_latency latency ≡ true → 0 < nat_abs l
 positive (pos n) is = grind arith
 positive (negsuc n) is = cc
 
-abbrev IsLater : ℕ → Copy → Type 0
+abbrev IsLater : ℕ → Delivery Message → Type 0
 IsLater now c = now < c.message.arrival
 
 abbrev Later : ℕ → Sending → Type 0
@@ -71,7 +72,7 @@ from_later : (o : Option BufferSetup) (actor : Actor) (mail : Mail) (buffer late
 from_later None actor mail buffer latency fields now some = good_ok (Later now) (no_copies mail) (nothing_sent mail now)
 from_later (Some s) actor mail buffer latency fields now some = on_later s.place s.ordered actor mail buffer latency fields now some
 
-pub arrives_later : (machine : MachineSetup) (actor : Actor) (mail : Mail) (buffer : ℕ) (latency : ℤ) (fields : List Value) (now : ℕ) (s : Sending) → send machine actor mail buffer latency fields now ≡ Ok s → All (λ (c : Copy). now < c.message.arrival) s.copies
+pub arrives_later : (machine : MachineSetup) (actor : Actor) (mail : Mail) (buffer : ℕ) (latency : ℤ) (fields : List Value) (now : ℕ) (s : Sending) → send machine actor mail buffer latency fields now ≡ Ok s → All (λ (c : Delivery Message). now < c.message.arrival) s.copies
 arrives_later machine actor mail buffer latency fields now s =
     let o = slice_get machine.buffers buffer in
     (good_cond (Later now) (is_latency latency) (sending_from o actor mail buffer (nat_abs latency) fields now) (Err Latency)

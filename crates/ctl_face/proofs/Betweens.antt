@@ -1,7 +1,8 @@
 -- What holds of a controller holds after each act between its scans.
 use Rattle.std.proofs.Common.{◌≡◌, ℕ, ◌+◌, ◌*◌, ◌^◌, ◌<◌, ◌≤◌, Bool, true, false, IsTrue, IsSomeAnd, List, [], ◌∷◌, refl, arith, Option, None, Some, slice_get}
-use Rattle.std.proofs.lemmas.List.Elements.{All-tail}
+use Rattle.std.proofs.lemmas.List.Elements.{All-head, All-tail}
 use Rattle.std.specs.FinMap as map
+use Rattle.std.specs.List.{All}
 use Rattle.std.specs.Option.{option_map}
 use Rattle.ruby_value.specs.declared.asked.Answer.{Answer}
 use Rattle.ruby_value.specs.declared.asked.Asked.{Asked}
@@ -10,9 +11,10 @@ use Rattle.ruby_value.specs.declared.setup.BufferSetup.{BufferSetup}
 use Rattle.ruby_value.specs.declared.setup.MachineSetup.{MachineSetup}
 use Rattle.ruby_value.specs.HasKinds.{has_kinds}
 use Rattle.ruby_value.proofs.Ordered.{AllPairs-tail}
-use Rattle.ctl_face.specs.Between.{at_cycle, with_one_fired, with_stop, rest_of, with_arrival, with_request, with_wake_up, without_first_answer}
-use Rattle.ctl_face.specs.Ctl.{Ctl, Requests}
-use Rattle.ctl_face.specs.Fits.{Fits, FitsRequests, FitsSequencer, ScanFits, IsRequest}
+use Rattle.ctl_face.specs.Between.{DriverAct, Takes, Issues, IsDriverAct, after_driver_acts, at_cycle, with_one_fired, with_stop, with_arrival, with_request, with_wake_up, without_first_answer}
+use Rattle.ruby_value.specs.Requests.{rest_of, Requests, FitsRequests, IsRequest}
+use Rattle.ctl_face.specs.Ctl.{Ctl}
+use Rattle.ctl_face.specs.Fits.{Fits, FitsSequencer, ScanFits}
 use Rattle.ctl_face.specs.LocalView.{LocalView}
 use Rattle.ctl_face.specs.Send.{copy_limit}
 use Rattle.ctl_face.proofs.Callbacks.{Outstanding}
@@ -74,6 +76,20 @@ module _ (machine : MachineSetup) (me now : ℕ) where
       taken true (Some r) here = rest_fits r here r.finished refl
       taken false (Some r) here = absurd here
       taken true None here = absurd here
+
+pub driver_keeps : (acts : List DriverAct) → All IsDriverAct acts → (machine : MachineSetup) (me now : ℕ) (ctl : Ctl) → Fits machine me ctl now
+    → Fits machine me (after_driver_acts ctl acts) now
+driver_keeps [] all machine me now ctl fits = fits
+driver_keeps (Takes ∷ acts) all machine me now ctl fits =
+    driver_keeps acts (All-tail IsDriverAct Takes acts all) machine me now (without_first_answer ctl) (answer_keeps machine me now ctl fits)
+driver_keeps (Issues asked ∷ acts) all machine me now ctl fits =
+    driver_keeps acts (All-tail IsDriverAct (Issues asked) acts all) machine me now (with_request ctl asked)
+    (request_keeps machine me now ctl asked (All-head IsDriverAct (Issues asked) acts all) fits)
+
+pub driver_mail : (acts : List DriverAct) (ctl : Ctl) → (after_driver_acts ctl acts).mail ≡ ctl.mail
+driver_mail [] ctl = refl
+driver_mail (Takes ∷ acts) ctl = driver_mail acts (without_first_answer ctl)
+driver_mail (Issues asked ∷ acts) ctl = driver_mail acts (with_request ctl asked)
 
 more : (n old new copies : ℕ) → n ≤ copy_limit * old + copies → copies ≤ copy_limit → old < new → n ≤ copy_limit * new + 0
 more n old new copies first second third = omega arith

@@ -1,17 +1,20 @@
 -- What holds of a lawful local holds after a callback and after a state is set.
-use Rattle.std.proofs.Common.{◌≡◌, ℕ, ◌≤◌, Bool, true, false, IfNone, IfSome, IsSome, refl, subst, arith, Option, None, Some, Ok, Err}
+use Rattle.std.proofs.Common.{◌≡◌, ℕ, ◌≤◌, Bool, true, false, IfNone, IfSome, IsSome, refl, subst, arith, Option, None, Some, Result, Ok, Err}
 use Rattle.std.proofs.lemmas.Bool.{leb-true, ltb-true}
 use Rattle.std.specs.Bool.{nat_lt, nat_le}
-use Rattle.std.specs.FinMap as map
-use Rattle.std.specs.Option.{option_and_then}
 use Rattle.ruby_value.specs.declared.asked.Answer.{Answer}
 use Rattle.ruby_value.specs.declared.asked.Asked.{Asked}
 use Rattle.ruby_value.specs.declared.fault.Fault.TheVariants.{Callback}
 use Rattle.ruby_value.specs.declared.value.Block.{Block}
 use Rattle.ruby_value.proofs.Ordered.{All-insert, AllPairs-insert}
-use Rattle.ctl_face.specs.Callback.{is_store, request_for, requests_with_answer, with_finished, after_answer, finish_read, read_back, stored_block, finish_write, write_back}
-use Rattle.ctl_face.specs.Ctl.{Requests}
-use Rattle.ctl_face.specs.Fits.{FitsRequests, FitsSequencer, ScanFits, IsLine, IsRequest}
+use Rattle.ruby_value.specs.Callback as callback
+use Rattle.ruby_value.specs.Callback.{after_answer, finish_read, finish_write, is_store, stored_block}
+use Rattle.ruby_value.specs.Requests.{requests_with_answer, request_for, Requests, FitsRequests, IsRequest}
+use Rattle.ruby_value.specs.declared.asked.BackFault.{BackFault}
+use Rattle.ruby_value.specs.declared.asked.BackFault.TheVariants.{NoRequest, WrongKind}
+use Rattle.ctl_face.specs.Callback.{after_callback, called_back, read_back, write_back}
+use Rattle.ctl_face.specs.Fits.{FitsSequencer, ScanFits}
+use Rattle.ruby_value.specs.Lines.{IsLine}
 use Rattle.ctl_face.specs.LocalView.{LocalView}
 use Rattle.ctl_face.specs.Served.{HasStates}
 use Rattle.ctl_face.specs.State.{set_state}
@@ -42,9 +45,29 @@ sequencer_fits : (has : Bool) (r s : Requests) → (FitsRequests r → FitsReque
 sequencer_fits true r s keeps fits = keeps fits
 sequencer_fits false r s keeps fits = fits
 
-is_request : (has : Bool) (r : Requests) (line : ℕ) (asked : Asked) → map.get r.outstanding line ≡ Some asked → FitsSequencer has (Some r) → IsRequest asked
-is_request true r line asked is fits = (let Q : Option Asked → Type 0 = λ o. IfSome o (Outstanding line) in subst Q is (fits.outstanding line)).1
-is_request false r line asked is fits = absurd fits
+-- a callback keeps what holds of requests
+module _ (r : Requests) (line : ℕ) (block : Block) (fits : FitsRequests r) where
+  answer_fits : (asked : Asked) (with : Block) → request_for r line ≡ Some asked → FitsRequests (after_answer r line asked with)
+  answer_fits asked with is = finished_fits r line (record { asked = asked; block = with }) (let Q : Option Asked → Type 0 = λ o. IfSome o (Outstanding line) in subst Q is (fits.outstanding line)).1 fits
+
+  pub read_fits : Good FitsRequests (callback.read_back r line block)
+  read_fits = go (request_for r line) refl
+    where
+      go : (o : Option Asked) → request_for r line ≡ o → Good FitsRequests (finish_read r line block o)
+      go None is = good_err FitsRequests NoRequest
+      go (Some asked) is =
+          good_cond FitsRequests (is_store asked.kind) (Err WrongKind) (Ok (after_answer r line asked block)) (λ _. good_err FitsRequests WrongKind)
+          (λ _. good_ok FitsRequests (after_answer r line asked block) (answer_fits asked block is))
+
+  pub write_fits : Good FitsRequests (callback.write_back r line block)
+  write_fits = go (request_for r line) refl
+    where
+      go : (o : Option Asked) → request_for r line ≡ o → Good FitsRequests (finish_write r line block o)
+      go None is = good_err FitsRequests NoRequest
+      go (Some asked) is =
+          let stored = stored_block asked block in
+          good_cond FitsRequests (is_store asked.kind) (Ok (after_answer r line asked stored)) (Err WrongKind)
+          (λ _. good_ok FitsRequests (after_answer r line asked stored) (answer_fits asked stored is)) (λ _. good_err FitsRequests WrongKind)
 
 -- the sequencer with other requests
 pub with_requests_fits : (v : LocalView) (requests : Option Requests) → FitsSequencer v.machine.has_sequencer requests → ScanFits v → ScanFits (record v { ctl = record v.ctl { sequencer = requests } })
@@ -56,35 +79,22 @@ with_requests_fits v requests here lawful = record {
   fits = record { tables = lawful.fits.tables; mail = lawful.fits.mail; sequencer = here };
 }
 
-answered : (v : LocalView) (line : ℕ) (asked : Asked) (block : Block) (requests : Option Requests) → option_and_then (λ (r : Requests). map.get r.outstanding line) requests ≡ Some asked
-    → FitsSequencer v.machine.has_sequencer requests → ScanFits v → ScanFits (with_finished v line (record { asked = asked; block = block }) requests)
-answered v line asked block None is fits lawful = lawful
-answered v line asked block (Some r) is fits lawful =
-    let a : Answer = record { asked = asked; block = block } in
-    let has = v.machine.has_sequencer in
-    with_requests_fits v (Some (requests_with_answer r line a)) (sequencer_fits has r (requests_with_answer r line a) (finished_fits r line a (is_request has r line asked is fits)) fits) lawful
-
-answer_keeps : (v : LocalView) (line : ℕ) (asked : Asked) (block : Block) → request_for v line ≡ Some asked → ScanFits v → ScanFits (after_answer v line asked block)
-answer_keeps v line asked block is lawful = answered v line asked block v.ctl.sequencer is lawful.fits.sequencer lawful
-
-read_keeps : (v : LocalView) (line : ℕ) (block : Block) (asked : Option Asked) → request_for v line ≡ asked → ScanFits v → Good ScanFits (finish_read v line block asked)
-read_keeps v line block None is lawful = good_err ScanFits Callback
-read_keeps v line block (Some asked) is lawful =
-    good_cond ScanFits (is_store asked.kind) (Err Callback) (Ok (after_answer v line asked block)) (λ _. good_err ScanFits Callback)
-    (λ _. good_ok ScanFits (after_answer v line asked block) (answer_keeps v line asked block is lawful))
+called_keeps : (v : LocalView) (call : Requests → Result Requests BackFault) → ((r : Requests) → FitsRequests r → Good FitsRequests (call r))
+    → (requests : Option Requests) → FitsSequencer v.machine.has_sequencer requests → ScanFits v → Good ScanFits (called_back v call requests)
+called_keeps v call keeps None fits lawful = good_err ScanFits Callback
+called_keeps v call keeps (Some r) fits lawful = go (call r) (λ has. keeps r has)
+  where
+    go : (o : Result Requests BackFault) → (FitsRequests r → Good FitsRequests o) → Good ScanFits (after_callback v o)
+    go (Err fault) good = good_err ScanFits Callback
+    go (Ok after) good =
+        good_ok ScanFits (record v { ctl = record v.ctl { sequencer = Some after } })
+        (with_requests_fits v (Some after) (sequencer_fits v.machine.has_sequencer r after (λ has. (good has).good after refl) fits) lawful)
 
 pub read_back_keeps : (v : LocalView) (line : ℕ) (block : Block) → ScanFits v → Good ScanFits (read_back v line block)
-read_back_keeps v line block = read_keeps v line block (request_for v line) refl
-
-write_keeps : (v : LocalView) (line : ℕ) (block : Block) (asked : Option Asked) → request_for v line ≡ asked → ScanFits v → Good ScanFits (finish_write v line block asked)
-write_keeps v line block None is lawful = good_err ScanFits Callback
-write_keeps v line block (Some asked) is lawful =
-    let stored = stored_block asked block in
-    good_cond ScanFits (is_store asked.kind) (Ok (after_answer v line asked stored)) (Err Callback)
-    (λ _. good_ok ScanFits (after_answer v line asked stored) (answer_keeps v line asked stored is lawful)) (λ _. good_err ScanFits Callback)
+read_back_keeps v line block lawful = called_keeps v (λ r. callback.read_back r line block) (λ r. read_fits r line block) v.ctl.sequencer lawful.fits.sequencer lawful
 
 pub write_back_keeps : (v : LocalView) (line : ℕ) (block : Block) → ScanFits v → Good ScanFits (write_back v line block)
-write_back_keeps v line block = write_keeps v line block (request_for v line) refl
+write_back_keeps v line block lawful = called_keeps v (λ r. callback.write_back r line block) (λ r. write_fits r line block) v.ctl.sequencer lawful.fits.sequencer lawful
 
 abbrev StateOfLine : ℕ → ℕ → Type 0
 StateOfLine line state = IsLine line

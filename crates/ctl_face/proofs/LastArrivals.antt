@@ -7,10 +7,10 @@ use Rattle.std.specs.Cmp.{nat_cmp_total, unsigned_tied}
 use Rattle.std.specs.FinMap as finite
 use Rattle.std.specs.List.{fold, slice_set}
 use Rattle.ruby_value.specs.declared.message.Message.{Message}
-use Rattle.ctl_face.specs.Acts.{Copy}
+use Rattle.ruby_value.specs.declared.message.Delivery.{Delivery}
 use Rattle.ctl_face.specs.Ctl.{Mail}
 use Rattle.ctl_face.specs.Lasts.{Lasts, last_at, lasts_on, with_last}
-use Rattle.ctl_face.specs.Mailing.{mail_with_delivery, mail_with_message}
+use Rattle.ctl_face.specs.Mailing.{mail_with_delivery, mail_with_arrival}
 use Rattle.ctl_face.specs.SendAdds.{NetworkLasts, copies_to, latest, mail_with_own}
 
 swap_eqb : (a b : ℕ) → eqb a b ≡ eqb b a
@@ -64,12 +64,12 @@ not_moved networks network receiver arrival q apart =
     let before = lasts_on networks network in
     at_written (λ (l : Lasts). last_at l q ≡ last_at before q) networks network (finite.insert before receiver arrival) refl (inserted_elsewhere before receiver arrival q apart)
 
-latest_push : (cycle receiver : ℕ) (copies : List Copy) (c : Copy)
+latest_push : (cycle receiver : ℕ) (copies : List (Delivery Message)) (c : Delivery Message)
     → latest cycle (copies_to receiver (copies ++ c ∷ [])) ≡ cond (eqb receiver c.receiver) (max (latest cycle (copies_to receiver copies)) c.message.arrival) (latest cycle (copies_to receiver copies))
 latest_push cycle receiver copies c =
     let before = latest cycle (copies_to receiver copies) in
-    ap (latest cycle) (filter-append (λ (x : Copy). eqb x.receiver receiver) copies (c ∷ []))
-    ∙ fold-append (λ (a : ℕ) (x : Copy). max a x.message.arrival) cycle (copies_to receiver copies) (copies_to receiver (c ∷ []))
+    ap (latest cycle) (filter-append (λ (x : Delivery Message). eqb x.receiver receiver) copies (c ∷ []))
+    ∙ fold-append (λ (a : ℕ) (x : Delivery Message). max a x.message.arrival) cycle (copies_to receiver copies) (copies_to receiver (c ∷ []))
     ∙ rw (swap_eqb c.receiver receiver)
     (elim (eqb receiver c.receiver) as (λ b. latest before (cond b (c ∷ []) []) ≡ cond b (max before c.message.arrival) before) [
       | true ↦ refl
@@ -91,7 +91,7 @@ module _ (network : ℕ) (start : Mail) where
   }
 
   -- where the network is ordered, and has a place
-  in_order_after : (networks : List Lasts) (copies : List Copy) (c : Copy) (sum : ℕ) → network < length networks → c.message.arrival ≡ max sum (last_at (lasts_on networks network) c.receiver)
+  in_order_after : (networks : List Lasts) (copies : List (Delivery Message)) (c : Delivery Message) (sum : ℕ) → network < length networks → c.message.arrival ≡ max sum (last_at (lasts_on networks network) c.receiver)
       → ((q : ℕ) → last_at (lasts_on networks network) q ≡ latest (last_at (lasts_on start.network_last network) q) (copies_to q copies))
       → (q : ℕ) → last_at (lasts_on (with_last networks network c.receiver c.message.arrival) network) q ≡ latest (last_at (lasts_on start.network_last network) q) (copies_to q (copies ++ c ∷ []))
   in_order_after networks copies c sum within is before q =
@@ -103,7 +103,7 @@ module _ (network : ℕ) (start : Mail) where
       (λ same. is ∙ ap (max sum) (ap (last_at lasts) (sym (eqb-true q c.receiver same)) ∙ before q)) (before q)
       ∙ sym (latest_push first q copies c)
 
-  pub lasts_after : (ordered : Bool) (mail : Mail) (copies : List Copy) (c : Copy) (sum : ℕ) → length mail.network_last ≡ length start.network_last
+  pub lasts_after : (ordered : Bool) (mail : Mail) (copies : List (Delivery Message)) (c : Delivery Message) (sum : ℕ) → length mail.network_last ≡ length start.network_last
       → c.message.arrival ≡ cond ordered (max sum (last_at (lasts_on mail.network_last network) c.receiver)) sum
       → NetworkLasts ordered network start mail copies → (after : Mail) → after.network_last ≡ cond ordered (with_last mail.network_last network c.receiver c.message.arrival) mail.network_last → after.local_last ≡ mail.local_last
       → NetworkLasts ordered network start after (copies ++ c ∷ [])
@@ -124,10 +124,10 @@ module _ (network : ℕ) (start : Mail) where
   }
 
 -- the copies to the sender come into its mail one by one
-own_push : (me : ℕ) (mail : Mail) (copies : List Copy) (c : Copy) → mail_with_own me mail (copies ++ c ∷ []) ≡ mail_with_delivery (eqb c.receiver me) (mail_with_own me mail copies) c.message
+own_push : (me : ℕ) (mail : Mail) (copies : List (Delivery Message)) (c : Delivery Message) → mail_with_own me mail (copies ++ c ∷ []) ≡ mail_with_delivery (eqb c.receiver me) (mail_with_own me mail copies) c.message
 own_push me mail copies c =
-    let come = λ (m : Mail) (x : Copy). mail_with_message m x.message in
-    ap (fold come mail) (filter-append (λ (x : Copy). eqb x.receiver me) copies (c ∷ []))
+    let come = λ (m : Mail) (x : Delivery Message). mail_with_arrival m x.message in
+    ap (fold come mail) (filter-append (λ (x : Delivery Message). eqb x.receiver me) copies (c ∷ []))
     ∙ fold-append come mail (copies_to me copies) (copies_to me (c ∷ []))
     ∙ elim (eqb c.receiver me) as (λ b. fold come (mail_with_own me mail copies) (cond b (c ∷ []) []) ≡ mail_with_delivery b (mail_with_own me mail copies) c.message) [
       | true ↦ refl
@@ -142,7 +142,7 @@ same_marks : (mine : Bool) (a b : Mail) (m : Message) → a.marks ≡ b.marks �
 same_marks true a b m same = rw same refl
 same_marks false a b m same = same
 
-module _ (me : ℕ) (start mail : Mail) (copies : List Copy) (c : Copy) where
+module _ (me : ℕ) (start mail : Mail) (copies : List (Delivery Message)) (c : Delivery Message) where
   pub inbox_after : mail.inbox ≡ (mail_with_own me start copies).inbox → (mail_with_delivery (eqb c.receiver me) mail c.message).inbox ≡ (mail_with_own me start (copies ++ c ∷ [])).inbox
   inbox_after same = same_inbox (eqb c.receiver me) mail (mail_with_own me start copies) c.message same ∙ sym (ap (λ (m : Mail). m.inbox) (own_push me start copies c))
 

@@ -3,7 +3,7 @@ use Rattle.std.proofs.Common.{◌≡◌, ℕ, ◌≤◌, ◌<◌, refl, arith, R
 use Rattle.std.proofs.lemmas.List.Elements.{All-nil, All-weaker}
 use Rattle.ruby_value.specs.declared.fault.Fault.{Fault}
 use Rattle.ruby_value.specs.declared.setup.MachineSetup.{MachineSetup}
-use Rattle.ctl_face.specs.Acts.{Note}
+use Rattle.ruby_value.specs.declared.message.Sent.{Sent}
 use Rattle.ctl_face.specs.ActsFit.{ActsFit, IsRouted}
 use Rattle.ctl_face.specs.Ctl.{Ctl, InboxMessage}
 use Rattle.ctl_face.specs.Fits.{Fits, FitsMessage, IsLawful, ScanFits, last_cycle}
@@ -25,7 +25,7 @@ scan_begins machine actor now ctl lawful routes in_run fits = record {
       numbers = refl;
       count = omega arith;
       copies_counted = omega arith;
-      arrivals = All-nil (λ (n : Note). now < n.arrival);
+      arrivals = All-nil (λ (n : Sent). now < n.arrival);
       for_others = refl;
       routed = All-nil (IsRouted machine actor.routes);
     },

@@ -20,6 +20,7 @@ pub mod Opened
 pub mod OwnBuffers
 pub mod Reading
 pub mod Receivers
+pub mod Routed
 pub mod SendAdds
 pub mod SendOrder
 pub mod Sendings

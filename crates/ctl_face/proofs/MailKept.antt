@@ -10,11 +10,12 @@ use Rattle.ctl_face.specs.Acts.{Acts}
 use Rattle.ctl_face.specs.Again.{again}
 use Rattle.ctl_face.specs.AtFront.{at_front, after_front}
 use Rattle.ctl_face.specs.Ctl.{InboxMessage, Mail}
-use Rattle.ctl_face.specs.Fits.{FitsMail, FitsMessage, NumbersAscend, ScanFits, IsLine}
+use Rattle.ctl_face.specs.Fits.{FitsMail, FitsMessage, NumbersAscend, ScanFits}
+use Rattle.ruby_value.specs.Lines.{IsLine}
 use Rattle.ctl_face.specs.Inbox.{with_message, without_message}
 use Rattle.ctl_face.specs.Latency.{is_latency}
 use Rattle.ctl_face.specs.LocalView.{LocalView}
-use Rattle.ctl_face.specs.Mailing.{mail_with_message, incoming_message, mail_with_mark}
+use Rattle.ctl_face.specs.Mailing.{mail_with_arrival, incoming_message, mail_with_mark}
 use Rattle.ctl_face.specs.Pop.{mail_without, pop}
 use Rattle.ctl_face.specs.Ready.{front_now}
 use Rattle.ctl_face.specs.Recycle.{message_arriving_again, mail_with_recycled, recycle}
@@ -49,7 +50,7 @@ module _ (buffers : List BufferSetup) (me now : ℕ) where
   }
 
   -- a message comes in, and the controller is to look at it when it arrives
-  pub arrived_fits : (mail : Mail) (m : Message) → FitsMessage buffers me mail.sent (incoming_message m) → FitsMail buffers me mail now → FitsMail buffers me (mail_with_message mail m) now
+  pub arrived_fits : (mail : Mail) (m : Message) → FitsMessage buffers me mail.sent (incoming_message m) → FitsMail buffers me mail now → FitsMail buffers me (mail_with_arrival mail m) now
   arrived_fits mail m fits_new fits =
       let inbox = with_message mail.inbox (incoming_message m) in
       mark_fits (record mail { inbox = inbox }) m.arrival

@@ -19,7 +19,7 @@ use Rattle.ruby_value.specs.declared.value.Value.{Value}
 use Rattle.ruby_value.specs.NumberBefore.{number_before, same_number}
 use Rattle.ruby_value.proofs.Contained.{Contains-cons_cases as head_or_rest}
 use Rattle.ruby_value.proofs.Ordered.{AllPairs-head, AllPairs-tail}
-use Rattle.ctl_face.specs.Acts.{Copy}
+use Rattle.ruby_value.specs.declared.message.Delivery.{Delivery}
 use Rattle.ctl_face.specs.ActsFit.{numbers_in}
 use Rattle.ctl_face.specs.Ctl.{InboxMessage, Mail}
 use Rattle.ctl_face.specs.Enqueue.{for_others}
@@ -129,11 +129,11 @@ module _ (f : MsgNo → Bool) where
       let both = parts p q inbox all in
       omega arith
 
-  abbrev pub numbers_of : List Copy → ℕ
-  numbers_of copies = count_by f (map (λ (c : Copy). c.message.number) copies)
+  abbrev pub numbers_of : List (Delivery Message) → ℕ
+  numbers_of copies = count_by f (map (λ (c : Delivery Message). c.message.number) copies)
 
-  copies-append : (xs ys : List Copy) → numbers_of (xs ++ ys) ≡ numbers_of xs + numbers_of ys
-  copies-append xs ys = ap (count_by f) (map-append (λ (c : Copy). c.message.number) xs ys) ∙ sum_by-append one (map (λ (c : Copy). c.message.number) xs) (map (λ (c : Copy). c.message.number) ys)
+  copies-append : (xs ys : List (Delivery Message)) → numbers_of (xs ++ ys) ≡ numbers_of xs + numbers_of ys
+  copies-append xs ys = ap (count_by f) (map-append (λ (c : Delivery Message). c.message.number) xs ys) ∙ sum_by-append one (map (λ (c : Delivery Message). c.message.number) xs) (map (λ (c : Delivery Message). c.message.number) ys)
 
 -- the controller's own messages have numbers that it has given
 abbrev pub OwnBelow : ℕ → Mail → Type 0
@@ -144,7 +144,7 @@ module _ (actor : Actor) (start : Mail) where
     pub moved : (f : MsgNo → Bool) → count_by f (numbers_in start.inbox) + numbers_of f s.copies ≡ numbers_of f (for_others actor.me s.copies) + count_by f (numbers_in s.mail.inbox)
     pub below : OwnBelow actor.me s.mail
 
-  one_in : (f : MsgNo → Bool) (b : Bool) (mail : Mail) (c : Copy) → c.message.number ≡ record { sender = actor.me; count = mail.sent } → OwnBelow actor.me mail
+  one_in : (f : MsgNo → Bool) (b : Bool) (mail : Mail) (c : Delivery Message) → c.message.number ≡ record { sender = actor.me; count = mail.sent } → OwnBelow actor.me mail
       → numbers_of f (cond (not b) (c ∷ []) []) + count_by f (numbers_in (mail_with_delivery b mail c.message).inbox) ≡ one f c.message.number + count_by f (numbers_in mail.inbox)
   one_in f true mail c is below =
       let all = All-weaker (λ (o : InboxMessage). o.message.number.sender ≡ actor.me → o.message.number.count < mail.sent) (λ (o : InboxMessage). number_before c.message.number o.message.number ≡ not (number_before o.message.number c.message.number))
@@ -163,14 +163,14 @@ module _ (actor : Actor) (start : Mail) where
         | false ↦ older
       ]
 
-  copy_moved : (s : Sending) (c : Copy) → c.message.number ≡ record { sender = actor.me; count = s.mail.sent } → Moved s → Moved (record { mail = mail_with_copy actor s.mail c; copies = s.copies ++ c ∷ [] })
+  copy_moved : (s : Sending) (c : Delivery Message) → c.message.number ≡ record { sender = actor.me; count = s.mail.sent } → Moved s → Moved (record { mail = mail_with_copy actor s.mail c; copies = s.copies ++ c ∷ [] })
   copy_moved s c is before = record {
     moved = λ f.
         let mine = eqb c.receiver actor.me in
         let more = copies-append f s.copies (c ∷ []) in
         let last = single f c.message.number in
         let others : numbers_of f (for_others actor.me (s.copies ++ c ∷ [])) ≡ numbers_of f (for_others actor.me s.copies) + numbers_of f (for_others actor.me (c ∷ []))
-        = ap (numbers_of f) (filter-append (λ (x : Copy). not (eqb x.receiver actor.me)) s.copies (c ∷ [])) ∙ copies-append f (for_others actor.me s.copies) (for_others actor.me (c ∷ [])) in
+        = ap (numbers_of f) (filter-append (λ (x : Delivery Message). not (eqb x.receiver actor.me)) s.copies (c ∷ [])) ∙ copies-append f (for_others actor.me s.copies) (for_others actor.me (c ∷ [])) in
         let inside = one_in f mine s.mail c is before.below in
         let old = before.moved f in
         omega arith;

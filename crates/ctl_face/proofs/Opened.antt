@@ -14,7 +14,9 @@ use Rattle.ruby_value.specs.declared.setup.TableSetup.{TableSetup}
 use Rattle.ruby_value.specs.declared.setup.TableSize.{TableSize}
 use Rattle.ruby_value.specs.declared.setup.TableSize.TheVariants as size
 use Rattle.ctl_face.specs.Ctl.{InboxMessage}
-use Rattle.ctl_face.specs.Fits.{Fits, FitsLine, FitsLines, FitsMessage, FitsSequencer, FitsTableAt, IsLine, IsOfSize, IsRequest}
+use Rattle.ctl_face.specs.Fits.{Fits, FitsLine, FitsLines, FitsMessage, FitsSequencer, FitsTableAt, IsOfSize}
+use Rattle.ruby_value.specs.Lines.{IsLine}
+use Rattle.ruby_value.specs.Requests.{IsRequest}
 use Rattle.ruby_value.specs.HasKinds.{has_kinds}
 use Rattle.ruby_value.specs.NumberBefore.{number_before}
 use Rattle.ctl_face.specs.IsMachine.{HasPlaces, IsMachine, IsTableSetup, network_count}

@@ -15,7 +15,8 @@ use Rattle.ctl_face.specs.FieldsIn.{fields_in}
 use Rattle.ruby_value.specs.Cache.{Line}
 use Rattle.ruby_value.specs.SetOf.{set_of}
 use Rattle.ctl_face.specs.Avail.{avail, least_used_in, probe}
-use Rattle.ctl_face.specs.Fits.{FitsLine, FitsMessage, FitsTableAt, ScanFits, IsLine}
+use Rattle.ctl_face.specs.Fits.{FitsLine, FitsMessage, FitsTableAt, ScanFits}
+use Rattle.ruby_value.specs.Lines.{IsLine}
 use Rattle.ctl_face.specs.Front.{IsFront}
 use Rattle.ctl_face.specs.Get.{get, fields_behind}
 use Rattle.ruby_value.specs.HasKinds.{has_kinds}

@@ -9,12 +9,14 @@ use Rattle.ruby_value.specs.declared.setup.BufferSetup.{BufferSetup}
 use Rattle.ruby_value.specs.declared.setup.MachineSetup.{MachineSetup}
 use Rattle.ruby_value.specs.declared.value.Value.{Value}
 use Rattle.ruby_value.specs.HasKinds.{has_kinds}
-use Rattle.ctl_face.specs.Acts.{Copy}
-use Rattle.ctl_face.specs.ActsFit.{IsRouted, IsSentOn}
+use Rattle.ruby_value.specs.declared.message.Delivery.{Delivery}
+use Rattle.ruby_value.specs.declared.message.Message.{Message}
+use Rattle.ctl_face.specs.ActsFit.{IsRouted}
 use Rattle.ctl_face.specs.Ctl.{Mail}
 use Rattle.ctl_face.specs.FitsReceiver.{FitsReceiver, SendsFit}
 use Rattle.ctl_face.specs.InRun.{IsController, IsInRun}
-use Rattle.ctl_face.specs.IsMachine.{AgreeOnType, network_of}
+use Rattle.ctl_face.specs.IsMachine.{AgreeOnType}
+use Rattle.ruby_value.specs.NetworkOf.{network_of}
 use Rattle.ctl_face.specs.LocalView.{Actor, LocalView}
 use Rattle.ctl_face.specs.OfMachine.{TakesFields}
 use Rattle.ctl_face.specs.declared.routes.Routes.{Routes}
@@ -23,6 +25,7 @@ use Rattle.ctl_face.specs.Routing.{receiving_buffer}
 use Rattle.ctl_face.specs.Send.{Sending, receivers_of}
 use Rattle.ctl_face.specs.SendAdds.{IsNetworkCopy, IsOwnCopy, SendAdds}
 use Rattle.ctl_face.proofs.Lines.{All-found}
+use Rattle.ctl_face.proofs.Routed.{SentOn, sent_on}
 use Rattle.ctl_face.proofs.Sendings.{other_takes}
 use Rattle.ctl_face.proofs.SendAdds.{send_adds}
 
@@ -51,7 +54,7 @@ found : {X : Type 0} (P : X → Type 0) (xs : List X) (at : ℕ) (x : X) → sli
 found P xs at x is all = subst (λ o. IfSome o P) is (All-found P xs at all)
 
 -- what holds of the copies for the one receiver
-all_for : (P Q : Copy → Type 0) (me : ℕ) → ((c : Copy) → c.receiver ≡ me → P c → Q c) → (copies : List Copy) → map (λ (c : Copy). c.receiver) copies ≡ me ∷ [] → All P copies → All Q copies
+all_for : (P Q : Delivery Message → Type 0) (me : ℕ) → ((c : Delivery Message) → c.receiver ≡ me → P c → Q c) → (copies : List (Delivery Message)) → map (λ (c : Delivery Message). c.receiver) copies ≡ me ∷ [] → All P copies → All Q copies
 all_for P Q me holds [] is all = absurd (cc is)
 all_for P Q me holds (c ∷ []) is all = All-cons Q c [] (holds c (cc is) (All-head P c [] all)) (All-nil Q)
 all_for P Q me holds (c ∷ d ∷ rest) is all = absurd (cc is)
@@ -80,7 +83,7 @@ module _ (machines : List MachineSetup) (ranges : List (ℕ × ℕ)) (m : Machin
       let agrees = found (λ (a : BufferSetup). All (AgreeOnType a) other.buffers) m.buffers buffer s there agree in
       other_takes network fields s on takes other.buffers b (slice_get other.buffers b) refl from_network (All-found (AgreeOnType s) other.buffers b agrees)
 
-  routed_fits : (network : ℕ) (c : Copy) → network_of s.place ≡ Some network → receiving_buffer actor.routes c.receiver network ≡ Some c.message.buffer → c.message.fields ≡ fields → FitsReceiver machines ranges c
+  routed_fits : (network : ℕ) (c : Delivery Message) → network_of s.place ≡ Some network → receiving_buffer actor.routes c.receiver network ≡ Some c.message.buffer → c.message.fields ≡ fields → FitsReceiver machines ranges c
   routed_fits network c on receives fields_sent =
       let within = routed_within actor.routes.receiving c.receiver network c.message.buffer receives in
       let rows = fit.receiving.all_rows in
@@ -93,7 +96,7 @@ module _ (machines : List MachineSetup) (ranges : List (ℕ × ℕ)) (m : Machin
         takes = rw (other.1, fields_sent) takes_there;
       }
 
-  own_copy_fits : (ordered : Bool) (latency now : ℕ) (mail : Mail) (c : Copy) → c.receiver ≡ actor.me → IsOwnCopy ordered mail buffer latency fields now c → FitsReceiver machines ranges c
+  own_copy_fits : (ordered : Bool) (latency now : ℕ) (mail : Mail) (c : Delivery Message) → c.receiver ≡ actor.me → IsOwnCopy ordered mail buffer latency fields now c → FitsReceiver machines ranges c
   own_copy_fits ordered latency now mail c mine copy = record {
     machine = here.machine;
     of_machine = rw mine here.of_machine;
@@ -106,7 +109,7 @@ module _ (machines : List MachineSetup) (ranges : List (ℕ × ℕ)) (m : Machin
   each_fits (place.To network destination) latency now mail sending at_place adds =
       All-weaker (IsNetworkCopy actor mail network latency (receivers_of destination fields) fields now) (FitsReceiver machines ranges) (λ c copy. routed_fits network c (ap network_of at_place) copy.buffer copy.fields_sent) sending.copies adds.0.each
   each_fits (place.From network) latency now mail sending at_place adds =
-      All-weaker (λ (c : Copy). ⊥) (FitsReceiver machines ranges) (λ c no. absurd no) sending.copies adds.0.each
+      All-weaker (λ (c : Delivery Message). ⊥) (FitsReceiver machines ranges) (λ c no. absurd no) sending.copies adds.0.each
 
 pub sends_fit : (machines : List MachineSetup) (ranges : List (ℕ × ℕ)) (m : MachineSetup) (actor : Actor) → IsController machines ranges m actor → SendsFit machines ranges m actor
 sends_fit machines ranges m actor here mail buffer latency fields now sending takes sent = from (slice_get m.buffers buffer) refl takes
@@ -119,9 +122,7 @@ sends_fit machines ranges m actor here mail buffer latency fields now sending ta
 
 pub posted_fit : (machines : List MachineSetup) (ranges : List (ℕ × ℕ)) (v : LocalView) → IsInRun machines ranges v → All (FitsReceiver machines ranges) v.acts.posted
 posted_fit machines ranges v in_run =
-    All-weaker (IsRouted v.machine v.actor.routes) (FitsReceiver machines ranges) (λ c routed. one c routed (slice_get v.machine.buffers routed.on) refl routed.sends) v.acts.posted in_run.lawful.acts.0.routed
+    All-weaker (IsRouted v.machine v.actor.routes) (FitsReceiver machines ranges) (λ c routed. one c (sent_on v.machine v.actor.routes c routed)) v.acts.posted in_run.lawful.acts.0.routed
   where
-    one : (c : Copy) (routed : IsRouted v.machine v.actor.routes c) (o : Option BufferSetup) → slice_get v.machine.buffers routed.on ≡ o
-        → IsSomeAnd o (IsSentOn routed.network routed.destination c.message.fields) → FitsReceiver machines ranges c
-    one c routed None there none = absurd none
-    one c routed (Some s) there sends = routed_fits machines ranges v.machine v.actor in_run.controller routed.on c.message.fields s there sends.1 routed.network c (ap network_of sends.0) routed.receives refl
+    one : (c : Delivery Message) → SentOn v.machine v.actor.routes c → FitsReceiver machines ranges c
+    one c on = routed_fits machines ranges v.machine v.actor in_run.controller on.buffer c.message.fields on.on on.there on.takes on.network c on.to on.receives refl

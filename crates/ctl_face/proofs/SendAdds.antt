@@ -13,7 +13,7 @@ use Rattle.ruby_value.specs.declared.setup.BufferPlace.TheVariants as place
 use Rattle.ruby_value.specs.declared.setup.BufferSetup.{BufferSetup}
 use Rattle.ruby_value.specs.declared.setup.MachineSetup.{MachineSetup}
 use Rattle.ruby_value.specs.declared.value.Value.{Value}
-use Rattle.ctl_face.specs.Acts.{Copy}
+use Rattle.ruby_value.specs.declared.message.Delivery.{Delivery}
 use Rattle.ctl_face.specs.Ctl.{Mail}
 use Rattle.ctl_face.specs.Lasts.{Lasts, last_at, lasts_on, with_last}
 use Rattle.ctl_face.specs.Latency.{is_latency}
@@ -21,7 +21,8 @@ use Rattle.ctl_face.specs.LocalView.{Actor}
 use Rattle.ctl_face.specs.Mailing.{mail_with_delivery}
 use Rattle.ctl_face.specs.Routing.{is_ordered, path_to, receiving_buffer}
 use Rattle.ctl_face.specs.Send.{Sending, copy_limit, has_jitter, local_arrival, local_copy, network_arrival, next_copy, no_copies, receivers_of, send, sending_from, sending_on, with_network_copy}
-use Rattle.ctl_face.specs.SendAdds.{AddsCopies, AllDiffer, IsNetworkCopy, IsOwnCopy, NetworkLasts, OwnLasts, SendAdds, arrival_after, mail_with_own, numbers_from}
+use Rattle.ctl_face.specs.SendAdds.{AddsCopies, AllDiffer, IsNetworkCopy, IsOwnCopy, NetworkLasts, OwnLasts, SendAdds, arrival_after, mail_with_own}
+use Rattle.ruby_value.specs.NumbersFrom.{numbers_from}
 use Rattle.ctl_face.proofs.LastArrivals.{inbox_after, inserted_elsewhere, inserted_here, lasts_after, marks_after, no_lasts, no_less, not_moved}
 use Rattle.ctl_face.proofs.Cases.{Good, good_ok, good_err, good_cond}
 use Rattle.pcg_words.specs.Below.{below}
@@ -71,13 +72,13 @@ not_among done rest receiver differ there =
     differ there.0 (length done) receiver within (omega arith) (before ∙ sym here)
 
 module _ (actor : Actor) (start : Mail) (network latency : ℕ) (receivers : List ℕ) (fields : List Value) (now : ℕ) where
-  abbrev IsCopy : Copy → Type 0
+  abbrev IsCopy : Delivery Message → Type 0
   IsCopy = IsNetworkCopy actor start network latency receivers fields now
 
   -- after copies for some receivers
   record Done (done : List ℕ) (s : Sending) : Type 0 where
-    to : map (λ (c : Copy). c.receiver) s.copies ≡ done
-    numbers : map (λ (c : Copy). c.message.number) s.copies ≡ numbers_from actor.me start.sent (length done)
+    to : map (λ (c : Delivery Message). c.receiver) s.copies ≡ done
+    numbers : map (λ (c : Delivery Message). c.message.number) s.copies ≡ numbers_from actor.me start.sent (length done)
     each : All IsCopy s.copies
     sent : s.mail.sent ≡ start.sent + length done
     copies_counted : s.mail.copies ≡ start.copies + length done

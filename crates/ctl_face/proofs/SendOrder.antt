@@ -5,7 +5,8 @@ use Rattle.std.proofs.lemmas.List.Elements.{All-contains}
 use Rattle.ruby_value.specs.declared.setup.BufferPlace.{BufferPlace}
 use Rattle.ruby_value.specs.declared.setup.MachineSetup.{MachineSetup}
 use Rattle.ruby_value.proofs.Contained.{Contains-cons_cases}
-use Rattle.ctl_face.specs.Acts.{Copy}
+use Rattle.ruby_value.specs.declared.message.Delivery.{Delivery}
+use Rattle.ruby_value.specs.declared.message.Message.{Message}
 use Rattle.ctl_face.specs.Ctl.{Mail}
 use Rattle.ctl_face.specs.Lasts.{last_at, lasts_on}
 use Rattle.ctl_face.specs.LocalView.{Actor}
@@ -15,20 +16,20 @@ use Rattle.ctl_face.specs.SendAdds.{IsNetworkCopy, SendAdds, arrival_after, copi
 use Rattle.ctl_face.specs.SendOrder.{IsSentTo, SendsKeepOrder}
 use Rattle.ctl_face.proofs.SendAdds.{send_adds}
 
-latest_from : (cycle : ℕ) (copies : List Copy) → cycle ≤ latest cycle copies
+latest_from : (cycle : ℕ) (copies : List (Delivery Message)) → cycle ≤ latest cycle copies
 latest_from cycle [] = omega arith
 latest_from cycle (c ∷ copies) = let rest = latest_from (max cycle c.message.arrival) copies in omega arith
 
-latest_above : (cycle receiver : ℕ) (copies : List Copy) (a : Copy) → Contains copies a → a.receiver ≡ receiver → a.message.arrival ≤ latest cycle (copies_to receiver copies)
+latest_above : (cycle receiver : ℕ) (copies : List (Delivery Message)) (a : Delivery Message) → Contains copies a → a.receiver ≡ receiver → a.message.arrival ≤ latest cycle (copies_to receiver copies)
 latest_above cycle receiver [] a there to = absurd (omega (arith, there.1))
 latest_above cycle receiver (c ∷ copies) a there to =
     let Q : Bool → Type 0 = λ b. a.message.arrival ≤ latest cycle (cond b (c ∷ copies_to receiver copies) (copies_to receiver copies)) in
     let above = latest_from (max cycle c.message.arrival) (copies_to receiver copies) in
     ⊎_elim
     (λ same.
-    let is : c.message.arrival ≡ a.message.arrival = ap (λ (x : Copy). x.message.arrival) same in
+    let is : c.message.arrival ≡ a.message.arrival = ap (λ (x : Delivery Message). x.message.arrival) same in
     let first : Q true = omega arith in
-    subst Q (sym (eq-eqb c.receiver receiver (ap (λ (x : Copy). x.receiver) same ∙ to))) first)
+    subst Q (sym (eq-eqb c.receiver receiver (ap (λ (x : Delivery Message). x.receiver) same ∙ to))) first)
     (λ rest. elim (eqb c.receiver receiver) as Q [
       | true ↦ latest_above (max cycle c.message.arrival) receiver copies a rest to
       | false ↦ latest_above cycle receiver copies a rest to

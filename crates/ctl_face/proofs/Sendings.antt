@@ -19,7 +19,8 @@ use Rattle.ruby_value.specs.HasKinds.{has_kinds}
 use Rattle.ctl_face.specs.Ctl.{InboxMessage, Mail}
 use Rattle.ctl_face.specs.Enqueue.{enqueue, after_sending}
 use Rattle.ctl_face.specs.Fits.{FitsMail, FitsMessage, ScanFits}
-use Rattle.ctl_face.specs.IsMachine.{AgreeOnType, IsMachine, network_count, network_of}
+use Rattle.ctl_face.specs.IsMachine.{AgreeOnType, IsMachine, network_count}
+use Rattle.ruby_value.specs.NetworkOf.{network_of}
 use Rattle.ctl_face.specs.Lasts.{Lasts, with_last}
 use Rattle.ctl_face.specs.Latency.{is_latency}
 use Rattle.ctl_face.specs.LocalView.{Actor, LocalView}

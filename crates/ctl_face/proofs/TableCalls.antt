@@ -31,7 +31,8 @@ use Rattle.ruby_value.specs.declared.setup.TableSize.TheVariants as size
 use Rattle.ctl_face.specs.Allocate.{allocate, with_line}
 use Rattle.ctl_face.specs.Deallocate.{deallocate, without_line_in}
 use Rattle.ctl_face.specs.FieldsIn.{fields_in, with_fields_in}
-use Rattle.ctl_face.specs.Fits.{FitsLine, FitsLines, FitsTable, ScanFits, IsLine, IsOfSize}
+use Rattle.ctl_face.specs.Fits.{FitsLine, FitsLines, FitsTable, ScanFits, IsOfSize}
+use Rattle.ruby_value.specs.Lines.{IsLine}
 use Rattle.ruby_value.specs.HasKinds.{has_kinds}
 use Rattle.ruby_value.specs.HasKind.{has_kind}
 use Rattle.ctl_face.specs.LocalView.{LocalView}

@@ -5,45 +5,56 @@
 -- messages there, and has fields like those of the messages of one of the machine's buffers to this network. Of the messages in
 -- the inbox, those that the controller sent itself among them, numbers alone are told, and nothing is said of marks, of drawn
 -- words or of last arrivals: what an act does to these is said by its own definition.
-use Rattle.std.specs.Prelude.{◌≡◌, ◌<◌, ◌+◌, ◌==◌, ℕ, Bool, false, List, Option, Some, not, map, filter, length, count_by, slice_get, IsTrue, IsSomeAnd, Contains}
-use Rattle.std.specs.List.{All}
+use Rattle.std.specs.Prelude.{◌≡◌, ◌<◌, ◌+◌, ◌==◌, ◌&&◌, ℕ, Bool, false, Option, None, Some, List, not, map, filter, length, count_by, IsTrue}
+use Rattle.std.specs.List.{All, list_any}
 use Rattle.ruby_value.specs.declared.message.MsgNo.{MsgNo}
+use Rattle.ruby_value.specs.declared.setup.BufferPlace.{BufferPlace}
 use Rattle.ruby_value.specs.declared.setup.BufferPlace.TheVariants as place
 use Rattle.ruby_value.specs.declared.setup.BufferSetup.{BufferSetup}
 use Rattle.ruby_value.specs.declared.setup.MachineSetup.{MachineSetup}
-use Rattle.ruby_value.specs.declared.value.Value.{Value}
 use Rattle.ruby_value.specs.HasKinds.{has_kinds}
-use Rattle.ctl_face.specs.Acts.{Copy, Note, note_of}
+use Rattle.ruby_value.specs.declared.message.Delivery.{Delivery}
+use Rattle.ruby_value.specs.declared.message.Message.{Message}
+use Rattle.ruby_value.specs.declared.message.Sent.{Sent}
+use Rattle.ctl_face.specs.Acts.{sent_of}
 use Rattle.ctl_face.specs.Ctl.{InboxMessage}
 use Rattle.ctl_face.specs.declared.routes.Routes.{Routes}
 use Rattle.ctl_face.specs.LocalView.{Actor, LocalView}
 use Rattle.ctl_face.specs.Routing.{receiving_buffer}
 use Rattle.ctl_face.specs.Send.{receivers_of}
-use Rattle.ctl_face.specs.SendAdds.{numbers_from}
+use Rattle.ruby_value.specs.NumbersFrom.{numbers_from}
 
--- messages with these fields are sent on the buffer, which is to the network, and this field names their receivers
-abbrev pub IsSentOn : (network : ℕ) (destination : Option ℕ) (fields : List Value) → BufferSetup → Type 0
-IsSentOn network destination fields s = (s.place ≡ place.To network destination) × IsTrue (has_kinds s.kinds fields)
+-- whether it is this buffer
+abbrev pub is_buffer : ℕ → Option ℕ → Bool
+is_buffer buffer None = false
+is_buffer buffer (Some b) = b == buffer
 
--- the machine sends messages like the copy on a buffer to the network; the receiver is one that the message names, and the copy
--- is in the receiver's buffer from there, where it hasn't been recycled yet
-pub record IsRouted (machine : MachineSetup) (routes : Routes) (c : Copy) : Type 0 where
-  pub network : ℕ
-  pub destination : Option ℕ
-  pub on : ℕ
-  pub sends : IsSomeAnd (slice_get machine.buffers on) (IsSentOn network destination c.message.fields)
-  pub named : Contains (receivers_of destination c.message.fields) c.receiver
-  pub receives : receiving_buffer routes c.receiver network ≡ Some c.message.buffer
+-- From a buffer of this sort the copy comes to its receiver: the buffer is to a network, the message names the receiver in the field that
+-- the buffer has for it, and the copy is in the buffer that takes the network's messages there.
+abbrev pub reaches : Routes → Delivery Message → BufferPlace → Bool
+reaches routes c place.Local = false
+reaches routes c (place.To network destination) =
+    list_any (λ r. r == c.receiver) (receivers_of destination c.message.fields)
+    && is_buffer c.message.buffer (receiving_buffer routes c.receiver network)
+reaches routes c (place.From network) = false
+
+-- messages like the copy are sent on the buffer, and the copy comes to its receiver from there
+abbrev pub is_sent_on : Routes → Delivery Message → BufferSetup → Bool
+is_sent_on routes c s = has_kinds s.kinds c.message.fields && reaches routes c s.place
+
+-- the copy is one that the machine sends, and hasn't been recycled yet
+pub record IsRouted (machine : MachineSetup) (routes : Routes) (c : Delivery Message) : Type 0 where
+  pub sent : IsTrue (list_any (is_sent_on routes c) machine.buffers)
   pub not_recycled : c.message.recycled ≡ false
 
 -- of a controller that had sent `before` messages as the scan began, `earlier` of them copies of this cycle, and now has sent
 -- `after` and `copies`
-pub record SentFits (machine : MachineSetup) (actor : Actor) (now before after earlier copies : ℕ) (notes : List Note) (posted : List Copy) : Type 0 where
-  pub numbers : map (λ (n : Note). n.number) notes ≡ numbers_from actor.me before (length notes)
+pub record SentFits (machine : MachineSetup) (actor : Actor) (now before after earlier copies : ℕ) (notes : List Sent) (posted : List (Delivery Message)) : Type 0 where
+  pub numbers : map (λ (n : Sent). n.number) notes ≡ numbers_from actor.me before (length notes)
   pub count : after ≡ before + length notes
   pub copies_counted : copies ≡ earlier + length notes
-  pub arrivals : All (λ (n : Note). now < n.arrival) notes
-  pub for_others : map note_of posted ≡ filter (λ (n : Note). not (n.receiver == actor.me)) notes
+  pub arrivals : All (λ (n : Sent). now < n.arrival) notes
+  pub for_others : map sent_of posted ≡ filter (λ (n : Sent). not (n.receiver == actor.me)) notes
   pub routed : All (IsRouted machine actor.routes) posted
 
 abbrev pub numbers_in : List InboxMessage → List MsgNo
@@ -51,11 +62,11 @@ numbers_in inbox = map (λ (m : InboxMessage). m.message.number) inbox
 
 -- No message is lost or made but by sending and consuming: what was in the inbox as the scan began, and what it has sent, is
 -- consumed, posted, or in the inbox, as often, counted by any test of numbers.
-abbrev pub MailMoves : (before after : List InboxMessage) (taken : List MsgNo) (notes : List Note) (posted : List Copy) → Type 0
+abbrev pub MailMoves : (before after : List InboxMessage) (taken : List MsgNo) (notes : List Sent) (posted : List (Delivery Message)) → Type 0
 MailMoves before after taken notes posted =
     (f : MsgNo → Bool)
-    → count_by f (numbers_in before) + count_by f (map (λ (n : Note). n.number) notes)
-    ≡ count_by f taken + count_by f (map (λ (c : Copy). c.message.number) posted) + count_by f (numbers_in after)
+    → count_by f (numbers_in before) + count_by f (map (λ (n : Sent). n.number) notes)
+    ≡ count_by f taken + count_by f (map (λ (c : Delivery Message). c.message.number) posted) + count_by f (numbers_in after)
 
 abbrev pub ActsFit : LocalView → Type 0
 ActsFit v =

@@ -5,9 +5,8 @@
 use Rattle.std.specs.Prelude.{ℕ, Bool, List, Option}
 use Rattle.std.specs.Ordering.{nat_cmp}
 use Rattle.std.specs.FinMap as map
-use Rattle.ruby_value.specs.declared.asked.Answer.{Answer}
-use Rattle.ruby_value.specs.declared.asked.Asked.{Asked}
 use Rattle.ruby_value.specs.declared.message.Message.{Message}
+use Rattle.ruby_value.specs.Requests.{Requests}
 use Rattle.ctl_face.specs.Lasts.{Lasts}
 use Rattle.ctl_face.specs.Table.{Table}
 
@@ -15,12 +14,6 @@ use Rattle.ctl_face.specs.Table.{Table}
 pub record InboxMessage : Type 0 where
   pub message : Message
   pub waiting : Option ℕ
-
--- the outstanding requests of a sequencer by line, at most one for a line, and the finished answers that nobody has
--- taken yet, the least line first and those of one line in the order in which they were finished
-pub record Requests : Type 0 where
-  pub outstanding : map.FinMap nat_cmp Asked
-  pub finished : List Answer
 
 -- The inbox has ascending message numbers and the marks ascend, so that each is one list alone. `sent` counts the messages
 -- that the controller has sent, `drawn` the words that it has drawn, and `copies` the copies that it has sent in this cycle.

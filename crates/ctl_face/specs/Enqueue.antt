@@ -3,18 +3,20 @@
 use Rattle.std.specs.Prelude.{ℕ, ℤ, List, ◌++◌, ◌==◌, not, map, filter, Result, Ok, Err}
 use Rattle.ruby_value.specs.declared.fault.Fault.{Fault}
 use Rattle.ruby_value.specs.declared.value.Value.{Value}
-use Rattle.ctl_face.specs.Acts.{Copy, note_of}
+use Rattle.ruby_value.specs.declared.message.Delivery.{Delivery}
+use Rattle.ruby_value.specs.declared.message.Message.{Message}
+use Rattle.ctl_face.specs.Acts.{sent_of}
 use Rattle.ctl_face.specs.LocalView.{LocalView}
 use Rattle.ctl_face.specs.Send.{Sending, send}
 
 -- the copies that aren't for the controller itself
-abbrev pub for_others : ℕ → List Copy → List Copy
-for_others me copies = filter (λ (c : Copy). not (c.receiver == me)) copies
+abbrev pub for_others : ℕ → List (Delivery Message) → List (Delivery Message)
+for_others me copies = filter (λ (c : Delivery Message). not (c.receiver == me)) copies
 
 abbrev pub after_sending : LocalView → Result Sending Fault → Result LocalView Fault
 after_sending v (Ok s) = Ok (record v {
   ctl = record v.ctl { mail = s.mail };
-  acts = record v.acts { sent = v.acts.sent ++ map note_of s.copies; posted = v.acts.posted ++ for_others v.actor.me s.copies };
+  acts = record v.acts { sent = v.acts.sent ++ map sent_of s.copies; posted = v.acts.posted ++ for_others v.actor.me s.copies };
 })
 after_sending v (Err fault) = Err fault
 

@@ -1,5 +1,5 @@
 -- What holds of a controller of a machine at each moment of a run, of its tables, its mail and its sequencer: they are those of
--- the machine, with fields of the declared kinds; each line in them is below 2 ^ 58; its own messages have numbers that it has
+-- the machine, with fields of the declared kinds; each line in them is one; its own messages have numbers that it has
 -- given; and its counts are at most what it may send in the cycles up to now. Each step of a controller keeps this.
 -- A local is lawful where this holds of its controller as the scan began and now, its machine and routes are as they may be, and
 -- its acts are as `ActsFit` says.
@@ -9,14 +9,14 @@ use Rattle.std.specs.FinMap as map
 use Rattle.std.specs.Ordering.{nat_cmp}
 use Rattle.std.specs.List.{All, AllPairs}
 use Rattle.std.specs.List.Sorted.{IsStrictlyIncreasing}
-use Rattle.ruby_value.specs.declared.asked.Answer.{Answer}
-use Rattle.ruby_value.specs.declared.asked.Asked.{Asked}
 use Rattle.ruby_value.specs.declared.value.Value.{Value}
 use Rattle.ruby_value.specs.declared.kind.Kind.{Kind}
 use Rattle.ruby_value.specs.Cache.{Line}
 use Rattle.ruby_value.specs.IsCache.{IsCache}
 use Rattle.ctl_face.specs.ActsFit.{ActsFit}
-use Rattle.ctl_face.specs.Ctl.{Ctl, InboxMessage, Mail, Requests}
+use Rattle.ctl_face.specs.Ctl.{Ctl, InboxMessage, Mail}
+use Rattle.ruby_value.specs.Lines.{IsLine}
+use Rattle.ruby_value.specs.Requests.{FitsRequests, Requests}
 use Rattle.ruby_value.specs.HasKinds.{has_kinds}
 use Rattle.ruby_value.specs.NumberBefore.{number_before}
 use Rattle.ctl_face.specs.IsMachine.{IsMachine, network_count}
@@ -30,13 +30,6 @@ use Rattle.ruby_value.specs.declared.setup.TableSetup.{TableSetup}
 use Rattle.ruby_value.specs.declared.setup.TableSize.TheVariants as size
 use Rattle.ruby_value.specs.declared.setup.TableSize.{TableSize}
 use Rattle.ctl_face.specs.Table.{Table, CacheTable, DirectoryTable, TbeTable, ParameterTable}
-
--- how many line numbers there are: those of the byte addresses below 2 ^ 64, divided by 64
-abbrev pub line_limit : ℕ
-line_limit = 2 ^ 58
-
-abbrev pub IsLine : ℕ → Type 0
-IsLine line = line < line_limit
 
 -- the table is what the machine has there, with as many places, and the lines of a directory begin with these fields
 abbrev pub IsOfSize : TableSize → List Value → Table → Type 0
@@ -77,17 +70,7 @@ pub record FitsMessage (buffers : List BufferSetup) (me sent : ℕ) (m : InboxMe
 abbrev pub NumbersAscend : List InboxMessage → Type 0
 NumbersAscend inbox = AllPairs (λ (a b : InboxMessage). IsTrue (number_before a.message.number b.message.number)) inbox
 
--- bytes of one line are asked for, at least one
-pub record IsRequest (a : Asked) : Type 0 where
-  pub line : IsLine a.line
-  pub some_bytes : 1 ≤ a.size
-  pub within : a.offset + a.size ≤ 64
-
-pub record FitsRequests (r : Requests) : Type 0 where
-  pub outstanding : (line : ℕ) → IfSome (map.get r.outstanding line) (λ (a : Asked). (a.line ≡ line) × IsRequest a)
-  pub finished : All (λ (a : Answer). IsRequest a.asked) r.finished
-  pub finished_ascend : AllPairs (λ (a b : Answer). a.asked.line ≤ b.asked.line) r.finished
-
+-- a machine that has a sequencer has its requests
 abbrev pub FitsSequencer : Bool → Option Requests → Type 0
 FitsSequencer false None = Unit {0}
 FitsSequencer true (Some r) = FitsRequests r

@@ -4,7 +4,8 @@ use Rattle.std.specs.Prelude.{◌≡◌, ℕ, ℤ, List, Ok, IsSomeAnd, slice_ge
 use Rattle.std.specs.List.{All}
 use Rattle.ruby_value.specs.declared.setup.MachineSetup.{MachineSetup}
 use Rattle.ruby_value.specs.declared.value.Value.{Value}
-use Rattle.ctl_face.specs.Acts.{Copy}
+use Rattle.ruby_value.specs.declared.message.Delivery.{Delivery}
+use Rattle.ruby_value.specs.declared.message.Message.{Message}
 use Rattle.ctl_face.specs.Ctl.{Mail}
 use Rattle.ctl_face.specs.LocalView.{Actor}
 use Rattle.ctl_face.specs.OfMachine.{TakesFields}
@@ -12,7 +13,7 @@ use Rattle.ctl_face.specs.RoutesFit.{IsOfMachine}
 use Rattle.ctl_face.specs.Send.{Sending, send}
 
 -- by the first controller of each machine and how many it has
-pub record FitsReceiver (machines : List MachineSetup) (ranges : List (ℕ × ℕ)) (c : Copy) : Type 0 where
+pub record FitsReceiver (machines : List MachineSetup) (ranges : List (ℕ × ℕ)) (c : Delivery Message) : Type 0 where
   pub machine : ℕ
   pub of_machine : IsOfMachine ranges machine c.receiver
   pub takes : IsSomeAnd (slice_get machines machine) (λ (m : MachineSetup). TakesFields m.buffers c.message.buffer c.message.fields)

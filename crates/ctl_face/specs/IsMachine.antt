@@ -19,6 +19,7 @@ use Rattle.ruby_value.specs.declared.setup.TableSize.TheVariants as size
 use Rattle.ruby_value.specs.declared.setup.TableSize.{TableSize}
 use Rattle.ruby_value.specs.HasKinds.{has_kinds}
 use Rattle.ruby_value.specs.IsReference.{is_reference}
+use Rattle.ruby_value.specs.NetworkOf.{network_of}
 use Rattle.ruby_value.specs.SameKinds.{same_kinds}
 
 -- how many lines a table may have place for
@@ -49,12 +50,6 @@ pub record ParametersAreLast (tables : List TableSetup) : Type 0 where
 
 abbrev pub network_count : ℕ
 network_count = 16
-
--- the virtual network that a buffer is on
-abbrev pub network_of : BufferPlace → Option ℕ
-network_of place.Local = None
-network_of (place.To network destination) = Some network
-network_of (place.From network) = Some network
 
 -- the field that names the receivers of a buffer's messages
 abbrev pub receivers_field : BufferPlace → Option ℕ

@@ -1,5 +1,5 @@
--- What comes into a controller's mail: a mark, which is a cycle at which it must wake, and a message, which goes into the inbox
--- with a mark for its arrival. That each arrival sets a mark is this project's own rule.
+-- What comes into a controller's mail: a message, which goes into the inbox, and a mark, which is a cycle at which it must wake. A
+-- message that arrives is both, with a mark for its arrival. That each arrival sets a mark is this project's own rule.
 use Rattle.std.specs.Prelude.{ℕ, Bool, true, false, None}
 use Rattle.ruby_value.specs.declared.message.Message.{Message}
 use Rattle.ruby_value.specs.Ascending.{with_mark}
@@ -14,9 +14,12 @@ abbrev pub incoming_message : Message → InboxMessage
 incoming_message m = record { message = m; waiting = None }
 
 abbrev pub mail_with_message : Mail → Message → Mail
-mail_with_message mail m = mail_with_mark (record mail { inbox = with_message mail.inbox (incoming_message m) }) m.arrival
+mail_with_message mail m = record mail { inbox = with_message mail.inbox (incoming_message m) }
+
+abbrev pub mail_with_arrival : Mail → Message → Mail
+mail_with_arrival mail m = mail_with_mark (mail_with_message mail m) m.arrival
 
 -- a copy comes to its sender only where that is the receiver
 abbrev pub mail_with_delivery : Bool → Mail → Message → Mail
 mail_with_delivery false mail m = mail
-mail_with_delivery true mail m = mail_with_message mail m
+mail_with_delivery true mail m = mail_with_arrival mail m

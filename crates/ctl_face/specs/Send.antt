@@ -14,7 +14,8 @@ use Rattle.ruby_value.specs.declared.setup.BufferSetup.{BufferSetup}
 use Rattle.ruby_value.specs.declared.setup.MachineSetup.{MachineSetup}
 use Rattle.ruby_value.specs.declared.value.Value.{Value}
 use Rattle.ruby_value.specs.declared.value.Value.TheVariants.{Dest}
-use Rattle.ctl_face.specs.Acts.{Copy}
+use Rattle.ruby_value.specs.declared.message.Delivery.{Delivery}
+use Rattle.ruby_value.specs.declared.message.Message.{Message}
 use Rattle.ctl_face.specs.Ctl.{Mail}
 use Rattle.ctl_face.specs.Lasts.{last_at, lasts_on, with_last}
 use Rattle.ctl_face.specs.Latency.{is_latency}
@@ -26,7 +27,7 @@ use Rattle.pcg_words.specs.Below.{below}
 -- the sender's mail after some copies, and these copies in the order of their numbers
 pub record Sending : Type 0 where
   pub mail : Mail
-  pub copies : List Copy
+  pub copies : List (Delivery Message)
 
 -- the most copies that a controller may send in one cycle
 abbrev pub copy_limit : ℕ
@@ -43,7 +44,7 @@ receivers_of None fields = []
 receivers_of (Some destination) fields = members_of (slice_get fields destination)
 
 -- the next copy of a controller
-abbrev pub next_copy : Actor → Mail → ℕ → ℕ → ℕ → List Value → Copy
+abbrev pub next_copy : Actor → Mail → ℕ → ℕ → ℕ → List Value → Delivery Message
 next_copy actor mail receiver buffer arrival fields = record {
   receiver = receiver;
   message = record {
@@ -56,7 +57,7 @@ next_copy actor mail receiver buffer arrival fields = record {
 }
 
 -- the sender's mail after one copy more, which it may have sent to itself
-abbrev pub mail_with_copy : Actor → Mail → Copy → Mail
+abbrev pub mail_with_copy : Actor → Mail → Delivery Message → Mail
 mail_with_copy actor mail copy =
     record (mail_with_delivery (copy.receiver == actor.me) mail copy.message) { sent = mail.sent + 1; copies = mail.copies + 1 }
 

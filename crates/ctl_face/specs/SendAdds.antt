@@ -5,44 +5,40 @@
 -- in an own buffer, which has neither path nor jitter. Where order is kept the last arrivals are written down for later sends, and
 -- copies to the sender come into its own inbox, with their marks. `Send.antt` says how each comes about.
 -- That the path to oneself is 0 is no matter here: the routes have it so.
-use Rattle.std.specs.Prelude.{◌≡◌, ◌≤◌, ◌<◌, ◌+◌, ◌-◌, ◌==◌, ℕ, zero, suc, Bool, true, false, List, [], ◌∷◌, Some, max, map, filter, length, if◌then◌else◌}
+use Rattle.std.specs.Prelude.{◌≡◌, ◌≤◌, ◌<◌, ◌+◌, ◌-◌, ◌==◌, ℕ, Bool, true, false, List, [], ◌∷◌, Some, max, map, filter, length, if◌then◌else◌}
 use Rattle.std.specs.List.{All, AllPairs, fold}
-use Rattle.ruby_value.specs.declared.message.MsgNo.{MsgNo}
 use Rattle.ruby_value.specs.declared.setup.BufferPlace.TheVariants as place
 use Rattle.ruby_value.specs.declared.setup.BufferPlace.{BufferPlace}
 use Rattle.ruby_value.specs.declared.value.Value.{Value}
-use Rattle.ctl_face.specs.Acts.{Copy}
+use Rattle.ruby_value.specs.declared.message.Delivery.{Delivery}
+use Rattle.ruby_value.specs.declared.message.Message.{Message}
+use Rattle.ruby_value.specs.NumbersFrom.{numbers_from}
 use Rattle.ctl_face.specs.Ctl.{Mail}
 use Rattle.ctl_face.specs.Lasts.{last_at, lasts_on}
 use Rattle.ctl_face.specs.LocalView.{Actor}
-use Rattle.ctl_face.specs.Mailing.{mail_with_message}
+use Rattle.ctl_face.specs.Mailing.{mail_with_arrival}
 use Rattle.ctl_face.specs.Routing.{is_ordered, path_to, receiving_buffer}
 use Rattle.ctl_face.specs.Send.{Sending, has_jitter, receivers_of}
 use Rattle.pcg_words.specs.Below.{below}
-
--- n numbers of a sender, from this count on
-abbrev pub numbers_from : ℕ → ℕ → ℕ → List MsgNo
-numbers_from sender count zero = []
-numbers_from sender count (suc n) = record { sender = sender; count = count } ∷ numbers_from sender (count + 1) n
 
 -- when a copy arrives that is due at this cycle: where order is kept, not before the last one
 abbrev pub arrival_after : (ordered : Bool) (due last : ℕ) → ℕ
 arrival_after ordered due last = if ordered then max due last else due
 
 -- the latest of a cycle and of the arrivals of copies
-abbrev pub latest : ℕ → List Copy → ℕ
-latest cycle copies = fold (λ (c : ℕ) (copy : Copy). max c copy.message.arrival) cycle copies
+abbrev pub latest : ℕ → List (Delivery Message) → ℕ
+latest cycle copies = fold (λ (c : ℕ) (copy : Delivery Message). max c copy.message.arrival) cycle copies
 
-abbrev pub copies_to : ℕ → List Copy → List Copy
-copies_to receiver copies = filter (λ (c : Copy). c.receiver == receiver) copies
+abbrev pub copies_to : ℕ → List (Delivery Message) → List (Delivery Message)
+copies_to receiver copies = filter (λ (c : Delivery Message). c.receiver == receiver) copies
 
 -- the jitter of one of the copies that a send makes from this mail: of the word that was drawn for it
-abbrev pub jitter_of : Actor → Mail → Copy → ℕ
+abbrev pub jitter_of : Actor → Mail → Delivery Message → ℕ
 jitter_of actor mail c =
     if has_jitter actor then below actor.seed actor.me (mail.drawn + (c.message.number.count - mail.sent)) (actor.routes.jitter + 1) else 0
 
 -- when one of the copies that a send on a network makes from this mail arrives, if it is the only one to its receiver
-abbrev pub arrival_of : Actor → Mail → (network latency now : ℕ) → Copy → ℕ
+abbrev pub arrival_of : Actor → Mail → (network latency now : ℕ) → Delivery Message → ℕ
 arrival_of actor mail network latency now c =
     arrival_after (is_ordered actor.routes network)
     (now + latency + path_to actor.routes actor.me c.receiver + jitter_of actor mail c)
@@ -52,7 +48,7 @@ arrival_of actor mail network latency now c =
 abbrev pub AllDiffer : List ℕ → Type 0
 AllDiffer receivers = AllPairs (λ (a b : ℕ). ¬ (a ≡ b)) receivers
 
-pub record IsNetworkCopy (actor : Actor) (mail : Mail) (network latency : ℕ) (receivers : List ℕ) (fields : List Value) (now : ℕ) (c : Copy) : Type 0 where
+pub record IsNetworkCopy (actor : Actor) (mail : Mail) (network latency : ℕ) (receivers : List ℕ) (fields : List Value) (now : ℕ) (c : Delivery Message) : Type 0 where
   pub buffer : receiving_buffer actor.routes c.receiver network ≡ Some c.message.buffer
   pub fields_sent : c.message.fields ≡ fields
   pub not_recycled : c.message.recycled ≡ false
@@ -61,20 +57,20 @@ pub record IsNetworkCopy (actor : Actor) (mail : Mail) (network latency : ℕ) (
       (is_ordered actor.routes network ≡ true → AllDiffer receivers)
       → c.message.arrival ≡ arrival_of actor mail network latency now c
 
-pub record IsOwnCopy (ordered : Bool) (mail : Mail) (own latency : ℕ) (fields : List Value) (now : ℕ) (c : Copy) : Type 0 where
+pub record IsOwnCopy (ordered : Bool) (mail : Mail) (own latency : ℕ) (fields : List Value) (now : ℕ) (c : Delivery Message) : Type 0 where
   pub buffer : c.message.buffer ≡ own
   pub fields_sent : c.message.fields ≡ fields
   pub not_recycled : c.message.recycled ≡ false
   pub arrival : c.message.arrival ≡ arrival_after ordered (now + latency) (last_at mail.local_last own)
 
 -- the sender's mail with the copies to itself, which come in as other messages do
-abbrev pub mail_with_own : (me : ℕ) → Mail → List Copy → Mail
-mail_with_own me mail copies = fold (λ (m : Mail) (c : Copy). mail_with_message m c.message) mail (copies_to me copies)
+abbrev pub mail_with_own : (me : ℕ) → Mail → List (Delivery Message) → Mail
+mail_with_own me mail copies = fold (λ (m : Mail) (c : Delivery Message). mail_with_arrival m c.message) mail (copies_to me copies)
 
 -- copies for these receivers, each of which is as P says, and what they add to the counts and to the sender's inbox and marks
-pub record AddsCopies (actor : Actor) (mail : Mail) (receivers : List ℕ) (words : ℕ) (P : Copy → Type 0) (s : Sending) : Type 0 where
-  pub to : map (λ (c : Copy). c.receiver) s.copies ≡ receivers
-  pub numbers : map (λ (c : Copy). c.message.number) s.copies ≡ numbers_from actor.me mail.sent (length receivers)
+pub record AddsCopies (actor : Actor) (mail : Mail) (receivers : List ℕ) (words : ℕ) (P : Delivery Message → Type 0) (s : Sending) : Type 0 where
+  pub to : map (λ (c : Delivery Message). c.receiver) s.copies ≡ receivers
+  pub numbers : map (λ (c : Delivery Message). c.message.number) s.copies ≡ numbers_from actor.me mail.sent (length receivers)
   pub each : All P s.copies
   pub sent : s.mail.sent ≡ mail.sent + length receivers
   pub copies_counted : s.mail.copies ≡ mail.copies + length receivers
@@ -83,7 +79,7 @@ pub record AddsCopies (actor : Actor) (mail : Mail) (receivers : List ℕ) (word
   pub marks : s.mail.marks ≡ (mail_with_own actor.me mail s.copies).marks
 
 -- the last arrivals on a network after a send there: where it keeps order, the latest at each receiver
-pub record NetworkLasts (ordered : Bool) (network : ℕ) (mail after : Mail) (copies : List Copy) : Type 0 where
+pub record NetworkLasts (ordered : Bool) (network : ℕ) (mail after : Mail) (copies : List (Delivery Message)) : Type 0 where
   pub in_order :
       ordered ≡ true → network < length mail.network_last → (receiver : ℕ)
       → last_at (lasts_on after.network_last network) receiver
@@ -94,7 +90,7 @@ pub record NetworkLasts (ordered : Bool) (network : ℕ) (mail after : Mail) (co
   pub own_buffers : after.local_last ≡ mail.local_last
 
 -- the last arrivals in own buffers after a send in one of them: if that keeps order, the latest there
-pub record OwnLasts (ordered : Bool) (own : ℕ) (mail after : Mail) (copies : List Copy) : Type 0 where
+pub record OwnLasts (ordered : Bool) (own : ℕ) (mail after : Mail) (copies : List (Delivery Message)) : Type 0 where
   pub in_order :
       ordered ≡ true → last_at after.local_last own ≡ latest (last_at mail.local_last own) copies
   pub other_buffers :

@@ -7,7 +7,8 @@ use Rattle.ruby_value.specs.declared.setup.BufferPlace.TheVariants as place
 use Rattle.ruby_value.specs.declared.setup.BufferSetup.{BufferSetup}
 use Rattle.ruby_value.specs.declared.setup.MachineSetup.{MachineSetup}
 use Rattle.ruby_value.specs.declared.value.Value.{Value}
-use Rattle.ctl_face.specs.Acts.{Copy}
+use Rattle.ruby_value.specs.declared.message.Delivery.{Delivery}
+use Rattle.ruby_value.specs.declared.message.Message.{Message}
 use Rattle.ctl_face.specs.Ctl.{Mail}
 use Rattle.ctl_face.specs.Lasts.{last_at, lasts_on}
 use Rattle.ctl_face.specs.LocalView.{Actor}
@@ -26,9 +27,9 @@ pub record IsSentTo (network : ℕ) (machine : MachineSetup) (actor : Actor) (ma
   pub to_network : on.place ≡ place.To network destination
   pub sent : send machine actor mail buffer latency fields now ≡ Ok s
 
-abbrev pub ArriveInOrder : (first second : List Copy) → Type 0
+abbrev pub ArriveInOrder : (first second : List (Delivery Message)) → Type 0
 ArriveInOrder first second =
-    (a b : Copy) → Contains first a → Contains second b → a.receiver ≡ b.receiver
+    (a b : Delivery Message) → Contains first a → Contains second b → a.receiver ≡ b.receiver
     → a.message.arrival ≤ b.message.arrival
 
 -- a later mail of the same controller, in which no last arrival on the network is lower

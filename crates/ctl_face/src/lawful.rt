@@ -2,7 +2,8 @@
 // the tests takes memory.
 ghost use Rattle.std.specs.Prelude.{◌≡◌, ◌↔◌, ◌≤◌, IsTrue, IfSome, Some, slice_get};
 ghost use Rattle.std.specs.List.{All};
-ghost use Rattle.ctl_face.specs.IsMachine.{AgreeOnType, ArePlain, ParametersAreLast, HasPlaces, IsBufferSetup, IsMachine, IsTableSetup, SameReceivers, ShareTypes, is_parameters as is_parameters_of, network_of as network_of_place, receivers_field as receivers_field_of};
+ghost use Rattle.ctl_face.specs.IsMachine.{AgreeOnType, ArePlain, ParametersAreLast, HasPlaces, IsBufferSetup, IsMachine, IsTableSetup, SameReceivers, ShareTypes, is_parameters as is_parameters_of, receivers_field as receivers_field_of};
+ghost use Rattle.ruby_value.specs.NetworkOf.{network_of as network_of_place};
 ghost use Rattle.ctl_face.specs.RoutesFit.{AreFrom, AreWithinLimits, HasRoutes, IsFrom, IsNamed, KeepsOrder, NamesBuffers, ReceivesFrom, longest_path};
 
 use crate::Routes;

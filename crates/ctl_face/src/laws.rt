@@ -11,12 +11,14 @@ ghost use Rattle.ctl_face.specs.declared.routes.Routes.{Routes as RoutesRecord};
 ghost use Rattle.ctl_face.specs.Again.{again};
 ghost use Rattle.ctl_face.specs.Allocate.{allocate};
 ghost use Rattle.ctl_face.specs.Avail.{probe};
-ghost use Rattle.ctl_face.specs.Between.{at_cycle, with_one_fired, with_stop, with_arrival, with_request, with_wake_up, without_first_answer};
+ghost use Rattle.ctl_face.specs.Between.{DriverAct, IsDriverAct, after_driver_acts, at_cycle, with_one_fired, with_stop, with_arrival, with_request, with_wake_up, without_first_answer};
 ghost use Rattle.ctl_face.specs.Callback.{read_back, write_back};
 ghost use Rattle.ctl_face.specs.Ctl.{Ctl, Mail};
 ghost use Rattle.ctl_face.specs.Deallocate.{deallocate};
 ghost use Rattle.ctl_face.specs.Enqueue.{enqueue};
-ghost use Rattle.ctl_face.specs.Fits.{Fits, IsLawful, IsLine, IsRequest, last_cycle};
+ghost use Rattle.ctl_face.specs.Fits.{Fits, IsLawful, last_cycle};
+ghost use Rattle.ruby_value.specs.Lines.{IsLine};
+ghost use Rattle.ruby_value.specs.Requests.{IsRequest};
 ghost use Rattle.ctl_face.specs.FitsReceiver.{FitsReceiver, SendsFit};
 ghost use Rattle.ctl_face.specs.Get.{get};
 ghost use Rattle.ctl_face.specs.InRun.{IsController, IsInRun};
@@ -97,8 +99,9 @@ pub fn message_calls_keep_what_holds()
 {}
 
 /// What holds of each controller of a machine holds after each act between its scans: the arrival of another actor's message,
-/// a mark, the beginning of a later cycle, one transition more that fired, a stop, a request, and an answer that is taken. It
-/// holds in later cycles, too, where nothing happens to the controller.
+/// a mark, the beginning of a later cycle, one transition more that fired, a stop, a request, an answer that is taken, and so all
+/// that a driver does at its turn, which leaves the mail as it is. It holds in later cycles, too, where nothing happens to the
+/// controller.
 pub fn acts_between_scans_keep_what_holds()
     ensures arrival { (machine : MachineRecord) (me now : ℕ) (ctl : Ctl) (m : MessageRecord)
         → TakesFields machine.buffers m.buffer m.fields → ¬ (m.number.sender ≡ me)
@@ -113,6 +116,10 @@ pub fn acts_between_scans_keep_what_holds()
     ensures request { (asked : AskedRecord) → IsRequest asked → KeepsFits
         (λ ctl. with_request ctl asked) }
     ensures answer { KeepsFits without_first_answer }
+    ensures driver { (acts : List DriverAct) → All IsDriverAct acts → KeepsFits
+        (λ ctl. after_driver_acts ctl acts) }
+    ensures driver_mail { (acts : List DriverAct) (ctl : Ctl)
+        → (after_driver_acts ctl acts).mail ≡ ctl.mail }
 {}
 
 /// Of a lawful local, numbers of 64 bits are left for all the copies that it may send in a cycle, and for as many words that it

@@ -7,7 +7,8 @@ ghost use Rattle.ctl_face.specs.Callback.{read_back, write_back, block_after_wri
 ghost use Rattle.ctl_face.specs.Deallocate.{deallocate};
 ghost use Rattle.ctl_face.specs.Does.{Does, DoesWith, Reads};
 ghost use Rattle.ctl_face.specs.Enqueue.{enqueue};
-ghost use Rattle.ctl_face.specs.Fits.{IsLawful, IsLine};
+ghost use Rattle.ctl_face.specs.Fits.{IsLawful};
+ghost use Rattle.ruby_value.specs.Lines.{IsLine};
 ghost use Rattle.ctl_face.specs.Free.{free};
 ghost use Rattle.ctl_face.specs.Get.{get};
 ghost use Rattle.ctl_face.specs.LocalView.{LocalView};
@@ -195,5 +196,5 @@ pub trait Local {
     fn again(&mut self) -> Result<(), Trouble>
         ensures { Does (Ok (again (view self.old))) result (view self.old) (view self.new) };
 
-    ghost lawful: { (l : Self) → ∥ IsLawful (view l) ∥₁ };
+    ghost lawful: { (l : Self) → IsLawful (view l) };
 }

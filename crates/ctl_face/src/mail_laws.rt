@@ -7,7 +7,8 @@ ghost use Rattle.ruby_value.specs.declared.setup.BufferSetup.{BufferSetup as Buf
 ghost use Rattle.ruby_value.specs.declared.setup.MachineSetup.{MachineSetup as MachineRecord};
 ghost use Rattle.ruby_value.specs.declared.value.Value.{Value};
 ghost use Rattle.ruby_value.specs.Ascending.{has_mark, marks_from, with_mark};
-ghost use Rattle.ctl_face.specs.Acts.{Copy};
+ghost use Rattle.ruby_value.specs.declared.message.Delivery.{Delivery};
+ghost use Rattle.ruby_value.specs.declared.message.Message.{Message as MessageRecord};
 ghost use Rattle.ctl_face.specs.Again.{again};
 ghost use Rattle.ctl_face.specs.Ctl.{InboxMessage, Mail};
 ghost use Rattle.ctl_face.specs.Enqueue.{enqueue};
@@ -26,7 +27,7 @@ pub fn copies_arrive_later()
     ensures { (machine : MachineRecord) (actor : Actor) (mail : Mail) (buffer : ℕ) (latency : ℤ)
         (fields : List Value) (now : ℕ) (s : Sending)
         → send machine actor mail buffer latency fields now ≡ Ok s
-        → All (λ (c : Copy). now < c.message.arrival) s.copies }
+        → All (λ (c : Delivery MessageRecord). now < c.message.arrival) s.copies }
 {}
 
 /// A send that ends without a fault makes one copy for each receiver that its message names, with the sender's next numbers, and

@@ -17,7 +17,7 @@ fn pop_if_ready<L: Local>(local: &mut L, buffer: u16) -> Result<bool, Trouble>
         (λ popped. IsTrue popped → pop (L.view local.old) buffer ≡ Ok (L.view local.new)) }
     ensures left { IfOk result (λ popped. popped ≡ false → L.view local.new ≡ L.view local.old) }
     ensures refused { OnErr result (L.view local.new ≡ L.view local.old) }
-    ensures lawful { ∥ IsLawful (L.view local.new) ∥₁ }
+    ensures lawful { IsLawful (L.view local.new) }
 {
     if !local.ready(buffer) {
         return Ok(false);
@@ -32,7 +32,7 @@ fn pop_two_and_wake<L: Local>(local: &mut L, a: u16, b: u16) -> Result<(), Troub
     ensures done { OnOk result ((v : LocalView) × (u : LocalView)
         × (pop (L.view local.old) a ≡ Ok v) × (pop v b ≡ Ok u) × (L.view local.new ≡ again u)) }
     ensures scan { SameScan (L.view local.old) (L.view local.new) }
-    ensures lawful { ∥ IsLawful (L.view local.new) ∥₁ }
+    ensures lawful { IsLawful (L.view local.new) }
 {
     local.pop(a)?;
     local.pop(b)?;

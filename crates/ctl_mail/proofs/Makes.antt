@@ -16,7 +16,7 @@ use Rattle.ctl_face.specs.AtFront.{at_front}
 use Rattle.ctl_face.specs.Ctl.{InboxMessage, Mail}
 use Rattle.ctl_face.specs.Front as face
 use Rattle.ctl_face.specs.Inbox.{without_message}
-use Rattle.ctl_face.specs.Mailing.{incoming_message, mail_with_mark, mail_with_message}
+use Rattle.ctl_face.specs.Mailing.{incoming_message, mail_with_mark, mail_with_arrival}
 use Rattle.ctl_face.specs.IsMachine.{network_count}
 use Rattle.ctl_face.specs.Lasts.{Lasts}
 use Rattle.ctl_face.specs.Opening.{no_mail}
@@ -99,7 +99,7 @@ module _ (store : MailStore) (new : Vec (Roomy (List Message)) Global) (is_mail 
 
   pub made-put : (m : Message) → IsNewIn (mail_of store) m.number
       → Replaces store.buffers.items new.items m.buffer (queue.with_message (queue_of store.buffers.items m.buffer) m)
-      → (mail_with_mark (mail_of with_buffers) m.arrival ≡ mail_with_message (mail_of store) m) × IsMail with_buffers
+      → (mail_with_mark (mail_of with_buffers) m.arrival ≡ mail_with_arrival (mail_of store) m) × IsMail with_buffers
   made-put m new_in put =
       let so = put-in store.buffers.items new.items store.stalls.kept m is_mail.holds (fresh m.number new_in) put count in
       (ap (λ xs. mail_with_mark (record (mail_of store) { inbox = xs }) m.arrival) so.1, kept so.0)
@@ -130,11 +130,11 @@ after-pop mail after buffer now None is taken none = none ∙ ap (λ (o : Option
 after-pop mail after buffer now (Some m) is taken none = taken ∙ ap (λ (o : Option Message). mail_at_front mail (at_front (mail_without mail) o)) is
 
 pub after-recycle : (mail middle : Mail) (buffer now arrival : ℕ) (m : Message) → NumbersAscend mail.inbox → Some m ≡ face.front mail buffer now → middle ≡ mail_without mail m
-    → mail_with_message middle (record m { arrival = arrival; recycled = true }) ≡ after_act now mail (Recycle buffer arrival)
+    → mail_with_arrival middle (record m { arrival = arrival; recycled = true }) ≡ after_act now mail (Recycle buffer arrival)
 after-recycle mail middle buffer now arrival m ascends is taken =
     let held : Contains mail.inbox (incoming_message m) =
     (subst (IsLeast (IsFree mail.inbox buffer now)) (sym is) (front-least mail.inbox buffer now (face.front mail buffer now) (front_first mail buffer now))).one.held in
-    ap (λ (z : Mail). mail_with_message z (record m { arrival = arrival; recycled = true })) taken
+    ap (λ (z : Mail). mail_with_arrival z (record m { arrival = arrival; recycled = true })) taken
     ∙ (ap (λ xs. record mail { inbox = xs; marks = with_mark mail.marks arrival }) (readded mail.inbox m (message_arriving_again arrival) ascends held (λ o. refl))
     ∙ ap (λ (o : Option Message). mail_at_front mail (at_front (mail_with_recycled mail arrival) o)) is)
 

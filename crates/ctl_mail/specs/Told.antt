@@ -13,7 +13,7 @@ use Rattle.ctl_face.specs.AtFront.{AtFront, at_front}
 use Rattle.ctl_face.specs.Ctl.{InboxMessage, Mail}
 use Rattle.ctl_face.specs.Fits.{NumbersAscend}
 use Rattle.ctl_face.specs.Lasts.{with_last}
-use Rattle.ctl_face.specs.Mailing.{mail_with_mark, mail_with_message}
+use Rattle.ctl_face.specs.Mailing.{mail_with_mark, mail_with_arrival}
 use Rattle.ctl_face.specs.Front.{front}
 use Rattle.ctl_face.specs.Pop.{popped_mail}
 use Rattle.ctl_face.specs.Recycle.{mail_with_recycled}
@@ -49,7 +49,7 @@ after_act now mail (Mark cycle) = mail_with_mark mail cycle
 after_act now mail (Stall buffer line) = mail_at_front mail (stalled_mail mail buffer line now)
 after_act now mail (Wake line) = woken_mail mail (λ (o : InboxMessage). is_under line o.waiting)
 after_act now mail WakeAll = woken_mail mail (λ (o : InboxMessage). is_some o.waiting)
-after_act now mail (Arrive m) = mail_with_message mail m
+after_act now mail (Arrive m) = mail_with_arrival mail m
 after_act now mail (Count drawn) = counted_mail mail drawn
 after_act now mail (NetworkLast network receiver arrival) = record mail { network_last = with_last mail.network_last network receiver arrival }
 after_act now mail (LocalLast buffer arrival) = record mail { local_last = finite.insert mail.local_last buffer arrival }

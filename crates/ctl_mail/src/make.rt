@@ -3,7 +3,7 @@ ghost use Rattle.std.specs.Prelude.{◌≡◌, ◌<◌, ◌≤◌, ◌+◌, ℕ,
 ghost use Rattle.std.specs.FinMap as finite;
 ghost use Rattle.ctl_face.specs.Front.{front};
 ghost use Rattle.ctl_face.specs.Lasts.{with_last};
-ghost use Rattle.ctl_face.specs.Mailing.{mail_with_mark, mail_with_message};
+ghost use Rattle.ctl_face.specs.Mailing.{mail_with_mark, mail_with_arrival};
 ghost use Rattle.ctl_face.specs.Pop.{mail_without};
 ghost use Rattle.ctl_mail.specs.declared.act.MailAct.TheVariants as act;
 ghost use Rattle.ctl_mail.specs.MailOf.{IsMail, IsNewIn, buffer_count, mail_of};
@@ -54,7 +54,7 @@ fn put(store: &mut MailStore, m: Message)
     requires new { IsNewIn (mail_of store.old) m.number }
     requires place { 0 < room_of store.old.buffers.items m.buffer }
     requires room { 0 < mark_room store.old }
-    ensures after { mail_of store.new ≡ mail_with_message (mail_of store.old) m }
+    ensures after { mail_of store.new ≡ mail_with_arrival (mail_of store.old) m }
     ensures mail { IsMail store.new }
     ensures buffers { buffer_count store.new ≡ buffer_count store.old }
     ensures room { mark_room store.old ≤ mark_room store.new + 1 }

@@ -1,6 +1,6 @@
 ghost use Rattle.std.specs.Prelude.{◌≡◌, ◌<◌, ◌≤◌, ◌+◌, ℕ, not, nat_lt, IfOk, OnOk};
 ghost use Rattle.std.specs.List.{find};
-ghost use Rattle.ctl_face.specs.Mailing.{mail_with_mark, mail_with_message};
+ghost use Rattle.ctl_face.specs.Mailing.{mail_with_mark, mail_with_arrival};
 ghost use Rattle.ctl_face.specs.Opening.{no_mail};
 ghost use Rattle.ctl_mail.specs.MailOf.{IsMail, buffer_count, IsNewIn, mail_at_cycle, mail_of};
 ghost use Rattle.ctl_mail.specs.Marks.{IsNextMark};
@@ -70,7 +70,7 @@ impl MailStore {
         requires new { IsNewIn (mail_of self.old) m.number }
         requires buffer { m.buffer < buffer_count self.old }
         requires room { HasRoomFor self.old 1 }
-        ensures after { mail_of self.new ≡ mail_with_message (mail_of self.old) m }
+        ensures after { mail_of self.new ≡ mail_with_arrival (mail_of self.old) m }
         ensures mail { IsMail self.new }
         ensures buffers { buffer_count self.new ≡ buffer_count self.old }
         ensures room { (more : ℕ) → HasRoomFor self.old (more + 1) → HasRoomFor self.new more }

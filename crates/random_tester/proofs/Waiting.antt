@@ -11,7 +11,7 @@ use Rattle.ruby_value.specs.declared.fault.Finding.TheVariants.{Deadlock}
 use Rattle.ruby_value.proofs.Ordered.{AllPairs-head, AllPairs-nil, AllPairs-tail}
 use Rattle.sequencer.specs.Kept.{ComesBefore}
 use Rattle.sequencer.specs.Reads.{is_above, next_after}
-use Rattle.sequencer.specs.Requests.{Requests, first_of}
+use Rattle.ruby_value.specs.Requests.{Requests, first_of}
 use Rattle.sequencer.specs.Seats.{FitsSeat, Seat, controller_at, next_at, requests_at}
 use Rattle.sequencer.proofs.FitsByLine.{by_line-fits}
 use Rattle.random_tester.specs.Law.{drop-all}

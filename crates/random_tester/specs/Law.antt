@@ -14,7 +14,8 @@ use Rattle.ruby_value.specs.declared.fault.Finding.{Finding}
 use Rattle.ruby_value.specs.declared.fault.Finding.TheVariants.{Deadlock}
 use Rattle.ruby_value.proofs.Contained.{Contains-cons_here, Contains-cons_there}
 use Rattle.sequencer.specs.Drive.{CanIssue, CanIssueOne, CanTake, Drive, IsFindingAt, IsLawful, after_taking}
-use Rattle.sequencer.specs.Requests.{IsLine, IsRequest, Requests, first_of}
+use Rattle.ruby_value.specs.Lines.{IsLine}
+use Rattle.ruby_value.specs.Requests.{IsRequest, Requests, first_of}
 use Rattle.sequencer.specs.Seats.{FitSeats, FitsSeat, Seat, Seating, controller_at, first_answer_at, outstanding_at, with_seats, without_answer_at}
 use Rattle.sequencer.proofs.FitsByLine.{by_line-fits}
 use Rattle.random_tester.specs.declared.slot.Slot.{Slot}

@@ -1,12 +1,13 @@
 -- What taking answers leaves as it was at seats: how many there are, their controllers, what is outstanding, and that they fit.
-use Rattle.std.specs.Prelude.{◌≡◌, ℕ, zero, suc, Option, None, Some, List, [], ◌∷◌, length, map, slice_get, refl}
+use Rattle.std.specs.Prelude.{◌≡◌, ◌≤◌, ℕ, zero, suc, Option, None, Some, List, [], ◌∷◌, length, map, slice_get, refl}
 use Rattle.std.proofs.Common.{ap, sym, subst, ◌∙◌}
 use Rattle.std.proofs.lemmas.List.Elements.{All-cons, All-head, All-tail}
-use Rattle.std.specs.List.{All}
+use Rattle.std.specs.List.{All, AllPairs}
 use Rattle.std.specs.Option.{option_and_then, option_map}
+use Rattle.ruby_value.proofs.Ordered.{AllPairs-tail}
 use Rattle.ruby_value.specs.declared.asked.Answer.{Answer}
 use Rattle.sequencer.specs.Drive.{Taken, after_taking}
-use Rattle.sequencer.specs.Requests.{IsRequest, Requests, first_of, rest_of, without_first_answer}
+use Rattle.ruby_value.specs.Requests.{IsRequest, Requests, first_of, rest_of, without_first_answer}
 use Rattle.sequencer.specs.Seats.{FitsSeat, Seat, changed_seat, first_answer_at, with_seat, without_answer_at}
 
 abbrev pub controllers : List Seat → List ℕ
@@ -57,13 +58,20 @@ unchanged [] k is = refl
 unchanged (s ∷ rest) zero is = ap (λ (x : Seat). x ∷ rest) (same-seat s.controller s.requests is)
 unchanged (s ∷ rest) (suc k) is = further s rest k (next_seat rest k) ∙ ap (λ (xs : List Seat). s ∷ xs) (unchanged rest k is)
 
+abbrev NoLater : Answer → Answer → Type 0
+NoLater a b = a.asked.line ≤ b.asked.line
+
+rest-ascends : (answers : List Answer) → AllPairs NoLater answers → AllPairs NoLater (rest_of answers)
+rest-ascends [] pairs = pairs
+rest-ascends (a ∷ rest) pairs = AllPairs-tail NoLater a rest pairs
+
 rest-fits : (answers : List Answer) → All (λ (a : Answer). IsRequest a.asked) answers → All (λ (a : Answer). IsRequest a.asked) (rest_of answers)
 rest-fits [] all = all
 rest-fits (a ∷ rest) all = All-tail (λ (x : Answer). IsRequest x.asked) a rest all
 
 seat-fits : (c : ℕ) (o : Option Requests) → FitsSeat (seat_of c o) → FitsSeat (seat_of c (option_map without_first_answer o))
 seat-fits c None fit = tt
-seat-fits c (Some r) fit = record { outstanding = fit.outstanding; finished = rest-fits r.finished fit.finished }
+seat-fits c (Some r) fit = record { outstanding = fit.outstanding; finished = rest-fits r.finished fit.finished; finished_ascend = rest-ascends r.finished fit.finished_ascend }
 
 one-fits : (seats : List Seat) (k : ℕ) → All FitsSeat seats → All FitsSeat (without_answer_at seats k)
 one-fits [] k fit = fit

@@ -11,7 +11,7 @@ use Rattle.ruby_value.specs.declared.fault.Finding.TheVariants.{Incoherent, Dead
 use Rattle.sequencer.specs.declared.issued.Issued.{Issued}
 use Rattle.sequencer.specs.Drive.{Drive, Taken, after_taking}
 use Rattle.sequencer.specs.Reads.{by_line}
-use Rattle.sequencer.specs.Requests.{Requests, first_of}
+use Rattle.ruby_value.specs.Requests.{Requests, first_of}
 use Rattle.sequencer.specs.Seats.{Seat, outstanding_at}
 use Rattle.random_tester.specs.declared.slot.Slot.{Slot}
 use Rattle.random_tester.specs.Slot.{first_difference, fresh_slot, is_same_request, request_of, value_at}

@@ -1,7 +1,7 @@
 // Which request has waited too long.
 ghost use Rattle.std.specs.Prelude.{◌≡◌, ◌<◌, Some, length, slice_get};
 ghost use Rattle.std.specs.List.{All};
-ghost use Rattle.sequencer.specs.Requests.{first_of};
+ghost use Rattle.ruby_value.specs.Requests.{first_of};
 ghost use Rattle.sequencer.specs.Seats.{FitsSeat, Seat};
 ghost use Rattle.random_tester.specs.Turn.{late, late_at};
 

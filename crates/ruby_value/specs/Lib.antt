@@ -3,6 +3,7 @@ pub mod Ascending
 pub mod Available
 pub mod Bits
 pub mod Cache
+pub mod Callback
 pub mod DefaultValue
 pub mod Directory
 pub mod EqualKinds
@@ -17,8 +18,12 @@ pub mod IsBefore
 pub mod IsCache
 pub mod IsReference
 pub mod LeastFrom
+pub mod Lines
 pub mod MadeRecent
+pub mod NetworkOf
 pub mod NumberBefore
+pub mod NumbersFrom
+pub mod Requests
 pub mod Roomy
 pub mod SameKind
 pub mod SameKinds

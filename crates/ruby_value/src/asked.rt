@@ -33,3 +33,12 @@ pub struct Answer {
     pub asked: Asked,
     pub block: Block,
 }
+
+/// Why a request wasn't finished.
+#[derive(Clone, Copy, Debug, PartialEq, Eq)]
+pub enum BackFault {
+    /// The line has no outstanding request.
+    NoRequest,
+    /// The line's request is a store where a read was to be finished, or the other way round.
+    WrongKind,
+}

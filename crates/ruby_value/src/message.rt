@@ -50,3 +50,22 @@ impl Clone for Message {
         })
     }
 }
+
+/// A message with the controller that gets it, which may be its sender.
+#[derive(Drop)]
+pub struct Delivery<M> {
+    pub receiver: u32,
+    pub message: M,
+}
+
+/// That a copy of a message was sent.
+#[derive(Clone, Copy, Debug, PartialEq, Eq)]
+pub struct Sent {
+    pub number: MsgNo,
+    /// The controller that gets the copy, which is the sender where the buffer is one of its own.
+    pub receiver: u32,
+    /// The number of the buffer within the receiver's machine.
+    pub buffer: u16,
+    /// The cycle from which on the copy is ready, later than the one in which it was sent.
+    pub arrival: u64,
+}

@@ -1,5 +1,5 @@
 -- The outstanding requests by line: each is a request, and each comes before the later ones.
-use Rattle.std.proofs.Common.{◌≡◌, ℕ, zero, suc, ◌<◌, Bool, true, false, cond, eqb, List, [], ◌∷◌, map, Option, Some, None, IfSome, refl, sym, ap, subst, ◌∙◌, arith, T, inl, inr, get_or}
+use Rattle.std.proofs.Common.{◌≡◌, ℕ, ◌<◌, Bool, true, false, cond, List, [], ◌∷◌, map, Option, Some, None, IfSome, refl, sym, subst, ◌∙◌, arith, T, inl, inr, get_or}
 use Rattle.std.proofs.lemmas.Bool.{eq-eqb, ne_eqb, cases_eq}
 use Rattle.std.proofs.lemmas.Bool.Decides.{nat_tests}
 use Rattle.std.proofs.lemmas.List.Elements.{All-cons, All-head, All-tail, All-map, All-weaker}
@@ -11,12 +11,12 @@ use Rattle.std.specs.declared.cmp.Ordering.TheVariants.{Less, Equal, Greater}
 use Rattle.std.specs.FinMap as finite
 use Rattle.std.specs.FinMap.Entries as entries
 use Rattle.std.specs.List.{All, AllPairs}
-use Rattle.std.specs.Ordering.{nat_cmp, is_lt, eq_by_cmp}
+use Rattle.std.specs.Ordering.{nat_cmp, is_lt}
 use Rattle.ruby_value.specs.declared.asked.Asked.{Asked}
 use Rattle.ruby_value.proofs.Ordered.{AllPairs-nil}
 use Rattle.sequencer.specs.Kept.{AreRequests, ComesBefore}
 use Rattle.sequencer.specs.Reads.{by_line}
-use Rattle.sequencer.specs.Requests.{FitsRequests, IsRequest, Requests}
+use Rattle.ruby_value.specs.Requests.{FitsRequests, IsRequest, Requests}
 
 abbrev FitsAt : ℕ → Asked → Type 0
 FitsAt line a = (a.line ≡ line) × IsRequest a

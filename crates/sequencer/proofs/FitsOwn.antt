@@ -1,5 +1,5 @@
 -- The requests that a sequencer keeps are such as it may have.
-use Rattle.std.proofs.Common.{◌≡◌, ℕ, Bool, true, false, cond, eqb, List, [], ◌∷◌, map, Option, Some, None, IfSome, refl, sym, subst, arith, inl, inr}
+use Rattle.std.proofs.Common.{◌≡◌, ℕ, Bool, true, false, cond, eqb, List, [], ◌∷◌, map, Option, Some, IfSome, refl, sym, subst, inl, inr}
 use Rattle.std.proofs.lemmas.Bool.{ne_eqb, cases_eq}
 use Rattle.std.proofs.lemmas.List.Elements.{All-head, All-tail}
 use Rattle.std.specs.List.{All}
@@ -8,7 +8,7 @@ use Rattle.std.specs.FinMap as finite
 use Rattle.ruby_value.specs.declared.asked.Asked.{Asked}
 use Rattle.ruby_value.proofs.Entries.{get_entries}
 use Rattle.sequencer.specs.Outstanding.{entry_of, outstanding_of}
-use Rattle.sequencer.specs.Requests.{IsRequest}
+use Rattle.ruby_value.specs.Requests.{IsRequest}
 
 abbrev FitsAt : ℕ → Asked → Type 0
 FitsAt line a = (a.line ≡ line) × IsRequest a

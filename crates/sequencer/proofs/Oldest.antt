@@ -13,7 +13,7 @@ use Rattle.ruby_value.specs.declared.asked.Asked.{Asked}
 use Rattle.ruby_value.proofs.Ordered.{AllPairs-head, AllPairs-tail}
 use Rattle.sequencer.specs.Kept.{ComesBefore}
 use Rattle.sequencer.specs.Outstanding.{entry_of, outstanding_of}
-use Rattle.sequencer.specs.Requests.{first_of}
+use Rattle.ruby_value.specs.Requests.{first_of}
 
 both : (a b : Bool) → T a → T b → T (a && b)
 both true b p q = q

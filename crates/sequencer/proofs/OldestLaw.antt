@@ -12,7 +12,7 @@ use Rattle.ruby_value.proofs.Ordered.{AllPairs-head, AllPairs-tail}
 use Rattle.sequencer.specs.Kept.{ComesBefore}
 use Rattle.sequencer.specs.Outstanding.{entry_of, outstanding_of}
 use Rattle.sequencer.specs.Reads.{IsOldest, IsNoLater, older, oldest_of}
-use Rattle.sequencer.specs.Requests.{Requests}
+use Rattle.ruby_value.specs.Requests.{Requests}
 use Rattle.sequencer.proofs.Lines.{request-first}
 
 abbrev OldestIn : List Asked → Option Asked → Type 0

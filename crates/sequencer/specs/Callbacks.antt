@@ -2,10 +2,10 @@
 -- finished requests, in their order. This project's own.
 use Rattle.std.specs.Prelude.{◌≡◌, Some, List, [], ◌∷◌, Result, Ok, Err}
 use Rattle.ruby_value.specs.declared.asked.Answer.{Answer}
-use Rattle.sequencer.specs.declared.fault.BackFault.{BackFault}
+use Rattle.ruby_value.specs.declared.asked.BackFault.{BackFault}
 use Rattle.sequencer.specs.declared.fault.CallbackFault.{CallbackFault}
 use Rattle.sequencer.specs.declared.fault.CallbackFault.TheVariants.{Refused, NoMemory}
-use Rattle.sequencer.specs.Requests.{Requests, request_for, requests_with_answer}
+use Rattle.ruby_value.specs.Requests.{Requests, request_for, requests_with_answer}
 
 unfoldable pub after_callbacks : List Answer → Requests → Requests
 after_callbacks [] r = r

@@ -7,5 +7,4 @@ pub mod Place
 pub mod PlainDriver
 pub mod PlainLaw
 pub mod Reads
-pub mod Requests
 pub mod Seats

@@ -8,7 +8,7 @@ use Rattle.ruby_value.specs.declared.asked.Answer.{Answer}
 use Rattle.ruby_value.specs.declared.asked.Asked.{Asked}
 use Rattle.sequencer.specs.declared.issued.Issued.{Issued}
 use Rattle.sequencer.specs.Reads.{next_after}
-use Rattle.sequencer.specs.Requests.{FitsRequests, Requests, first_of, request_for, with_request, without_first_answer}
+use Rattle.ruby_value.specs.Requests.{FitsRequests, Requests, first_of, request_for, with_request, without_first_answer}
 
 pub record Seat : Type 0 where
   pub controller : ℕ

@@ -1,6 +1,6 @@
 ghost use Rattle.std.specs.Prelude.{◌≡◌};
-ghost use Rattle.sequencer.specs.Back.{is_store, stored_block};
-ghost use Rattle.sequencer.specs.Requests.{IsRequest};
+ghost use Rattle.ruby_value.specs.Callback.{is_store, stored_block};
+ghost use Rattle.ruby_value.specs.Requests.{IsRequest};
 
 use crate::{Ask, Asked, Block};
 

@@ -1,9 +1,9 @@
 ghost use Rattle.std.specs.Prelude.{◌≡◌, ◌≤◌, ◌==◌, Some, [], ◌∷◌, ◌++◌, IfSome, OnOk, OnErr};
 ghost use Rattle.std.specs.List.{list_any};
 ghost use Rattle.ruby_value.specs.declared.asked.Answer.{Answer as AnswerRecord};
-ghost use Rattle.sequencer.specs.Back.{block_after_write, read_back, write_back};
+ghost use Rattle.ruby_value.specs.Callback.{block_after_write, read_back, write_back};
 ghost use Rattle.sequencer.specs.Callbacks.{CallsBack, FitCallbacks, after_callbacks};
-ghost use Rattle.sequencer.specs.Requests.{IsRequest, Requests, request_for, requests_with_answer};
+ghost use Rattle.ruby_value.specs.Requests.{IsRequest, Requests, request_for, requests_with_answer};
 
 use crate::back::{is_store, stored_block};
 use crate::{Answer, Asked, BackFault, Block, CallbackFault, NoMemory, Sequencer};

@@ -14,10 +14,10 @@ mod uses;
 
 pub use callbacks::Callbacks;
 pub use driver::{Driver, DriverEnd};
-pub use fault::{BackFault, CallbackFault, IssueFault};
+pub use fault::{CallbackFault, IssueFault};
 pub use issued::Issued;
 pub use plain_driver::PlainDriver;
 pub use ruby_base::NoMemory;
-pub use ruby_value::{Answer, Ask, Asked, Block, Finding};
+pub use ruby_value::{Answer, Ask, Asked, BackFault, Block, Finding};
 pub use seats::Seats;
 pub use sequencer::Sequencer;

@@ -9,7 +9,7 @@ ghost use Rattle.sequencer.specs.Kept.{AreAnswers, AreRequests, ComesBefore, IsA
 ghost use Rattle.sequencer.specs.Outstanding.{outstanding_of};
 ghost use Rattle.sequencer.specs.Place.{IsPlaceOf};
 ghost use Rattle.sequencer.specs.Reads.{is_above, oldest_of};
-ghost use Rattle.sequencer.specs.Requests.{IsRequest, first_of, with_answer};
+ghost use Rattle.ruby_value.specs.Requests.{IsRequest, first_of, with_answer};
 
 use crate::{Answer, Asked};
 use std::collections::VecDeque;

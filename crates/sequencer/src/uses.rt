@@ -2,7 +2,7 @@
 // after an answer, is proved from the traits alone.
 ghost use Rattle.std.specs.Prelude.{◌≡◌, ◌≤◌, ◌<◌, ◌^◌, IfOk, IsTrue, OnOk, OnErr, length};
 ghost use Rattle.sequencer.specs.Drive.{IsLawful, after_drive};
-ghost use Rattle.sequencer.specs.Requests.{IsRequest};
+ghost use Rattle.ruby_value.specs.Requests.{IsRequest};
 ghost use Rattle.sequencer.specs.Seats.{FitSeats, with_issued, with_seats, without_answer_at};
 
 use crate::{Asked, Driver, DriverEnd, NoMemory, Seats};

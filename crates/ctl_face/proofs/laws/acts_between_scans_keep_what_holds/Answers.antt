@@ -1,4 +1,4 @@
-use Rattle.ctl_face.proofs.Betweens.{answer_keeps, arrival_keeps, begun_keeps, fired_keeps, halted_keeps, later_fits, request_keeps, wake_up_keeps}
+use Rattle.ctl_face.proofs.Betweens.{answer_keeps, arrival_keeps, begun_keeps, driver_keeps, driver_mail, fired_keeps, halted_keeps, later_fits, request_keeps, wake_up_keeps}
 use Rattle.ctl_face.proofs.laws.acts_between_scans_keep_what_holds.Goals as goal
 
 pub returns : goal.returns
@@ -11,4 +11,6 @@ returns c = record {
   stop = halted_keeps;
   request = λ asked is machine me now ctl. request_keeps machine me now ctl asked is;
   answer = answer_keeps;
+  driver = driver_keeps;
+  driver_mail = driver_mail;
 }

@@ -7,4 +7,5 @@ returns c =
     (record {
       outstanding = λ line. fits-own c.self.inside.outstanding.items line c.self.invariant.requests_fit.each;
       finished = c.self.invariant.answers_fit.each;
+      finished_ascend = c.self.invariant.answers_fit.ascend;
     })

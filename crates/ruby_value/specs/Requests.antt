@@ -1,14 +1,15 @@
 -- The requests of a sequencer: those that are outstanding, by line, and the finished answers that nobody has taken yet. That
 -- one line has at most one outstanding request is this project's own.
-use Rattle.std.specs.Prelude.{◌≡◌, ◌+◌, ◌≤◌, ◌<◌, ◌^◌, ℕ, Option, None, Some, IfSome, List, [], ◌∷◌, ◌++◌, nat_le, nat_lt, refl}
+use Rattle.std.specs.Prelude.{◌≡◌, ◌+◌, ◌≤◌, ℕ, Option, None, Some, IfSome, List, [], ◌∷◌, ◌++◌, nat_le, nat_lt, refl}
 use Rattle.std.specs.Coded.{Coded, code_by, coded×, coded_ℕ, coded_list}
 use Rattle.std.specs.FinMap as map
-use Rattle.std.specs.List.{All, filter}
+use Rattle.std.specs.List.{All, AllPairs, filter}
 use Rattle.std.specs.Ordering.{nat_cmp}
 use Rattle.ruby_value.specs.declared.asked.Answer.{Answer}
 use Rattle.ruby_value.specs.declared.asked.Asked.{Asked}
 use Rattle.ruby_value.specs.contracts.asked.Answer as answer
 use Rattle.ruby_value.specs.contracts.asked.Asked as asked
+use Rattle.ruby_value.specs.Lines.{IsLine}
 
 -- at most one outstanding request for a line; the finished answers by ascending line, and those of one line in the order in
 -- which they were finished
@@ -20,10 +21,6 @@ pub record Requests : Type 0 where
 abbrev pub requests_code : Coded Requests
 requests_code =
     code_by (map.FinMap nat_cmp Asked × List Answer) (coded× (map.code coded_ℕ asked.the_row.coded) (coded_list answer.the_row.coded)) (λ r. (r.outstanding, r.finished)) (λ p. record { outstanding = p.0; finished = p.1 }) (λ _. refl)
-
--- a line number is a byte address of 64 bits divided by 64
-abbrev pub IsLine : ℕ → Type 0
-IsLine line = line < 2 ^ 58
 
 -- bytes of one line are asked for, at least one
 pub record IsRequest (a : Asked) : Type 0 where
@@ -38,10 +35,12 @@ no_requests = record { outstanding = map.empty; finished = [] }
 abbrev pub request_for : Requests → ℕ → Option Asked
 request_for r line = map.get r.outstanding line
 
--- what always holds of a sequencer's requests: each is under its line, and it and each answer asks for bytes of one line
+-- what always holds of a sequencer's requests: each is under its line, it and each answer asks for bytes of one line, and the
+-- lines of the answers ascend
 pub record FitsRequests (r : Requests) : Type 0 where
   pub outstanding : (line : ℕ) → IfSome (request_for r line) (λ (a : Asked). (a.line ≡ line) × IsRequest a)
   pub finished : All (λ (a : Answer). IsRequest a.asked) r.finished
+  pub finished_ascend : AllPairs (λ (a b : Answer). a.asked.line ≤ b.asked.line) r.finished
 
 -- a request of a line that has none outstanding goes under its line
 abbrev pub with_request : Requests → Asked → Requests
