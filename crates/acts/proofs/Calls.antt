@@ -24,7 +24,7 @@ use Rattle.ctl_face.specs.Stall.{stall}
 use Rattle.ctl_face.specs.State.{set_state, state}
 use Rattle.ctl_face.specs.Touch.{touch}
 use Rattle.ctl_face.specs.Wake.{wake, wake_all}
-use Rattle.acts.specs.Act.{Act, Now, Me, Get, Set, Lookup, Avail, Probe, Allocate, Deallocate, Touch, Free, Ready, Front, Pop, Stall, Wake, WakeAll, Recycle, Send, ReadBack, WriteBack, State, SetState, Again, answer}
+use Rattle.acts.specs.Act.{Now, Me, Get, Set, Lookup, Avail, Probe, Allocate, Deallocate, Touch, Free, Ready, Front, Pop, Stall, Wake, WakeAll, Recycle, Send, ReadBack, WriteBack, State, SetState, Again}
 use Rattle.acts.specs.Acting.{act}
 use Rattle.acts.specs.DoesAs.{DoesAs, itself}
 use Rattle.acts.specs.Serves.{serves}

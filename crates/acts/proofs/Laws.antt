@@ -1,12 +1,12 @@
 -- The two laws of all bodies: what each act keeps, each body keeps; and where each act agrees in two locals that are related, so does
 -- each body. Both are inductions over what a body does, with one case for acts.
-use Rattle.std.proofs.Common.{◌≡◌, Bool, true, false, cond, Result, Ok, Err, refl, sym, ap, subst, ◌∙◌}
+use Rattle.std.proofs.Common.{◌≡◌, Bool, true, false, Result, Ok, Err, refl, ap, subst, ◌∙◌}
 use Rattle.std.proofs.lemmas.Bool.{cond_both}
 use Rattle.ruby_value.specs.declared.fault.Fault.{Fault}
 use Rattle.ruby_value.specs.declared.fault.Fault.TheVariants.{Reference}
 use Rattle.ruby_value.specs.declared.setup.MachineSetup.{MachineSetup}
 use Rattle.ctl_face.specs.LocalView.{LocalView}
-use Rattle.acts.specs.Act.{Act, answer}
+use Rattle.acts.specs.Act.{Act}
 use Rattle.acts.specs.Acting.{Acting, ends, stops, acts, follow, run}
 use Rattle.acts.specs.After.{Agrees, HoldsAfter}
 use Rattle.acts.specs.Done.{Done, does, does_served}

@@ -1,10 +1,10 @@
 -- An act that is done in a local by the call of its name does what it is.
-use Rattle.std.proofs.Common.{◌≡◌, ℕ, ℤ, Bool, true, false, cond, List, Option, Result, Ok, Err, refl, sym, ap, ◌∙◌}
+use Rattle.std.proofs.Common.{◌≡◌, true, false, Result, Ok, Err, refl, sym, ap, ◌∙◌}
 use Rattle.ruby_value.specs.declared.fault.Fault.{Fault}
 use Rattle.ruby_value.specs.declared.fault.Fault.TheVariants.{Reference}
 use Rattle.ctl_face.specs.declared.trouble.Trouble.{Trouble}
 use Rattle.ctl_face.specs.declared.trouble.Trouble.TheVariants as trouble
-use Rattle.ctl_face.specs.Does.{Comes, DoesWith, Reads}
+use Rattle.ctl_face.specs.Does.{DoesWith, Reads}
 use Rattle.ctl_face.specs.LocalView.{LocalView}
 use Rattle.acts.specs.Act.{Act, answer}
 use Rattle.acts.specs.Acting.{act, ends, follow, run}

@@ -6,7 +6,6 @@ use Rattle.ctl_face.specs.declared.trouble.Trouble.{Trouble}
 use Rattle.ctl_face.specs.declared.trouble.Trouble.TheVariants as trouble
 use Rattle.ctl_face.specs.LocalView.{LocalView}
 use Rattle.acts.specs.declared.body_fault.BodyFault.{BodyFault}
-use Rattle.acts.specs.Act.{Act, answer}
 use Rattle.acts.specs.Acting.{Acting, ends, stops, acts, ◌>>=◌, ◌>>◌, decided, either, fault_of, follow, found, given, run}
 use Rattle.acts.specs.DoesAs.{DoesAs}
 use Rattle.acts.specs.Done.{Done, does}

@@ -1,6 +1,6 @@
 -- What an act does to a local, and what it answers: by the definition of its name where the machine serves it, and else the fault
 -- `reference`. No accepted protocol asks for an act that isn't served; that this is that fault is this project's own rule.
-use Rattle.std.specs.Prelude.{Bool, Result, Ok, Err, if◌then◌else◌}
+use Rattle.std.specs.Prelude.{Result, Ok, Err, if◌then◌else◌}
 use Rattle.ruby_value.specs.declared.fault.Fault.{Fault}
 use Rattle.ruby_value.specs.declared.fault.Fault.TheVariants.{Reference}
 use Rattle.ctl_face.specs.Again.{again}

@@ -4,3 +4,4 @@ pub mod Done
 pub mod Acting
 pub mod DoesAs
 pub mod After
+pub mod Required

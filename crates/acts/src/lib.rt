@@ -6,6 +6,7 @@ mod body_fault;
 mod messages;
 mod own;
 mod requests;
+mod required;
 mod serving;
 mod tables;
 
@@ -16,4 +17,5 @@ pub use ctl_face::{
 pub use messages::{front, pop, ready, recycle, send, stall, wake, wake_all};
 pub use own::{again, me, now, set_state, state};
 pub use requests::{read_back, write_back};
+pub use required::what_is_served_is_what_a_local_requires;
 pub use tables::{allocate, avail, deallocate, free, get, lookup, probe, set, touch};
