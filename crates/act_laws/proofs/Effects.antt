@@ -3,12 +3,9 @@ use Rattle.std.proofs.Common.{◌≡◌, ◌<◌, ◌+◌, ◌++◌, ℕ, ℤ, B
 use Rattle.std.proofs.lemmas.Bool.{cond_both}
 use Rattle.std.specs.FinMap as finite
 use Rattle.std.specs.List.{fold, list_all}
-use Rattle.std.specs.Option.{ok_or}
 use Rattle.std.specs.Ordering.{nat_cmp}
-use Rattle.ruby_value.specs.declared.asked.Answer.{Answer}
-use Rattle.ruby_value.specs.declared.asked.Asked.{Asked}
 use Rattle.ruby_value.specs.declared.fault.Fault.{Fault}
-use Rattle.ruby_value.specs.declared.fault.Fault.TheVariants.{Absent, Callback, Copies, Front, Full, Invalid, Latency, Present, Probe, Reference, Route}
+use Rattle.ruby_value.specs.declared.fault.Fault.TheVariants.{Absent, Copies, Full, Invalid, Latency, Present, Route}
 use Rattle.ruby_value.specs.declared.message.Message.{Message}
 use Rattle.ruby_value.specs.declared.message.MsgNo.{MsgNo}
 use Rattle.ruby_value.specs.declared.setup.BufferPlace.{BufferPlace}
@@ -26,15 +23,18 @@ use Rattle.ruby_value.specs.NumberBefore.{same_number}
 use Rattle.ruby_value.specs.SetOf.{set_of}
 use Rattle.ruby_value.specs.WithoutLine.{without_line}
 use Rattle.ruby_value.specs.WithSet.{with_set}
-use Rattle.ctl_face.specs.Acts.{Acts, note_of}
+use Rattle.ctl_face.specs.Acts.{Acts}
 use Rattle.ctl_face.specs.Again.{again}
 use Rattle.ctl_face.specs.Allocate.{allocate, with_line}
 use Rattle.ctl_face.specs.AtFront.{after_front, at_front}
-use Rattle.ctl_face.specs.Callback.{after_answer, finish_read, finish_write, is_store, read_back, request_for, stored_block, with_finished, write_back}
-use Rattle.ctl_face.specs.Ctl.{Ctl, InboxMessage, Mail, Requests}
+use Rattle.ctl_face.specs.Callback.{after_callback, called_back, read_back, write_back}
+use Rattle.ruby_value.specs.declared.asked.BackFault.{BackFault}
+use Rattle.ruby_value.specs.Callback as callback
+use Rattle.ctl_face.specs.Ctl.{InboxMessage, Mail}
+use Rattle.ruby_value.specs.Requests.{Requests}
 use Rattle.ctl_face.specs.Deallocate.{deallocate, without_line_in}
-use Rattle.ctl_face.specs.Enqueue.{after_sending, enqueue, for_others}
-use Rattle.ctl_face.specs.FieldsIn.{fields_in, with_fields_in}
+use Rattle.ctl_face.specs.Enqueue.{after_sending, enqueue}
+use Rattle.ctl_face.specs.FieldsIn.{fields_in}
 use Rattle.ctl_face.specs.Latency.{is_latency}
 use Rattle.ctl_face.specs.LocalView.{Actor, LocalView, SameScan}
 use Rattle.ctl_face.specs.OfMachine.{initial_fields}
@@ -49,9 +49,9 @@ use Rattle.ctl_face.specs.State.{set_state}
 use Rattle.ctl_face.specs.Table.{Table, CacheTable, DirectoryTable, TbeTable, ParameterTable}
 use Rattle.ctl_face.specs.Tables.{after_change, change_if_there, changed_table, table_at}
 use Rattle.ctl_face.specs.Touch.{touch, used_line}
-use Rattle.ctl_face.specs.Wake.{is_under, message_waiting_no_longer, wake, wake_all, with_woken}
+use Rattle.ctl_face.specs.Wake.{message_waiting_no_longer, with_woken}
 use Rattle.ctl_face.proofs.Arrivals.{positive}
-use Rattle.act_laws.specs.Kept.{AreMarked, IsMarked, KeepsMarks, MarksStay}
+use Rattle.act_laws.specs.Kept.{AreMarked, CountsStay, IsMarked, KeepsMarks, MarksStay}
 use Rattle.act_laws.proofs.Marks.{has_itself, marked_map, marked_put, marked_with, marked_without, marks_kept, marks_with, sent_is}
 
 -- a fault that isn't `invalid`, if it is one
@@ -61,6 +61,7 @@ NotInvalid (Err f) = ¬ (f ≡ Invalid)
 
 pub record Changes (v w : LocalView) : Type 0 where
   pub scan : SameScan v w
+  pub counts : CountsStay v w
   pub marks : MarksStay v w
   pub marked : IsMarked v → IsMarked w
 
@@ -74,13 +75,14 @@ module _ (v : LocalView) where
       → Changes v (record v { ctl = record v.ctl { tables = tables; states = states; sequencer = sequencer } })
   elsewhere tables states sequencer = record {
     scan = record { machine = refl; actor = refl; now = refl; start = refl };
+    counts = record { fired = refl; stopped = refl };
     marks = marks_kept v.ctl.mail.marks v.now;
     marked = λ is. record { arrivals = is.arrivals; next = is.next };
   }
 
   mails : (mail : Mail) (acts : Acts) → MarksStay v (record v { ctl = record v.ctl { mail = mail }; acts = acts })
       → (IsMarked v → IsMarked (record v { ctl = record v.ctl { mail = mail }; acts = acts })) → Changes v (record v { ctl = record v.ctl { mail = mail }; acts = acts })
-  mails mail acts stay marked = record { scan = record { machine = refl; actor = refl; now = refl; start = refl }; marks = stay; marked = marked }
+  mails mail acts stay marked = record { scan = record { machine = refl; actor = refl; now = refl; start = refl }; counts = record { fired = refl; stopped = refl }; marks = stay; marked = marked }
 
   -- on tables
   after_table : (table : ℕ) (r : Result Table Fault) → NotInvalid r → Effect v (after_change v table r)
@@ -141,28 +143,19 @@ module _ (v : LocalView) where
   set_state_effect line new = elsewhere v.ctl.tables (finite.insert v.ctl.states line new) v.ctl.sequencer
 
   -- on requests
-  answer_effect : (line : ℕ) (asked : Asked) (block : Block) → Changes v (after_answer v line asked block)
-  answer_effect line asked block = go v.ctl.sequencer
+  call_effect : (call : Requests → Result Requests BackFault) (requests : Option Requests) → Effect v (called_back v call requests)
+  call_effect call None = λ is. cc is
+  call_effect call (Some r) = go (call r)
     where
-      go : (requests : Option Requests) → Changes v (with_finished v line (record { asked = asked; block = block }) requests)
-      go None = elsewhere v.ctl.tables v.ctl.states v.ctl.sequencer
-      go (Some r) = elsewhere v.ctl.tables v.ctl.states _
+      go : (o : Result Requests BackFault) → Effect v (after_callback v o)
+      go (Ok after) = elsewhere v.ctl.tables v.ctl.states (Some after)
+      go (Err fault) = λ is. cc is
 
   pub read_effect : (line : ℕ) (block : Block) → Effect v (read_back v line block)
-  read_effect line block = go (request_for v line)
-    where
-      go : (o : Option Asked) → Effect v (finish_read v line block o)
-      go None = λ is. cc is
-      go (Some asked) = cond_both (is_store asked.kind) (Err Callback) (Ok (after_answer v line asked block)) (Effect v) (λ _ is. cc is) (λ _. answer_effect line asked block)
+  read_effect line block = call_effect (λ r. callback.read_back r line block) v.ctl.sequencer
 
   pub write_effect : (line : ℕ) (block : Block) → Effect v (write_back v line block)
-  write_effect line block = go (request_for v line)
-    where
-      go : (o : Option Asked) → Effect v (finish_write v line block o)
-      go None = λ is. cc is
-      go (Some asked) =
-          let stored = stored_block asked block in
-          cond_both (is_store asked.kind) (Ok (after_answer v line asked stored)) (Err Callback) (Effect v) (λ _. answer_effect line asked stored) (λ _ is. cc is)
+  write_effect line block = call_effect (λ r. callback.write_back r line block) v.ctl.sequencer
 
   -- on messages
   front_effect : (told : MsgNo → Acts) (change : Message → Mail) (o : Option Message) → ((m : Message) → Changes v (record v { ctl = record v.ctl { mail = change m }; acts = told m.number }))
@@ -252,6 +245,7 @@ send_effect v buffer latency fields = go (send v.machine v.actor v.ctl.mail buff
         v.machine v.actor v.ctl.mail buffer latency fields s sent (marks_kept v.ctl.mail.marks v.now) in
         record {
           scan = record { machine = refl; actor = refl; now = refl; start = refl };
+          counts = record { fired = refl; stopped = refl };
           marks = kept;
           marked = λ is. record {
             arrivals = sent_is v.now (λ inbox marks. AreMarked v.now marks inbox) (λ inbox marks m later here. marked_put v.now marks inbox m here) v.machine v.actor v.ctl.mail buffer latency fields s sent is.arrivals;

@@ -1,5 +1,5 @@
 -- What comes later is nothing to each act, and so to each body.
-use Rattle.std.proofs.Common.{◌≡◌, ◌+◌, ◌<◌, ◌∷◌, ℕ, zero, suc, Bool, true, false, cond, List, [], map, Option, None, Some, Result, Ok, Err, All, IsTrue, refl, sym, subst, ap, ◌∙◌, arith, is_some, length}
+use Rattle.std.proofs.Common.{◌≡◌, ◌+◌, ◌∷◌, ℕ, Bool, true, false, cond, List, [], map, Option, Result, Ok, Err, All, refl, sym, subst, ap, ◌∙◌, arith, is_some, length}
 use Rattle.std.specs.List.{AllPairs}
 use Rattle.std.specs.Prelude.{count_by}
 use Rattle.std.proofs.lemmas.List.Elements.{All-cons, All-head, All-map, All-nil, All-tail, All-weaker}
@@ -12,7 +12,7 @@ use Rattle.ruby_value.specs.declared.message.Message.{Message}
 use Rattle.ruby_value.specs.declared.message.MsgNo.{MsgNo}
 use Rattle.ruby_value.specs.NumberBefore.{number_before, same_number}
 use Rattle.ruby_value.specs.Ascending.{with_mark}
-use Rattle.ctl_face.specs.Acts.{Note}
+use Rattle.ruby_value.specs.declared.message.Sent.{Sent}
 use Rattle.ctl_face.specs.Allocate.{allocate, with_line}
 use Rattle.ctl_face.specs.Avail.{probe}
 use Rattle.ctl_face.specs.Callback.{block_after_write, read_back, write_back}
@@ -30,13 +30,13 @@ use Rattle.ctl_face.specs.OfMachine.{initial_fields}
 use Rattle.ctl_face.specs.Pop.{pop}
 use Rattle.ctl_face.specs.Ready.{required_front}
 use Rattle.ctl_face.specs.Recycle.{recycle}
-use Rattle.ctl_face.specs.SendAdds.{numbers_from}
+use Rattle.ruby_value.specs.NumbersFrom.{numbers_from}
 use Rattle.ctl_face.specs.Set.{set as set_field, table_with_field}
 use Rattle.ctl_face.specs.Stall.{stall}
 use Rattle.ctl_face.specs.Touch.{touch, used_line}
 use Rattle.ctl_face.specs.Wake.{is_under}
 use Rattle.ctl_face.proofs.Inboxes.{ascend-with}
-use Rattle.acts.specs.Act.{Act, Now, Me, Get, Set, Lookup, Avail, Probe, Allocate, Deallocate, Touch, Free, Ready, Front, Pop, Stall, Wake, WakeAll, Recycle, Send, ReadBack, WriteBack, State, SetState, Again, answer}
+use Rattle.acts.specs.Act.{Act, Now, Me, Get, Set, Lookup, Avail, Probe, Allocate, Deallocate, Touch, Free, Ready, Front, Pop, Stall, Wake, WakeAll, Recycle, Send, ReadBack, WriteBack, State, SetState, Again}
 use Rattle.acts.specs.Acting.{Acting, run}
 use Rattle.acts.specs.After.{Agrees, HoldsAfter}
 use Rattle.acts.specs.Done.{Done, changes, does_served, reads}
@@ -47,7 +47,7 @@ use Rattle.act_laws.proofs.Frames.{Passes, after_done, again_moved, changes_move
 use Rattle.act_laws.proofs.Later.{mark_passes, message_passes, not_same, same_is_not}
 use Rattle.act_laws.proofs.Lawful.{lawful_act}
 use Rattle.act_laws.proofs.Mail.{all_from_map, all_of_sender}
-use Rattle.act_laws.proofs.Scans.{DoneEffect, act_effect, same_scan}
+use Rattle.act_laws.proofs.Scans.{DoneEffect, act_effect}
 
 abbrev needed : Option Message → Result Message Fault
 needed o = ok_or o NoFront
@@ -162,7 +162,7 @@ new_now v l m new =
     none_counted f (map number v.start.mail.inbox)
     (All-map (λ n. f n ≡ false) number v.start.mail.inbox
     (All-weaker (λ (o : InboxMessage). ¬ (o.message.number ≡ m.number)) (λ (o : InboxMessage). f (number o) ≡ false) (λ o differ. not_same o.message.number m.number differ) v.start.mail.inbox new.unknown)) in
-    let sent : count_by f (map (λ (n : Note). n.number) v.acts.sent) ≡ 0 =
+    let sent : count_by f (map (λ (n : Sent). n.number) v.acts.sent) ≡ 0 =
     ap (count_by f) l.acts.0.numbers
     ∙ none_counted f (numbers_from v.actor.me v.start.mail.sent (length v.acts.sent))
     (All-weaker (λ (n : MsgNo). n.sender ≡ v.actor.me) (λ n. f n ≡ false) (λ n own. not_same n m.number (λ same. new.other (sym (ap (λ (k : MsgNo). k.sender) same) ∙ own)))

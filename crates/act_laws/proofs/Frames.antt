@@ -1,48 +1,40 @@
 -- What is added to a controller's inbox and marks, and no act of a scan sees: each act does the same, with the addition.
-use Rattle.std.proofs.Common.{◌≡◌, ◌+◌, ◌++◌, ◌==◌, ℕ, ℤ, Bool, true, false, cond, not, List, [], ◌∷◌, map, filter, Option, None, Some, Result, Ok, Err, Contains, nat_abs, nat_lt, refl, sym, subst, ap, ◌∙◌, slice_get, is_some, length, unwrap_or}
+use Rattle.std.proofs.Common.{◌≡◌, ◌+◌, ◌++◌, ◌==◌, ℕ, ℤ, Bool, true, false, cond, not, List, [], ◌∷◌, map, filter, Option, None, Some, Result, Ok, Err, Contains, nat_abs, nat_lt, refl, subst, ap, ◌∙◌, slice_get, is_some, length, unwrap_or}
 use Rattle.std.specs.List.{fold, list_all}
 use Rattle.std.specs.Option.{option_map}
-use Rattle.ruby_value.specs.declared.asked.Answer.{Answer}
-use Rattle.ruby_value.specs.declared.asked.Asked.{Asked}
 use Rattle.ruby_value.specs.declared.fault.Fault.{Fault}
-use Rattle.ruby_value.specs.declared.fault.Fault.TheVariants.{Callback, Copies, Latency, Route}
+use Rattle.ruby_value.specs.declared.fault.Fault.TheVariants.{Copies, Latency, Route}
 use Rattle.ruby_value.specs.declared.message.Message.{Message}
 use Rattle.ruby_value.specs.declared.message.MsgNo.{MsgNo}
 use Rattle.ruby_value.specs.declared.setup.BufferPlace.{BufferPlace}
 use Rattle.ruby_value.specs.declared.setup.BufferPlace.TheVariants as place
 use Rattle.ruby_value.specs.declared.setup.BufferSetup.{BufferSetup}
-use Rattle.ruby_value.specs.declared.setup.MachineSetup.{MachineSetup}
 use Rattle.ruby_value.specs.declared.value.Block.{Block}
-use Rattle.ruby_value.specs.declared.value.Ref.{Ref}
 use Rattle.ruby_value.specs.declared.value.Value.{Value}
 use Rattle.ruby_value.specs.Ascending.{with_mark}
 use Rattle.ruby_value.specs.Front as general
-use Rattle.ctl_face.specs.Acts.{Acts, Copy, note_of}
+use Rattle.ctl_face.specs.Acts.{Acts}
 use Rattle.ctl_face.specs.Again.{again}
-use Rattle.ctl_face.specs.Allocate.{allocate, with_line}
 use Rattle.ctl_face.specs.AtFront.{after_front, at_front}
-use Rattle.ctl_face.specs.Callback.{after_answer, finish_read, finish_write, is_store, read_back, request_for, stored_block, with_finished, write_back}
-use Rattle.ctl_face.specs.Ctl.{Ctl, InboxMessage, Mail, Requests}
-use Rattle.ctl_face.specs.Deallocate.{deallocate, without_line_in}
-use Rattle.ctl_face.specs.Enqueue.{after_sending, enqueue, for_others}
-use Rattle.ctl_face.specs.FieldsIn.{fields_in}
+use Rattle.ctl_face.specs.Callback.{after_callback, called_back, read_back, write_back}
+use Rattle.ruby_value.specs.declared.asked.BackFault.{BackFault}
+use Rattle.ruby_value.specs.Callback as callback
+use Rattle.ctl_face.specs.Ctl.{InboxMessage, Mail}
+use Rattle.ruby_value.specs.Requests.{Requests}
+use Rattle.ctl_face.specs.Enqueue.{after_sending, enqueue}
 use Rattle.ctl_face.specs.Front.{IsFront, is_ready}
 use Rattle.ctl_face.specs.Inbox.{changed_message, with_message, without_message}
 use Rattle.ctl_face.specs.Latency.{is_latency}
-use Rattle.ctl_face.specs.LocalView.{Actor, LocalView}
+use Rattle.ctl_face.specs.LocalView.{LocalView}
 use Rattle.ctl_face.specs.Mailing.{incoming_message, mail_with_delivery}
-use Rattle.ctl_face.specs.OfMachine.{initial_fields}
 use Rattle.ctl_face.specs.Pop.{mail_without, pop}
 use Rattle.ctl_face.specs.Ready.{front_now}
 use Rattle.ctl_face.specs.Recycle.{mail_with_recycled, message_arriving_again, recycle}
 use Rattle.ctl_face.specs.Routing.{receiving_buffer}
-use Rattle.ctl_face.specs.Send.{Sending, after_network_copy, copy_limit, local_arrival, local_copy, network_arrival, network_copies, next_copy, no_copies, receivers_of, send, sending_from, sending_on, with_network_copy}
-use Rattle.ctl_face.specs.Set.{set as set_field, table_with_field}
+use Rattle.ctl_face.specs.Send.{Sending, after_network_copy, copy_limit, local_arrival, local_copy, network_arrival, next_copy, no_copies, receivers_of, send, sending_from, sending_on, with_network_copy}
 use Rattle.ctl_face.specs.Stall.{mail_with_waiting, message_waiting_under, stall}
-use Rattle.ctl_face.specs.State.{set_state}
 use Rattle.ctl_face.specs.Table.{Table}
 use Rattle.ctl_face.specs.Tables.{after_change, change_if_there, changed_table, table_at}
-use Rattle.ctl_face.specs.Touch.{touch, used_line}
 use Rattle.ctl_face.specs.Wake.{message_waiting_no_longer, with_woken}
 use Rattle.ctl_face.proofs.Fronts.{front_first}
 use Rattle.ctl_face.proofs.Inboxes.{KeepsNumber}
@@ -99,34 +91,19 @@ module _ (f : List InboxMessage → List InboxMessage) (g : List ℕ → List �
       go (Some t) = after_table table (change t)
 
   -- on requests
-  answer_moved : (line : ℕ) (asked : Asked) (block : Block) → after_answer (moved f g v) line asked block ≡ moved f g (after_answer v line asked block)
-  answer_moved line asked block = go v.ctl.sequencer
+  call_moved : (call : Requests → Result Requests BackFault) (requests : Option Requests) → called_back (moved f g v) call requests ≡ after_view (moved f g) (called_back v call requests)
+  call_moved call None = refl
+  call_moved call (Some r) = go (call r)
     where
-      go : (requests : Option Requests) → with_finished (moved f g v) line (record { asked = asked; block = block }) requests ≡ moved f g (with_finished v line (record { asked = asked; block = block }) requests)
-      go None = refl
-      go (Some r) = refl
+      go : (o : Result Requests BackFault) → after_callback (moved f g v) o ≡ after_view (moved f g) (after_callback v o)
+      go (Ok after) = refl
+      go (Err fault) = refl
 
   pub read_moved : (line : ℕ) (block : Block) → read_back (moved f g v) line block ≡ after_view (moved f g) (read_back v line block)
-  read_moved line block = go (request_for v line)
-    where
-      by : (asked : Asked) (b : Bool) → cond b (Err Callback) (Ok (after_answer (moved f g v) line asked block)) ≡ after_view (moved f g) (cond b (Err Callback) (Ok (after_answer v line asked block)))
-      by asked true = refl
-      by asked false = ap (λ (w : LocalView). Ok w) (answer_moved line asked block)
-
-      go : (o : Option Asked) → finish_read (moved f g v) line block o ≡ after_view (moved f g) (finish_read v line block o)
-      go None = refl
-      go (Some asked) = by asked (is_store asked.kind)
+  read_moved line block = call_moved (λ r. callback.read_back r line block) v.ctl.sequencer
 
   pub write_moved : (line : ℕ) (block : Block) → write_back (moved f g v) line block ≡ after_view (moved f g) (write_back v line block)
-  write_moved line block = go (request_for v line)
-    where
-      by : (asked : Asked) (b : Bool) → cond b (Ok (after_answer (moved f g v) line asked (stored_block asked block))) (Err Callback) ≡ after_view (moved f g) (cond b (Ok (after_answer v line asked (stored_block asked block))) (Err Callback))
-      by asked true = ap (λ (w : LocalView). Ok w) (answer_moved line asked (stored_block asked block))
-      by asked false = refl
-
-      go : (o : Option Asked) → finish_write (moved f g v) line block o ≡ after_view (moved f g) (finish_write v line block o)
-      go None = refl
-      go (Some asked) = by asked (is_store asked.kind)
+  write_moved line block = call_moved (λ r. callback.write_back r line block) v.ctl.sequencer
 
   module _ (passes : Passes v.actor.me v.now f g v.ctl.mail.inbox) where
     -- on the front

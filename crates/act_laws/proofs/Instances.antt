@@ -12,7 +12,7 @@ use Rattle.acts.specs.Acting.{Acting, run}
 use Rattle.acts.specs.After.{HoldsAfter}
 use Rattle.acts.specs.Done.{Done}
 use Rattle.acts.proofs.Laws.{all_keeps, keeps_where_served}
-use Rattle.act_laws.specs.Kept.{IsMarked, MarksStay}
+use Rattle.act_laws.specs.Kept.{CountsStay, IsMarked, MarksStay}
 use Rattle.act_laws.specs.Mailed.{HasMailed}
 use Rattle.act_laws.proofs.Effects.{Changes}
 use Rattle.act_laws.proofs.Lawful.{lawful_act}
@@ -25,6 +25,9 @@ module _ {A : Type 0} (p : Acting A) (v : LocalView) where
 
   pub stays_in_scan : HoldsAfter (SameScan v) (run p v)
   stays_in_scan = weaker_after (Changes v) (SameScan v) (λ w is. is.scan) (run p v) (body_effect p v)
+
+  pub counts_stay : HoldsAfter (CountsStay v) (run p v)
+  counts_stay = weaker_after (Changes v) (CountsStay v) (λ w is. is.counts) (run p v) (body_effect p v)
 
   pub marks_stay : HoldsAfter (MarksStay v) (run p v)
   marks_stay = weaker_after (Changes v) (MarksStay v) (λ w is. is.marks) (run p v) (body_effect p v)

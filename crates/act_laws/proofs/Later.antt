@@ -1,5 +1,5 @@
 -- A later message of another actor, and a mark, are such additions.
-use Rattle.std.proofs.Common.{◌≡◌, ◌<◌, ◌⊎◌, ◌&&◌, ◌==◌, ⊎_elim, inl, inr, ℕ, Bool, true, false, cond, not, List, [], ◌∷◌, map, filter, All, Contains, Option, None, Some, IsTrue, refl, sym, subst, ap, ◌∙◌, arith, nat_le, nat_lt, is_none}
+use Rattle.std.proofs.Common.{◌≡◌, ◌<◌, ◌⊎◌, ◌&&◌, ◌==◌, ⊎_elim, ℕ, Bool, true, false, cond, not, List, All, Contains, refl, sym, subst, ap, ◌∙◌, arith, nat_le, nat_lt}
 use Rattle.std.proofs.lemmas.Bool.Decides.{nat_tests}
 use Rattle.std.proofs.lemmas.List.Elements.{All-contains, All-weaker}
 use Rattle.ruby_value.specs.declared.message.Message.{Message}
@@ -9,7 +9,7 @@ use Rattle.ruby_value.specs.NumberBefore.{number_before, same_number}
 use Rattle.ctl_face.specs.Ctl.{InboxMessage}
 use Rattle.ctl_face.specs.Fits.{NumbersAscend}
 use Rattle.ctl_face.specs.Front.{is_ready}
-use Rattle.ctl_face.specs.Inbox.{changed_message, with_message, without_message}
+use Rattle.ctl_face.specs.Inbox.{with_message}
 use Rattle.ctl_face.specs.Mailing.{incoming_message}
 use Rattle.ctl_face.specs.Wake.{message_waiting_no_longer}
 use Rattle.ctl_face.proofs.Inboxes.{KeepsNumber, number_before_trans}

@@ -1,19 +1,19 @@
 -- A lawful local stays lawful with each act that its machine serves.
-use Rattle.std.proofs.Common.{◌≡◌, ℕ, Bool, true, List, Option, None, Some, Result, Ok, Err, IsSomeAnd, IsTrue, refl, subst, slice_get}
+use Rattle.std.proofs.Common.{◌≡◌, ℕ, true, Option, None, Some, Result, Ok, Err, IsSomeAnd, IsTrue, refl, slice_get}
 use Rattle.std.proofs.lemmas.Bool.{and_parts, ltb-true}
 use Rattle.ruby_value.specs.declared.fault.Fault.{Fault}
 use Rattle.ruby_value.specs.declared.kind.Kind.{Kind}
 use Rattle.ruby_value.specs.declared.value.Value.{Value}
 use Rattle.ruby_value.specs.HasKind.{has_kind}
 use Rattle.ruby_value.specs.HasKinds.{has_kinds}
-use Rattle.ctl_face.specs.Again.{again}
 use Rattle.ctl_face.specs.Allocate.{allocate, with_line}
 use Rattle.ctl_face.specs.Avail.{probe}
 use Rattle.ctl_face.specs.Callback.{block_after_write, read_back, write_back}
 use Rattle.ctl_face.specs.Deallocate.{deallocate, without_line_in}
 use Rattle.ctl_face.specs.Enqueue.{enqueue}
 use Rattle.ctl_face.specs.FieldsIn.{fields_in}
-use Rattle.ctl_face.specs.Fits.{IsLawful, IsLine, line_limit}
+use Rattle.ctl_face.specs.Fits.{IsLawful}
+use Rattle.ruby_value.specs.Lines.{IsLine, line_limit}
 use Rattle.ctl_face.specs.Get.{get}
 use Rattle.ctl_face.specs.LocalView.{LocalView}
 use Rattle.ctl_face.specs.Lookup.{reference_to}
@@ -21,22 +21,20 @@ use Rattle.ctl_face.specs.OfMachine.{buffer_place, field_kinds, initial_fields, 
 use Rattle.ctl_face.specs.Pop.{pop}
 use Rattle.ctl_face.specs.Ready.{required_front}
 use Rattle.ctl_face.specs.Recycle.{recycle}
-use Rattle.ctl_face.specs.Served.{deallocates, is_cache, looks_up, receives, sends}
+use Rattle.ctl_face.specs.Served.{looks_up, receives, sends}
 use Rattle.ctl_face.specs.Set.{set as set_field, table_with_field}
 use Rattle.ctl_face.specs.Stall.{stall}
-use Rattle.ctl_face.specs.State.{set_state}
 use Rattle.ctl_face.specs.Touch.{touch, used_line}
-use Rattle.ctl_face.specs.Wake.{wake, wake_all}
 use Rattle.ctl_face.proofs.ActsKept.{changed_acts, enqueue_acts, pop_acts, read_acts, recycle_acts, stall_acts, wake_acts, write_acts}
 use Rattle.ctl_face.proofs.Callbacks.{read_back_keeps, set_state_keeps, write_back_keeps}
 use Rattle.ctl_face.proofs.LawfulAfter.{lawful_after, own_below}
 use Rattle.ctl_face.proofs.MailKept.{again_keeps, pop_keeps, recycle_keeps, stall_keeps, wake_all_keeps, wake_keeps}
 use Rattle.ctl_face.proofs.Sendings.{enqueue_keeps}
 use Rattle.ctl_face.proofs.TableCalls.{allocate_keeps, deallocate_keeps, set_keeps, touch_keeps}
-use Rattle.acts.specs.Act.{Act, Now, Me, Get, Set, Lookup, Avail, Probe, Allocate, Deallocate, Touch, Free, Ready, Front, Pop, Stall, Wake, WakeAll, Recycle, Send, ReadBack, WriteBack, State, SetState, Again, answer}
+use Rattle.acts.specs.Act.{Act, Now, Me, Get, Set, Lookup, Avail, Probe, Allocate, Deallocate, Touch, Free, Ready, Front, Pop, Stall, Wake, WakeAll, Recycle, Send, ReadBack, WriteBack, State, SetState, Again}
 use Rattle.acts.specs.After.{HoldsAfter}
 use Rattle.acts.specs.Done.{changes, does_served, reads}
-use Rattle.acts.specs.Serves.{has_field, is_line, serves, takes, takes_field}
+use Rattle.acts.specs.Serves.{is_line, serves, takes, takes_field}
 
 pub line_is : (line : ℕ) → is_line line ≡ true → IsLine line
 line_is line is = ltb-true line line_limit is

@@ -1,14 +1,14 @@
 -- What a lawful local tells of its messages.
-use Rattle.std.proofs.Common.{◌≡◌, ◌<◌, ◌+◌, ℕ, zero, suc, Bool, true, false, cond, eqb, not, List, [], ◌∷◌, map, filter, length, All, refl, sym, subst, ap, ◌∙◌, arith}
-use Rattle.std.proofs.lemmas.Bool.{eqb-true, eq-eqb}
+use Rattle.std.proofs.Common.{◌≡◌, ◌<◌, ◌+◌, ℕ, zero, suc, Bool, true, false, cond, eqb, not, List, [], ◌∷◌, map, filter, length, All, refl, sym, subst}
+use Rattle.std.proofs.lemmas.Bool.{eq-eqb}
 use Rattle.std.proofs.lemmas.List.Elements.{All-cons, All-filter, All-head, All-nil, All-tail}
 use Rattle.ruby_value.specs.declared.message.MsgNo.{MsgNo}
-use Rattle.ctl_face.specs.Acts.{Acts, Copy, Note, note_of}
-use Rattle.ctl_face.specs.ActsFit.{IsRouted, SentFits}
+use Rattle.ctl_face.specs.Acts.{sent_of}
+use Rattle.ruby_value.specs.declared.message.Sent.{Sent}
 use Rattle.ctl_face.specs.Fits.{IsLawful}
-use Rattle.ctl_face.specs.LocalView.{Actor, LocalView}
-use Rattle.ctl_face.specs.SendAdds.{numbers_from}
-use Rattle.act_laws.specs.Mailed.{HasMailed, IsPosted, MovesMail}
+use Rattle.ctl_face.specs.LocalView.{LocalView}
+use Rattle.ruby_value.specs.NumbersFrom.{numbers_from}
+use Rattle.act_laws.specs.Mailed.{HasMailed, IsPosted}
 
 -- of a list whose map has P each has it
 module _ {X Y : Type 0} (P : Y → Type 0) (f : X → Y) where
@@ -44,21 +44,21 @@ module _ (v : LocalView) (l : IsLawful v) where
     posted = posted;
   }
     where
-      sent : All (λ (n : Note). (n.number.sender ≡ v.actor.me) × (v.now < n.arrival)) v.acts.sent
+      sent : All (λ (n : Sent). (n.number.sender ≡ v.actor.me) × (v.now < n.arrival)) v.acts.sent
       sent =
-          all_both (λ (n : Note). n.number.sender ≡ v.actor.me) (λ (n : Note). v.now < n.arrival) v.acts.sent
-          (all_from_map (λ (number : MsgNo). number.sender ≡ v.actor.me) (λ (n : Note). n.number) v.acts.sent
+          all_both (λ (n : Sent). n.number.sender ≡ v.actor.me) (λ (n : Sent). v.now < n.arrival) v.acts.sent
+          (all_from_map (λ (number : MsgNo). number.sender ≡ v.actor.me) (λ (n : Sent). n.number) v.acts.sent
           (subst (All (λ (number : MsgNo). number.sender ≡ v.actor.me)) (sym l.acts.0.numbers) (all_of_sender v.actor.me v.start.mail.sent (length v.acts.sent))))
           l.acts.0.arrivals
 
-      notes : All (λ (n : Note). ((n.number.sender ≡ v.actor.me) × (v.now < n.arrival)) × (not (eqb n.receiver v.actor.me) ≡ true)) (filter (λ (n : Note). not (eqb n.receiver v.actor.me)) v.acts.sent)
+      notes : All (λ (n : Sent). ((n.number.sender ≡ v.actor.me) × (v.now < n.arrival)) × (not (eqb n.receiver v.actor.me) ≡ true)) (filter (λ (n : Sent). not (eqb n.receiver v.actor.me)) v.acts.sent)
       notes =
-          all_both (λ (n : Note). (n.number.sender ≡ v.actor.me) × (v.now < n.arrival)) (λ (n : Note). not (eqb n.receiver v.actor.me) ≡ true) (filter (λ (n : Note). not (eqb n.receiver v.actor.me)) v.acts.sent)
-          (All-filter (λ (n : Note). not (eqb n.receiver v.actor.me)) (λ (n : Note). (n.number.sender ≡ v.actor.me) × (v.now < n.arrival)) v.acts.sent sent) (all_tested (λ (n : Note). not (eqb n.receiver v.actor.me)) v.acts.sent)
+          all_both (λ (n : Sent). (n.number.sender ≡ v.actor.me) × (v.now < n.arrival)) (λ (n : Sent). not (eqb n.receiver v.actor.me) ≡ true) (filter (λ (n : Sent). not (eqb n.receiver v.actor.me)) v.acts.sent)
+          (All-filter (λ (n : Sent). not (eqb n.receiver v.actor.me)) (λ (n : Sent). (n.number.sender ≡ v.actor.me) × (v.now < n.arrival)) v.acts.sent sent) (all_tested (λ (n : Sent). not (eqb n.receiver v.actor.me)) v.acts.sent)
 
       posted : All (IsPosted v.actor.me v.now) v.acts.posted
       posted =
-          let of_copies = all_from_map (λ (n : Note). ((n.number.sender ≡ v.actor.me) × (v.now < n.arrival)) × (not (eqb n.receiver v.actor.me) ≡ true)) note_of v.acts.posted (subst (All (λ (n : Note). ((n.number.sender ≡ v.actor.me) × (v.now < n.arrival)) × (not (eqb n.receiver v.actor.me) ≡ true))) (sym l.acts.0.for_others) notes) in
+          let of_copies = all_from_map (λ (n : Sent). ((n.number.sender ≡ v.actor.me) × (v.now < n.arrival)) × (not (eqb n.receiver v.actor.me) ≡ true)) sent_of v.acts.posted (subst (All (λ (n : Sent). ((n.number.sender ≡ v.actor.me) × (v.now < n.arrival)) × (not (eqb n.receiver v.actor.me) ≡ true))) (sym l.acts.0.for_others) notes) in
           λ k d within.
           let c = of_copies k d within in
           let routed = l.acts.0.routed k d within in

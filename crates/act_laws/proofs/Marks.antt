@@ -1,5 +1,5 @@
 -- What acts on mail do to marks, and that what arrives later is marked.
-use Rattle.std.proofs.Common.{◌≡◌, ◌<◌, ◌≤◌, ◌+◌, ◌⊎◌, ◌∙◌, ◌==◌, inl, inr, ⊎_elim, ℕ, ℤ, Bool, true, false, cond, not, List, [], ◌∷◌, map, filter, Option, None, Some, Result, Ok, Err, IsTrue, All, nat_abs, refl, sym, subst, arith, is_some, length, slice_get, unwrap_or, nat_lt}
+use Rattle.std.proofs.Common.{◌≡◌, ◌<◌, ◌≤◌, ◌+◌, ◌∙◌, ◌==◌, inl, inr, ⊎_elim, ℕ, ℤ, Bool, true, false, cond, not, List, [], ◌∷◌, map, Option, None, Some, Ok, Err, IsTrue, nat_abs, refl, sym, arith, is_some, length, slice_get, unwrap_or, nat_lt}
 use Rattle.std.proofs.lemmas.Bool.{cond_both}
 use Rattle.std.proofs.lemmas.List.Elements.{All-filter, All-map, All-weaker}
 use Rattle.std.specs.List.{fold, list_all}
@@ -20,7 +20,6 @@ use Rattle.ctl_face.specs.Lasts.{last_at}
 use Rattle.ctl_face.specs.Latency.{is_latency}
 use Rattle.ctl_face.specs.LocalView.{Actor}
 use Rattle.ctl_face.specs.Mailing.{incoming_message, mail_with_delivery}
-use Rattle.ctl_face.specs.Recycle.{mail_with_recycled, message_arriving_again}
 use Rattle.ctl_face.specs.Routing.{receiving_buffer}
 use Rattle.ctl_face.specs.Send.{Sending, copy_limit, local_arrival, local_copy, network_arrival, next_copy, no_copies, receivers_of, send, sending_from, sending_on, with_network_copy}
 use Rattle.ctl_face.proofs.Arrivals.{copy_later, positive, raised}

@@ -1,17 +1,14 @@
 -- Each act stays in the scan, keeps marks, and never ends as `invalid`; so does each body.
-use Rattle.std.proofs.Common.{◌≡◌, ◌≤◌, ℕ, Bool, true, false, List, Option, None, Some, Result, Ok, Err, IsTrue, refl, sym, subst, ◌∙◌, slice_get}
+use Rattle.std.proofs.Common.{◌≡◌, ◌≤◌, ℕ, Option, None, Some, Result, Ok, Err, refl, sym, subst, ◌∙◌, slice_get}
 use Rattle.std.proofs.lemmas.Bool.{cond_both}
 use Rattle.std.specs.Option.{ok_or, option_and_then}
 use Rattle.ruby_value.specs.declared.fault.Fault.{Fault}
 use Rattle.ruby_value.specs.declared.fault.Fault.TheVariants.{Front as NoFront, Invalid, Probe as NoProbe, Reference}
-use Rattle.ruby_value.specs.Ascending.{has_mark}
 use Rattle.ctl_face.specs.Avail.{avail, least_used_in, probe}
 use Rattle.ctl_face.specs.Get.{fields_behind, get}
 use Rattle.ctl_face.specs.LocalView.{LocalView, SameScan}
 use Rattle.ctl_face.specs.Ready.{front_now}
 use Rattle.ctl_face.specs.Tables.{table_at}
-use Rattle.ctl_face.specs.Wake.{is_under}
-use Rattle.ctl_face.specs.Ctl.{InboxMessage}
 use Rattle.ctl_face.specs.Allocate.{allocate}
 use Rattle.ctl_face.specs.Callback.{block_after_write, read_back, write_back}
 use Rattle.ctl_face.specs.Deallocate.{deallocate}
@@ -29,8 +26,7 @@ use Rattle.acts.specs.Acting.{Acting, ends, stops, acts, fault_of, follow, run}
 use Rattle.acts.specs.After.{HoldsAfter}
 use Rattle.acts.specs.Done.{Done, changes, does, does_served, reads}
 use Rattle.acts.specs.Serves.{serves}
-use Rattle.acts.proofs.Laws.{EachActKeeps, all_keeps, keeps_where_served}
-use Rattle.act_laws.specs.Kept.{IsMarked, KeepsMarks, MarksStay}
+use Rattle.acts.proofs.Laws.{all_keeps, keeps_where_served}
 use Rattle.act_laws.proofs.Effects.{Changes, Effect, NotInvalid, again_effect, allocate_effect, deallocate_effect, pop_effect, read_effect, recycle_effect, send_effect, set_effect, set_state_effect, stall_effect, touch_effect, wake_effect, write_effect}
 use Rattle.act_laws.proofs.Marks.{marks_kept}
 
@@ -42,6 +38,7 @@ DoneEffect v (Err f) = ¬ (f ≡ Invalid)
 unchanged : (v : LocalView) → Changes v v
 unchanged v = record {
   scan = record { machine = refl; actor = refl; now = refl; start = refl };
+  counts = record { fired = refl; stopped = refl };
   marks = marks_kept v.ctl.mail.marks v.now;
   marked = λ is. is;
 }
@@ -99,6 +96,7 @@ same_scan u v w first second = record {
 both : (u v w : LocalView) → Changes u v → Changes v w → Changes u w
 both u v w first second = record {
   scan = same_scan u v w first.scan second.scan;
+  counts = record { fired = second.counts.fired ∙ first.counts.fired; stopped = second.counts.stopped ∙ first.counts.stopped };
   marks = record {
     stay = λ cycle has. second.marks.stay cycle (first.marks.stay cycle has);
     none_due = λ cycle early. second.marks.none_due cycle (subst (λ (n : ℕ). cycle ≤ n) (sym first.scan.now) early) ∙ first.marks.none_due cycle early;

@@ -21,3 +21,8 @@ AreMarked now marks inbox = All (λ (o : InboxMessage). now < o.message.arrival 
 pub record IsMarked (v : LocalView) : Type 0 where
   pub arrivals : AreMarked v.now v.ctl.mail.marks v.ctl.mail.inbox
   pub next : v.acts.again ≡ true → IsTrue (has_mark v.ctl.mail.marks (v.now + 1))
+
+-- how many transitions have fired in this cycle, and whether the controller has stopped, are as they were
+pub record CountsStay (v w : LocalView) : Type 0 where
+  pub fired : w.ctl.fired ≡ v.ctl.fired
+  pub stopped : w.ctl.stopped ≡ v.ctl.stopped

@@ -1,20 +1,23 @@
--- What a scan has done to messages, by its five lists, from the mail that it began with: what was in the inbox and what was sent is
+-- What a scan has done to messages, from the mail that it began with: what was in the inbox and what was sent is
 -- consumed, posted to others, or in the inbox, counted by any test of numbers; what was sent has the sender's next numbers, and these
 -- are counted. What is posted has the sender's number, is for another controller, and arrives later.
 use Rattle.std.specs.Prelude.{◌≡◌, ◌<◌, ◌+◌, ℕ, false, map, length}
 use Rattle.std.specs.List.{All}
-use Rattle.ctl_face.specs.Acts.{Acts, Copy, Note}
+use Rattle.ctl_face.specs.Acts.{Acts}
+use Rattle.ruby_value.specs.declared.message.Delivery.{Delivery}
+use Rattle.ruby_value.specs.declared.message.Message.{Message}
+use Rattle.ruby_value.specs.declared.message.Sent.{Sent}
 use Rattle.ctl_face.specs.ActsFit.{MailMoves}
 use Rattle.ctl_face.specs.Ctl.{Mail}
 use Rattle.ctl_face.specs.LocalView.{LocalView}
-use Rattle.ctl_face.specs.SendAdds.{numbers_from}
+use Rattle.ruby_value.specs.NumbersFrom.{numbers_from}
 
 pub record MovesMail (me : ℕ) (before : Mail) (acts : Acts) (after : Mail) : Type 0 where
   pub moved : MailMoves before.inbox after.inbox acts.consumed acts.sent acts.posted
-  pub numbers : map (λ (n : Note). n.number) acts.sent ≡ numbers_from me before.sent (length acts.sent)
+  pub numbers : map (λ (n : Sent). n.number) acts.sent ≡ numbers_from me before.sent (length acts.sent)
   pub sent : after.sent ≡ before.sent + length acts.sent
 
-pub record IsPosted (me now : ℕ) (c : Copy) : Type 0 where
+pub record IsPosted (me now : ℕ) (c : Delivery Message) : Type 0 where
   pub sender : c.message.number.sender ≡ me
   pub other : ¬ (c.receiver ≡ me)
   pub later : now < c.message.arrival

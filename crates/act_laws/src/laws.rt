@@ -9,14 +9,15 @@ ghost use Rattle.ctl_face.specs.LocalView.{LocalView, SameScan};
 ghost use Rattle.acts.specs.Acting.{Acting, run};
 ghost use Rattle.acts.specs.After.{HoldsAfter};
 ghost use Rattle.act_laws.specs.Added.{Added, AreNew, after_adding, with_added};
-ghost use Rattle.act_laws.specs.Kept.{IsMarked, MarksStay};
+ghost use Rattle.act_laws.specs.Kept.{CountsStay, IsMarked, MarksStay};
 ghost use Rattle.act_laws.specs.Mailed.{HasMailed};
 
-/// What holds of each lawful local holds after each body, which leaves it in the same scan; and so it is of a local of a run, whose
-/// posted copies then fit their receivers.
+/// What holds of each lawful local holds after each body, which leaves it in the same scan, and counts no transition and doesn't stop
+/// the controller; and so it is of a local of a run, whose posted copies then fit their receivers.
 pub fn bodies_keep_what_holds<A>()
     ensures lawful { (p : Acting A) (v : LocalView) → IsLawful v → HoldsAfter IsLawful (run p v) }
     ensures scan { (p : Acting A) (v : LocalView) → HoldsAfter (SameScan v) (run p v) }
+    ensures counts { (p : Acting A) (v : LocalView) → HoldsAfter (CountsStay v) (run p v) }
     ensures in_run { (p : Acting A) (machines : List MachineRecord) (ranges : List (ℕ × ℕ))
         (v : LocalView)
         → IsInRun machines ranges v → HoldsAfter (IsInRun machines ranges) (run p v) }
@@ -27,13 +28,15 @@ pub fn bodies_keep_what_holds<A>()
 {}
 
 /// No body takes a mark away, or sets one for its own cycle or an earlier one; and what it puts off, sends to its own controller or
-/// has wait is marked.
+/// has wait is marked, where each message that is still to come has its mark before the body. A lawful local needn't have these: in a
+/// run each arrival sets its mark, and none is dropped before its cycle.
 pub fn bodies_keep_marks<A>()
     ensures stay { (p : Acting A) (v : LocalView) → HoldsAfter (MarksStay v) (run p v) }
     ensures marked { (p : Acting A) (v : LocalView) → IsMarked v → HoldsAfter IsMarked (run p v) }
 {}
 
-/// A body moves messages as its scan's five lists say, from the mail that the scan began with.
+/// What was in the inbox as the scan began, and what it has sent, is after a body consumed, posted or in the inbox; and what it has sent
+/// has the sender's next numbers. Of what waits or was recycled this says nothing: such a message stays in the inbox.
 pub fn bodies_move_mail<A>()
     ensures { (p : Acting A) (v : LocalView) → IsLawful v → HoldsAfter HasMailed (run p v) }
 {}

@@ -1,7 +1,5 @@
 -- The cycle of a local is a signed number of 64 bits, since the local is lawful.
-use Rattle.std.proofs.Common.{◌≡◌, ◌<◌, ◌≤◌, ◌^◌, ◌∙◌, ℕ, Bool, true, nat_lt, ltb-true, lt-ltb, Result, Ok, refl, sym, ap, arith}
-use Rattle.std.proofs.Math.Bool.{Bool-set}
-use Rattle.std.proofs.Math.Logic.{∥∥₁_elim}
+use Rattle.std.proofs.Common.{◌≡◌, ◌<◌, ◌≤◌, ◌^◌, ◌∙◌, ℕ, Result, Ok, refl, sym, ap, arith}
 use Rattle.ruby_value.specs.declared.fault.Fault.{Fault}
 use Rattle.ctl_face.specs.Fits.{IsLawful}
 use Rattle.ctl_face.specs.LocalView.{LocalView}
@@ -29,8 +27,5 @@ one_answer {A} p x y v w first second =
 pub is_cycle : (v : LocalView) (n : ℕ) → DoesAs itself (act Now) (Ok n) v v → n ≡ v.now
 is_cycle v n does = one_answer (act Now) n v.now v v does (now_does v v.now refl)
 
-pub cycle_is_small : (v : LocalView) → ∥ IsLawful v ∥₁ → v.now < 2 ^ 63
-cycle_is_small v lawful = ltb-true v.now (2 ^ 63) (∥∥₁_elim lawful (Bool-set (nat_lt v.now (2 ^ 63)) true) small)
-  where
-    small : IsLawful v → nat_lt v.now (2 ^ 63) ≡ true
-    small is = let last : v.now ≤ 10 ^ 12 = is.scan.now in lt-ltb v.now (2 ^ 63) (omega arith)
+pub cycle_is_small : (v : LocalView) → IsLawful v → v.now < 2 ^ 63
+cycle_is_small v is = let last : v.now ≤ 10 ^ 12 = is.scan.now in omega arith

@@ -8,6 +8,7 @@ use Rattle.std.specs.Option.{option_map}
 use Rattle.ruby_value.specs.declared.value.Ref.{Ref}
 use Rattle.ruby_value.specs.declared.value.Value.{Value}
 use Rattle.ruby_value.specs.declared.value.Value.TheVariants as value
+use Rattle.ruby_value.specs.Lines.{line_of}
 use Rattle.ruby_value.specs.WithMember.{with_member}
 use Rattle.ruby_value.specs.WithoutMember.{without_member}
 use Rattle.acts.specs.declared.body_fault.BodyFault.TheVariants as own
@@ -32,7 +33,7 @@ use Rattle.built_in_acts.specs.declared.machines.Placed.{Placed}
 use Rattle.built_in_acts.specs.declared.setting.CallSetting.{CallSetting}
 use Rattle.built_in_acts.specs.Calls.{call_at}
 use Rattle.built_in_acts.specs.Machines.{home_in, place_of, range_at, with_range}
-use Rattle.built_in_acts.specs.Values.{address_of_line, argument, block, controller, controllers, line_named, line_of, member, number, reference, zeros}
+use Rattle.built_in_acts.specs.Values.{address_of_line, argument, block, controller, controllers, line_named, member, number, reference, zeros}
 
 -- it answers nothing, or the value that is made of what it answers
 unfoldable pub silent : {A : Type 0} → Acting A → Acting (Option Value)

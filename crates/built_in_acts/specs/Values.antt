@@ -2,12 +2,12 @@
 -- wanted. Each value is one of each: one of another sort counts as 0, false, line 0, controller 0, no controllers, 64 zeros, member 0
 -- or a reference to nothing, and an argument that isn't there counts as false. No accepted protocol has such a value there; that it
 -- counts so is this project's own rule.
-use Rattle.std.specs.Prelude.{ℕ, ℤ, pos, ◌/◌, ◌%◌, ◌*◌, Bool, false, List, [], Option, None, replicate, slice_get, unwrap_or}
+use Rattle.std.specs.Prelude.{ℕ, ℤ, pos, ◌%◌, ◌*◌, Bool, false, List, [], Option, None, replicate, slice_get, unwrap_or}
 use Rattle.ruby_value.specs.declared.value.Block.{Block}
 use Rattle.ruby_value.specs.declared.value.Ref.{Ref}
 use Rattle.ruby_value.specs.declared.value.Value.{Value}
 use Rattle.ruby_value.specs.declared.value.Value.TheVariants as value
-use Rattle.ctl_face.specs.Fits.{line_limit}
+use Rattle.ruby_value.specs.Lines.{line_limit, line_of}
 
 abbrev pub truth : Value → Bool
 truth (value.Bool b) = b
@@ -20,10 +20,6 @@ number _ = pos 0
 abbrev pub address : Value → ℕ
 address (value.Addr a) = a
 address _ = 0
-
--- the line of an address: of an address of 64 bits it is the address divided by 64
-abbrev pub line_of : ℕ → ℕ
-line_of a = a / 64 % line_limit
 
 -- the address of a line, which is one of 64 bits whatever the number
 abbrev pub address_of_line : ℕ → ℕ

@@ -3,6 +3,7 @@ ghost use Rattle.std.specs.Prelude.{◌≡◌, ◌<◌, ◌^◌};
 ghost use Rattle.built_in_acts.specs.Values.{address as address_of, address_of_line as address_of_line_is, argument, block as block_of, controller as controller_of, line_named as line_named_of, member as member_of, number as number_of, reference as reference_of, truth as truth_of};
 
 use acts::{Block, Ref, Value};
+use ruby_value::line_of;
 
 /// Whether it is true; false where it is no truth value.
 pub fn truth(v: &Value) -> bool
@@ -39,7 +40,7 @@ pub fn line_named(v: &Value) -> u64
     ensures line { result ≡ line_named_of v.now }
     ensures limit { result < 2 ^ 58 }
 {
-    address(v) / 64
+    line_of(address(v))
 }
 
 /// The address of a line.
