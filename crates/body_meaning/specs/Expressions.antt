@@ -12,15 +12,14 @@ use Rattle.ruby_value.specs.declared.value.Ref.{Ref}
 use Rattle.ruby_value.specs.declared.value.Value.{Value}
 use Rattle.ruby_value.specs.declared.value.Value.TheVariants as plain
 use Rattle.acts.specs.declared.body_fault.BodyFault.TheVariants as own
-use Rattle.acts.specs.Act as act
-use Rattle.acts.specs.Acting.{Acting, ends, stops, ◌>>=◌, act as done, decided, found, given}
+use Rattle.acts.specs.Acting.{Acting, ends, stops, ◌>>=◌, decided, found, given}
 use Rattle.built_in_acts.specs.Values.{reference, truth}
 use Rattle.body_meaning.specs.declared.frame.Frame.{Frame}
 use Rattle.body_meaning.specs.declared.scope.Scope.{Scope}
 use Rattle.body_meaning.specs.declared.thing.Thing.{Thing}
 use Rattle.body_meaning.specs.declared.thing.Thing.TheVariants as thing
 use Rattle.body_meaning.specs.Calls.{Calls, index, method_call, named_call, value_found}
-use Rattle.body_meaning.specs.Names.{declared, line_field, member_value, message_field}
+use Rattle.body_meaning.specs.Names.{declared, line_field, member_value, message_field, thing_got}
 use Rattle.body_meaning.specs.Each.{each}
 use Rattle.body_meaning.specs.Frames.{thing_about, thing_bound}
 use Rattle.body_meaning.specs.Operators.{joined, negated, settled}
@@ -40,10 +39,11 @@ variable s frame text = variable_or s text (thing_in s frame text)
 
 -- Fields, of messages and through references.
 
+unfoldable pub field_at : Scope → List ℕ → Ref → Acting Thing
+field_at s text r = found own.Reference (line_field s r.table text) >>= (λ k. thing_got r k)
+
 unfoldable pub field_through : Scope → Value → List ℕ → Acting Thing
-field_through s v text =
-    found own.Reference (reference v)
-    >>= (λ (r : Ref). found own.Reference (line_field s r.table text) >>= (λ k. done (act.Get r k) >>= (λ x. ends (thing.Value x))))
+field_through s v text = found own.Reference (reference v) >>= (λ (r : Ref). field_at s text r)
 
 abbrev pub field_in : Scope → List ℕ → Thing → Acting Thing
 field_in s text (thing.Value v) = field_through s v text
@@ -75,7 +75,7 @@ module _ (s : Scope) (calls : Calls) (frame : Frame) where
   abbrev mutual
     pub value : Expr → Acting Thing
     value (Operation' first n others span) =
-        value first >>= (λ t. operands (value_in t) others) >>= (λ v. ends (thing.Value v))
+        value first >>= (λ t. operands (value_in t) others >>= (λ v. ends (thing.Value v)))
     value (Not' operand span) = value operand >>= (λ t. ends (not_so t))
     value (Negate' operand span) = value operand >>= negation_of
     value (Postfix' inner n suffixes span) = value inner >>= (λ t. suffixed_all t suffixes)

@@ -50,10 +50,12 @@ message_of m buffer = option_and_then (λ (b : BufferSymbol). b.message) (slice_
 
 -- Names.
 
+-- a field of a line
+unfoldable pub thing_got : Ref → ℕ → Acting Thing
+thing_got r k = done (act.Get r k) >>= (λ v. ends (thing.Value v))
+
 unfoldable pub parameter : MachineSymbols → ℕ → Acting Thing
-parameter m k =
-    found own.Reference (short_number (length m.tables))
-    >>= (λ table. done (act.Get (record { table = table; line = 0 }) k) >>= (λ v. ends (thing.Value v)))
+parameter m k = found own.Reference (short_number (length m.tables)) >>= (λ table. thing_got (record { table = table; line = 0 }) k)
 
 unfoldable pub own_number : Acting Thing
 own_number = done act.Me >>= (λ k. ends (thing.Value (value.Machine k)))

@@ -1,14 +1,14 @@
-// What a body has of its own: names are looked up, bound and left.
-ghost use Rattle.std.specs.Prelude.{◌≡◌, IfOk, OnOk, cond, is_some};
+// What a body has of its own: names are looked up and bound.
+ghost use Rattle.std.specs.Prelude.{◌≡◌, IfOk, OnOk};
 ghost use Rattle.std.specs.Option.{option_copied};
 ghost use Rattle.body_meaning.specs.Expressions.{thing_in as thing_in_of};
-ghost use Rattle.body_meaning.specs.Frames.{about_named as about_named_of, bind as bind_of, leave as leave_of, outermost, rebind as rebind_of, thing_about as thing_about_of, thing_bound as thing_bound_of, with_entry as with_entry_of, with_tbe as with_tbe_of};
+ghost use Rattle.body_meaning.specs.Frames.{about_named as about_named_of, bind as bind_of, thing_about as thing_about_of, thing_bound as thing_bound_of, with_entry as with_entry_of, with_tbe as with_tbe_of};
 
 use crate::frame::{About, Bound, Frame};
 use crate::scope::Scope;
 use crate::thing::Thing;
 use acts::{NoMemory, Ref, Value};
-use ruby_base::{Seq, Text};
+use ruby_base::Text;
 use ruby_symbols::MachineSymbols;
 use std::alloc::Global;
 
@@ -89,39 +89,6 @@ pub fn bind(
     let bound = made(alloc, name, thing)?;
     frame.names.insert(0, bound)?;
     Ok(())
-}
-
-/// Puts another thing under a name, where it is bound.
-pub fn rebind(
-    alloc: Global,
-    frame: &mut Frame,
-    name: &[u8],
-    thing: Thing,
-) -> Result<(), NoMemory>
-    ensures { OnOk result (frame.new ≡ rebind_of name.now thing frame.old) }
-{
-    let place = frame.names.iter().position(|b| b.name.as_slice() == name);
-    let Some(i) = place else {
-        return Ok(());
-    };
-    let bound = made(alloc, name, thing)?;
-    let _old = frame.names.replace(i, bound);
-    Ok(())
-}
-
-fn keep_outermost(names: &mut Seq<Bound>, n: usize)
-    ensures { names.new ≡ outermost n names.old }
-{
-    while names.len() > n {
-        let _inner = names.remove(0);
-    }
-}
-
-/// Leaves a block that began with this many names.
-pub fn leave(frame: &mut Frame, n: usize)
-    ensures { frame.new ≡ leave_of n frame.old }
-{
-    keep_outermost(&mut frame.names, n);
 }
 
 /// What a transition is about with another entry.

@@ -14,7 +14,7 @@ mod place;
 mod scope;
 mod thing;
 
-pub use bound::{bind, leave, rebind, thing_bound, thing_in, with_entry, with_tbe};
+pub use bound::{bind, thing_bound, thing_in, with_entry, with_tbe};
 pub use call_numbers::{changes_receiver, plain_call, write_callback};
 pub use called::{
     called_on, indexed_on, permission_called, reference_at, thing_of, trigger_of, value_call,
@@ -22,7 +22,7 @@ pub use called::{
 };
 pub use calls::Numbered;
 pub use frame::{About, Bound, Flow, Frame};
-pub use messages::{message_field, new_message};
+pub use messages::message_field;
 pub use names::{line_field, member_value, message_of, port_at, port_named, structure_field};
 pub use operators::{joined, negated, settled};
 pub use place::Place;

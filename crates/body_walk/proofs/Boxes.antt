@@ -48,10 +48,10 @@ module _ (s : Scope) (calls : Calls) (frame : Frame) where
   value_of_Group e span = ap (value s calls frame) (Group_is e span)
 
   pub value_of_Operation : (e : Expr) (others : List Operand) (span : Span) → value s calls frame (views.Operation e others span)
-      ≡ value s calls frame e >>= (λ t. each (operand_step s calls frame) (value_in t) others) >>= (λ v. ends (thing.Value v))
+      ≡ value s calls frame e >>= (λ t. each (operand_step s calls frame) (value_in t) others >>= (λ v. ends (thing.Value v)))
   value_of_Operation e others span =
       ap (value s calls frame) (Operation_is e others span)
-      ∙ ap (λ (k : Value → Acting Value). value s calls frame e >>= (λ t. k (value_in t)) >>= (λ v. ends (thing.Value v)))
+      ∙ ap (λ (k : Value → Acting Value). value s calls frame e >>= (λ t. k (value_in t) >>= (λ v. ends (thing.Value v))))
       (fun_ext (λ v. operands_of_row s calls frame v _ (block.hidden-the_row-Operand-1 others) ∙ ap (each (operand_step s calls frame) v) (operands_kept others)))
 
   pub value_of_Postfix : (e : Expr) (suffixes : List Suffix) (span : Span) → value s calls frame (views.Postfix e suffixes span)

@@ -1,3 +1,4 @@
 pub mod Steps
 pub mod Rows
 pub mod Boxes
+pub mod Values

@@ -1,14 +1,17 @@
 //! Expressions.
 ghost use Rattle.std.specs.Prelude.{◌≡◌};
+ghost use Rattle.acts.specs.Acting.{◌>>=◌, ends};
 ghost use Rattle.acts.specs.DoesAs.{DoesAs, itself};
+ghost use Rattle.body_meaning.specs.declared.thing.Thing.TheVariants as thing;
 ghost use Rattle.body_meaning.specs.Bodies.{calls_within};
+ghost use Rattle.body_meaning.specs.Calls.{method_call as method_call_of, named_call as named_call_of};
+ghost use Rattle.body_meaning.specs.Things.{value_in as value_in_thing};
 ghost use Rattle.body_meaning.specs.Each.{each};
-ghost use Rattle.body_meaning.specs.Expressions.{names_line as names_line_of, names_nothing as names_nothing_of, negation_of, not_so as not_so_of, operand_step, suffixed as suffixed_of, value as value_is, value_behind as value_behind_of, value_step, values_of as values_of_arguments};
-ghost use Rattle.body_walk.specs.CallsDo.{CallsDo};
+ghost use Rattle.body_meaning.specs.Expressions.{names_line as names_line_of, names_nothing as names_nothing_of, negation_of, not_so as not_so_of, operand_step, suffixed as suffixed_of, value as value_is, value_step, values_of as values_of_arguments};
+ghost use Rattle.body_calls.specs.CallsDo.{CallsDo};
 
-use crate::built::{index, method_call, named_call};
-use crate::named::{field_in, value_found, variable};
 use acts::{Local, Trouble, Value};
+use body_calls::{field_in, index, method_call, named_call, value_found, variable};
 use body_meaning::{Frame, Scope, Thing, joined, member_value, negated, settled, value_in};
 use built_in_acts::{reference, truth};
 use ruby_base::Seq;
@@ -34,7 +37,7 @@ fn names_nothing(t: Thing) -> Thing
 }
 
 #[tactic(auto, using(acts::proofs::Walk::walk_steps), unfolding(body_meaning::specs::Expressions::negation_of))]
-fn negation<T: Local>(t: Thing, local: &T) -> Result<Thing, Trouble>
+fn negated_thing<T: Local>(t: Thing, local: &T) -> Result<Thing, Trouble>
     ensures { DoesAs itself (negation_of t) result (T.view local.now) (T.view local.now) }
 {
     match negated(&value_in(t)) {
@@ -61,54 +64,197 @@ pub fn value<T: Local, F: Fn(u16, Seq<Value>, &mut T) -> Result<Thing, Trouble>>
 {
     match e {
         Expr::Operation { first, others, .. } => {
-            let left = value(alloc, s, depth, calls, frame, first.get(), local)?;
-            let v = operands(alloc, s, depth, calls, frame, value_in(left), others, local)?;
-            Ok(Thing::Value(v))
+            operation(alloc, s, depth, calls, frame, first.get(), others, local)
         }
-        Expr::Not(inner, _) => {
-            let t = value(alloc, s, depth, calls, frame, inner.get(), local)?;
-            Ok(not_so(t))
-        }
-        Expr::Negate(inner, _) => {
-            let t = value(alloc, s, depth, calls, frame, inner.get(), local)?;
-            negation(t, local)
-        }
+        Expr::Not(inner, _) => not_value(alloc, s, depth, calls, frame, inner.get(), local),
+        Expr::Negate(inner, _) => negation(alloc, s, depth, calls, frame, inner.get(), local),
         Expr::Postfix {
             value: inner,
             suffixes,
             ..
-        } => {
-            let t = value(alloc, s, depth, calls, frame, inner.get(), local)?;
-            suffixed_all(alloc, s, depth, calls, frame, t, suffixes, local)
-        }
+        } => postfix(alloc, s, depth, calls, frame, inner.get(), suffixes, local),
         Expr::Number(n, _) => Ok(Thing::Value(Value::Int(*n))),
         Expr::True(_) => Ok(Thing::Value(Value::Bool(true))),
         Expr::False(_) => Ok(Thing::Value(Value::Bool(false))),
         Expr::Nothing(_) => Ok(Thing::Value(Value::Entry(None))),
         Expr::Variable(name) => variable(s, frame, name.text.as_slice(), local),
         Expr::Member { owner, member, .. } => {
-            value_found(member_value(s, owner.text.as_slice(), member.text.as_slice()), local)
+            let v = member_value(s, owner.text.as_slice(), member.text.as_slice());
+            value_found(v, local)
         }
         Expr::Call {
             name,
             arguments,
             ..
-        } => {
-            let all = values(alloc, s, depth, calls, frame, &arguments.items, local)?;
-            named_call(alloc, s, depth, calls, name.text.as_slice(), all, local)
-        }
+        } => call(alloc, s, depth, calls, frame, name.text.as_slice(), &arguments.items, local),
         Expr::New(..) => Ok(Thing::Nothing),
-        Expr::IsValid(inner, _) => {
-            let t = value(alloc, s, depth, calls, frame, inner.get(), local)?;
-            Ok(names_line(t))
-        }
-        Expr::IsInvalid(inner, _) => {
-            let t = value(alloc, s, depth, calls, frame, inner.get(), local)?;
-            Ok(names_nothing(t))
-        }
+        Expr::IsValid(inner, _) => valid(alloc, s, depth, calls, frame, inner.get(), local),
+        Expr::IsInvalid(inner, _) => invalid(alloc, s, depth, calls, frame, inner.get(), local),
         Expr::Cast { value: inner, .. } => value(alloc, s, depth, calls, frame, inner.get(), local),
         Expr::Group(inner, _) => value(alloc, s, depth, calls, frame, inner.get(), local),
     }
+}
+
+#[cycle(expression)]
+fn operation<T: Local, F: Fn(u16, Seq<Value>, &mut T) -> Result<Thing, Trouble>>(
+    alloc: Global,
+    s: Scope<'_>,
+    depth: u16,
+    calls: &F,
+    frame: &Frame,
+    first: &Expr,
+    others: &[Operand],
+    local: &mut T,
+) -> Result<Thing, Trouble>
+    requires callable { F.IsAlwaysCallable calls.now }
+    requires does { CallsDo T.view F.Fn calls.now (calls_within s.entry depth) }
+    ensures { DoesAs itself (value_is s.entry (calls_within s.entry depth) frame.now first.now >>= (λ t. each (operand_step s.entry (calls_within s.entry depth) frame.now)
+        (value_in_thing t) others.now >>= (λ v. ends (thing.Value v)))) result
+        (T.view local.old) (T.view local.new) }
+{
+    let t = value(alloc, s, depth, calls, frame, first, local)?;
+    let v = operands(alloc, s, depth, calls, frame, value_in(t), others, local)?;
+    Ok(Thing::Value(v))
+}
+
+#[cycle(expression)]
+fn not_value<T: Local, F: Fn(u16, Seq<Value>, &mut T) -> Result<Thing, Trouble>>(
+    alloc: Global,
+    s: Scope<'_>,
+    depth: u16,
+    calls: &F,
+    frame: &Frame,
+    inner: &Expr,
+    local: &mut T,
+) -> Result<Thing, Trouble>
+    requires callable { F.IsAlwaysCallable calls.now }
+    requires does { CallsDo T.view F.Fn calls.now (calls_within s.entry depth) }
+    ensures { DoesAs itself (value_is s.entry (calls_within s.entry depth) frame.now inner.now >>= (λ t. ends (not_so_of t))) result
+        (T.view local.old) (T.view local.new) }
+{
+    let t = value(alloc, s, depth, calls, frame, inner, local)?;
+    Ok(not_so(t))
+}
+
+#[cycle(expression)]
+fn negation<T: Local, F: Fn(u16, Seq<Value>, &mut T) -> Result<Thing, Trouble>>(
+    alloc: Global,
+    s: Scope<'_>,
+    depth: u16,
+    calls: &F,
+    frame: &Frame,
+    inner: &Expr,
+    local: &mut T,
+) -> Result<Thing, Trouble>
+    requires callable { F.IsAlwaysCallable calls.now }
+    requires does { CallsDo T.view F.Fn calls.now (calls_within s.entry depth) }
+    ensures { DoesAs itself (value_is s.entry (calls_within s.entry depth) frame.now inner.now >>= negation_of) result
+        (T.view local.old) (T.view local.new) }
+{
+    let t = value(alloc, s, depth, calls, frame, inner, local)?;
+    negated_thing(t, local)
+}
+
+#[cycle(expression)]
+fn valid<T: Local, F: Fn(u16, Seq<Value>, &mut T) -> Result<Thing, Trouble>>(
+    alloc: Global,
+    s: Scope<'_>,
+    depth: u16,
+    calls: &F,
+    frame: &Frame,
+    inner: &Expr,
+    local: &mut T,
+) -> Result<Thing, Trouble>
+    requires callable { F.IsAlwaysCallable calls.now }
+    requires does { CallsDo T.view F.Fn calls.now (calls_within s.entry depth) }
+    ensures { DoesAs itself (value_is s.entry (calls_within s.entry depth) frame.now inner.now >>= (λ t. ends (names_line_of t))) result
+        (T.view local.old) (T.view local.new) }
+{
+    let t = value(alloc, s, depth, calls, frame, inner, local)?;
+    Ok(names_line(t))
+}
+
+#[cycle(expression)]
+fn invalid<T: Local, F: Fn(u16, Seq<Value>, &mut T) -> Result<Thing, Trouble>>(
+    alloc: Global,
+    s: Scope<'_>,
+    depth: u16,
+    calls: &F,
+    frame: &Frame,
+    inner: &Expr,
+    local: &mut T,
+) -> Result<Thing, Trouble>
+    requires callable { F.IsAlwaysCallable calls.now }
+    requires does { CallsDo T.view F.Fn calls.now (calls_within s.entry depth) }
+    ensures { DoesAs itself (value_is s.entry (calls_within s.entry depth) frame.now inner.now >>= (λ t. ends (names_nothing_of t))) result
+        (T.view local.old) (T.view local.new) }
+{
+    let t = value(alloc, s, depth, calls, frame, inner, local)?;
+    Ok(names_nothing(t))
+}
+
+#[cycle(expression)]
+fn postfix<T: Local, F: Fn(u16, Seq<Value>, &mut T) -> Result<Thing, Trouble>>(
+    alloc: Global,
+    s: Scope<'_>,
+    depth: u16,
+    calls: &F,
+    frame: &Frame,
+    inner: &Expr,
+    suffixes: &[Suffix],
+    local: &mut T,
+) -> Result<Thing, Trouble>
+    requires callable { F.IsAlwaysCallable calls.now }
+    requires does { CallsDo T.view F.Fn calls.now (calls_within s.entry depth) }
+    ensures { DoesAs itself (value_is s.entry (calls_within s.entry depth) frame.now inner.now >>= (λ t. each (suffixed_of s.entry (calls_within s.entry depth) frame.now)
+        t suffixes.now)) result
+        (T.view local.old) (T.view local.new) }
+{
+    let t = value(alloc, s, depth, calls, frame, inner, local)?;
+    suffixed_all(alloc, s, depth, calls, frame, t, suffixes, local)
+}
+
+#[cycle(expression)]
+fn call<T: Local, F: Fn(u16, Seq<Value>, &mut T) -> Result<Thing, Trouble>>(
+    alloc: Global,
+    s: Scope<'_>,
+    depth: u16,
+    calls: &F,
+    frame: &Frame,
+    name: &[u8],
+    arguments: &[Expr],
+    local: &mut T,
+) -> Result<Thing, Trouble>
+    requires callable { F.IsAlwaysCallable calls.now }
+    requires does { CallsDo T.view F.Fn calls.now (calls_within s.entry depth) }
+    ensures { DoesAs itself (values_of_arguments s.entry (calls_within s.entry depth) frame.now arguments.now
+        >>= named_call_of s.entry (calls_within s.entry depth) name.now) result
+        (T.view local.old) (T.view local.new) }
+{
+    let all = values(alloc, s, depth, calls, frame, arguments, local)?;
+    named_call(alloc, s, depth, calls, name, all, local)
+}
+
+#[cycle(expression)]
+fn method<T: Local, F: Fn(u16, Seq<Value>, &mut T) -> Result<Thing, Trouble>>(
+    alloc: Global,
+    s: Scope<'_>,
+    depth: u16,
+    calls: &F,
+    frame: &Frame,
+    t: Thing,
+    name: &[u8],
+    arguments: &[Expr],
+    local: &mut T,
+) -> Result<Thing, Trouble>
+    requires callable { F.IsAlwaysCallable calls.now }
+    requires does { CallsDo T.view F.Fn calls.now (calls_within s.entry depth) }
+    ensures { DoesAs itself (values_of_arguments s.entry (calls_within s.entry depth) frame.now arguments.now
+        >>= method_call_of s.entry t name.now) result
+        (T.view local.old) (T.view local.new) }
+{
+    let all = values(alloc, s, depth, calls, frame, arguments, local)?;
+    method_call(alloc, s, t, name, all, local)
 }
 
 #[cycle(expression)]
@@ -156,7 +302,8 @@ fn operands<T: Local, F: Fn(u16, Seq<Value>, &mut T) -> Result<Thing, Trouble>>(
 {
     let mut all = left;
     for o in others {
-        all = operand(alloc, s, depth, calls, frame, all, o, local)?;
+        let next = operand(alloc, s, depth, calls, frame, all, o, local)?;
+        all = next;
     }
     Ok(all)
 }
@@ -184,8 +331,7 @@ fn suffixed<T: Local, F: Fn(u16, Seq<Value>, &mut T) -> Result<Thing, Trouble>>(
             arguments,
             ..
         } => {
-            let all = values(alloc, s, depth, calls, frame, &arguments.items, local)?;
-            method_call(alloc, s, t, name.text.as_slice(), all, local)
+            method(alloc, s, depth, calls, frame, t, name.text.as_slice(), &arguments.items, local)
         }
         Suffix::Index(key, _) => {
             let k = value(alloc, s, depth, calls, frame, key, local)?;
@@ -212,7 +358,8 @@ fn suffixed_all<T: Local, F: Fn(u16, Seq<Value>, &mut T) -> Result<Thing, Troubl
 {
     let mut all = t;
     for suffix in suffixes {
-        all = suffixed(alloc, s, depth, calls, frame, all, suffix, local)?;
+        let next = suffixed(alloc, s, depth, calls, frame, all, suffix, local)?;
+        all = next;
     }
     Ok(all)
 }
@@ -257,7 +404,8 @@ fn values<T: Local, F: Fn(u16, Seq<Value>, &mut T) -> Result<Thing, Trouble>>(
 {
     let mut all = Seq::new(alloc);
     for e in arguments {
-        all = with_one(alloc, s, depth, calls, frame, all, e, local)?;
+        let next = with_one(alloc, s, depth, calls, frame, all, e, local)?;
+        all = next;
     }
     Ok(all)
 }

@@ -1,18 +1,19 @@
 // Names, members and fields.
-ghost use Rattle.acts.specs.Acting.{act};
 ghost use Rattle.acts.specs.DoesAs.{DoesAs, itself};
 ghost use Rattle.body_meaning.specs.Calls.{value_found as value_found_of};
-ghost use Rattle.body_meaning.specs.Expressions.{field_in as field_in_of, field_through as field_through_of, variable as variable_of, variable_or as variable_or_of};
-ghost use Rattle.body_meaning.specs.Names.{declared as declared_of, named_everywhere as named_everywhere_of, own_number as own_number_of, parameter as parameter_of, port_thing as port_thing_of};
-ghost use Rattle.std.specs.Prelude.{Ok};
+ghost use Rattle.body_meaning.specs.Expressions.{field_at as field_at_of, field_in as field_in_of, field_through as field_through_of, variable as variable_of, variable_or as variable_or_of};
+ghost use Rattle.body_meaning.specs.Names.{declared as declared_of, named_everywhere as named_everywhere_of, own_number as own_number_of, parameter as parameter_of, port_thing as port_thing_of, thing_got as thing_got_of};
+ghost use Rattle.ruby_symbols.specs.Numbers.{short_number};
+ghost use Rattle.std.specs.Prelude.{◌≡◌, Ok, length};
 
 use acts::{BodyFault, Local, Ref, Trouble, Value, get, me};
 use body_meaning::{Frame, Scope, Thing, line_field, message_field, port_at, thing_in};
 use built_in_acts::reference;
 use ruby_symbols::{MachineSymbols, Named, stands_for};
 
+/// The value, which is to be there.
 #[tactic(auto, using(acts::proofs::Walk::walk_steps), unfolding(body_meaning::specs::Calls::value_found))]
-pub(crate) fn value_found<T: Local>(v: Option<Value>, local: &T) -> Result<Thing, Trouble>
+pub fn value_found<T: Local>(v: Option<Value>, local: &T) -> Result<Thing, Trouble>
     ensures { DoesAs itself (value_found_of v) result (T.view local.now) (T.view local.now) }
 {
     let Some(v) = v else {
@@ -21,20 +22,30 @@ pub(crate) fn value_found<T: Local>(v: Option<Value>, local: &T) -> Result<Thing
     Ok(Thing::Value(v))
 }
 
+#[tactic(auto, using(acts::proofs::Walk::walk_steps), unfolding(body_meaning::specs::Names::thing_got))]
+fn thing_got<T: Local>(r: &Ref, field: u16, local: &T) -> Result<Thing, Trouble>
+    ensures { DoesAs itself (thing_got_of r.now field) result (T.view local.now) (T.view local.now) }
+{
+    let v = get(local, r, field)?;
+    Ok(Thing::Value(v))
+}
+
+// The number of the table that has the machine's parameters.
+fn parameters_table(m: &MachineSymbols) -> Option<u16>
+    ensures { result ≡ short_number (length m.now.tables) }
+{
+    let n = m.tables.len();
+    if n < 65536 { Some(n as u16) } else { None }
+}
+
 #[tactic(auto, using(acts::proofs::Walk::walk_steps), unfolding(body_meaning::specs::Names::parameter))]
 fn parameter<T: Local>(m: &MachineSymbols, field: u16, local: &T) -> Result<Thing, Trouble>
     ensures { DoesAs itself (parameter_of m.now field) result (T.view local.now) (T.view local.now) }
 {
-    let table = m.tables.len();
-    if table >= 65536 {
+    let Some(table) = parameters_table(m) else {
         return Err(Trouble::from(BodyFault::Reference));
-    }
-    let r = Ref {
-        table: table as u16,
-        line: 0,
     };
-    let v = get(local, &r, field)?;
-    Ok(Thing::Value(v))
+    thing_got(&Ref { table, line: 0 }, field, local)
 }
 
 #[tactic(auto, using(acts::proofs::Walk::walk_steps), unfolding(body_meaning::specs::Names::port_thing))]
@@ -84,7 +95,7 @@ fn declared<T: Local>(m: &MachineSymbols, name: &[u8], local: &T) -> Result<Thin
 
 /// What a name is in a body.
 #[tactic(auto, using(acts::proofs::Walk::walk_steps), unfolding(body_meaning::specs::Expressions::variable))]
-pub(crate) fn variable<T: Local>(
+pub fn variable<T: Local>(
     s: Scope<'_>,
     frame: &Frame,
     name: &[u8],
@@ -99,7 +110,17 @@ pub(crate) fn variable<T: Local>(
     }
 }
 
-/// The field of this name of the line that a reference names.
+#[tactic(auto, using(acts::proofs::Walk::walk_steps), unfolding(body_meaning::specs::Expressions::field_at))]
+fn field_at<T: Local>(s: Scope<'_>, name: &[u8], r: &Ref, local: &T) -> Result<Thing, Trouble>
+    ensures { DoesAs itself (field_at_of s.entry name.now r.now) result (T.view local.now)
+        (T.view local.now) }
+{
+    let Some(field) = line_field(s, r.table, name) else {
+        return Err(Trouble::from(BodyFault::Reference));
+    };
+    thing_got(r, field, local)
+}
+
 #[tactic(auto, using(acts::proofs::Walk::walk_steps), unfolding(body_meaning::specs::Expressions::field_through))]
 fn field_through<T: Local>(
     s: Scope<'_>,
@@ -113,15 +134,11 @@ fn field_through<T: Local>(
     let Some(r) = reference(v) else {
         return Err(Trouble::from(BodyFault::Reference));
     };
-    let Some(field) = line_field(s, r.table, name) else {
-        return Err(Trouble::from(BodyFault::Reference));
-    };
-    let v = get(local, &r, field)?;
-    Ok(Thing::Value(v))
+    field_at(s, name, &r, local)
 }
 
 /// The field of this name of a thing.
-pub(crate) fn field_in<T: Local>(
+pub fn field_in<T: Local>(
     s: Scope<'_>,
     name: &[u8],
     t: &Thing,

@@ -3,7 +3,7 @@ ghost use Rattle.std.specs.Prelude.{◌≡◌, [], ◌∷◌, IfOk};
 ghost use Rattle.acts.specs.DoesAs.{DoesAs, itself};
 ghost use Rattle.body_meaning.specs.Bodies.{calls_within};
 ghost use Rattle.body_meaning.specs.Calls.{free_call as free_call_of, index as index_of, method_call as method_call_of, named_call as named_call_of, permission_call as permission_call_of, thing_built as thing_built_of};
-ghost use Rattle.body_walk.specs.CallsDo.{CallsDo};
+ghost use Rattle.body_calls.specs.CallsDo.{CallsDo};
 
 use crate::named::value_found;
 use acts::{BodyFault, Local, NoMemory, Trouble, Value};
@@ -76,7 +76,7 @@ fn free_call<T: Local>(
 
 /// A call without a receiver.
 #[tactic(auto, using(acts::proofs::Walk::walk_steps), unfolding(body_meaning::specs::Calls::named_call, crate::specs::CallsDo::CallsDo))]
-pub(crate) fn named_call<T: Local, F: Fn(u16, Seq<Value>, &mut T) -> Result<Thing, Trouble>>(
+pub fn named_call<T: Local, F: Fn(u16, Seq<Value>, &mut T) -> Result<Thing, Trouble>>(
     alloc: Global,
     s: Scope<'_>,
     depth: u16,
@@ -98,7 +98,7 @@ pub(crate) fn named_call<T: Local, F: Fn(u16, Seq<Value>, &mut T) -> Result<Thin
 
 /// A call on a receiver.
 #[tactic(auto, using(acts::proofs::Walk::walk_steps), unfolding(body_meaning::specs::Calls::method_call))]
-pub(crate) fn method_call<T: Local>(
+pub fn method_call<T: Local>(
     alloc: Global,
     s: Scope<'_>,
     receiver: Thing,
@@ -118,7 +118,7 @@ pub(crate) fn method_call<T: Local>(
 
 /// The index of a table by a key.
 #[tactic(auto, using(acts::proofs::Walk::walk_steps), unfolding(body_meaning::specs::Calls::index))]
-pub(crate) fn index<T: Local>(
+pub fn index<T: Local>(
     alloc: Global,
     s: Scope<'_>,
     receiver: &Thing,
