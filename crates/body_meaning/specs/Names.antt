@@ -3,7 +3,7 @@
 -- after the machine's others; one whose values are references is a reference to nothing, since nothing is ever written to it.
 -- `machineID` and `recycle_latency` are there in each body. What is none of these is the fault `reference`, and no accepted
 -- protocol has such a name.
-use Rattle.std.specs.Prelude.{ℕ, pos, Bool, Option, None, Some, List, codes, cond, length, map, option_and_then, slice_get}
+use Rattle.std.specs.Prelude.{ℕ, pos, Bool, Option, None, Some, List, codes, length, map, option_and_then, slice_get}
 use Rattle.std.specs.Option.{option_map}
 use Rattle.std.specs.Str.{bytes_eq}
 use Rattle.ruby_value.specs.declared.value.Ref.{Ref}
@@ -24,7 +24,7 @@ use Rattle.ruby_symbols.specs.Numbers.{short_number}
 use Rattle.ruby_symbols.specs.Types.{enumeration_named, field_named, member_named}
 use Rattle.acts.specs.declared.body_fault.BodyFault.TheVariants as own
 use Rattle.acts.specs.Act as act
-use Rattle.acts.specs.Acting.{Acting, ends, stops, ◌>>=◌, act as done, found}
+use Rattle.acts.specs.Acting.{Acting, ends, stops, ◌>>=◌, act as done, either, found}
 use Rattle.body_meaning.specs.declared.scope.Scope.{Scope}
 use Rattle.body_meaning.specs.declared.thing.Thing.{Thing}
 use Rattle.body_meaning.specs.declared.thing.Thing.TheVariants as thing
@@ -62,8 +62,8 @@ own_number = done act.Me >>= (λ k. ends (thing.Value (value.Machine k)))
 
 abbrev pub named_everywhere : List ℕ → Acting Thing
 named_everywhere text =
-    cond (bytes_eq text (codes "machineID")) own_number
-    (cond (bytes_eq text (codes "recycle_latency")) (ends (thing.Value (value.Int (pos 10)))) (stops own.Reference))
+    either (bytes_eq text (codes "machineID")) own_number
+    (either (bytes_eq text (codes "recycle_latency")) (ends (thing.Value (value.Int (pos 10)))) (stops own.Reference))
 
 unfoldable pub port_thing : Option ℕ → Acting Thing
 port_thing buffer = found own.Reference buffer >>= (λ b. ends (thing.Port b))

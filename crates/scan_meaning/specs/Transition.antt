@@ -3,9 +3,8 @@
 -- statements for it, or where `z_stall` is among the actions, the transition is stalled: it runs no action, and the controller wakes
 -- in the next cycle. Else its actions are done in order, then the next state is set, and then the access permission, where the
 -- machine sets it. These see the line's entry and TBE as the actions have left them. Without a next state it is the state before.
-use Rattle.std.specs.Prelude.{ℕ, ◌==◌, ◌&&◌, Bool, true, false, Option, None, Some, List, [], ◌∷◌, find, length, map, nat_lt, position, range, slice_get, unwrap_or}
+use Rattle.std.specs.Prelude.{ℕ, ◌+◌, ◌==◌, ◌&&◌, Bool, true, false, Option, None, Some, List, [], ◌∷◌, map, nat_lt, position, slice_get, unwrap_or}
 use Rattle.std.specs.List.{list_any}
-use Rattle.slicc_ast.specs.declared.tree.machine.Action.{Action as ActionTree}
 use Rattle.slicc_ast.specs.declared.tree.machine.Decl.{Decl}
 use Rattle.slicc_ast.specs.declared.tree.machine.Decl.TheVariants.{Action}
 use Rattle.slicc_ast.specs.declared.tree.statement.Block.{Block}
@@ -15,6 +14,7 @@ use Rattle.ruby_value.specs.declared.value.Value.TheVariants as value
 use Rattle.ruby_value.specs.Lines.{line_of}
 use Rattle.ruby_symbols.specs.declared.machine.ActionSymbol.{ActionSymbol}
 use Rattle.ruby_symbols.specs.declared.machine.MachineSymbols.{MachineSymbols}
+use Rattle.ruby_symbols.specs.declared.machine.TableSymbol.{TableSymbol}
 use Rattle.ruby_symbols.specs.declared.machine.TransitionSymbol.{TransitionSymbol}
 use Rattle.ruby_symbols.specs.declared.states.StateArgument.{StateArgument}
 use Rattle.ruby_symbols.specs.declared.states.StateArgument.TheVariants.{Tbe, Entry, Address, State}
@@ -81,12 +81,12 @@ permission_set s a next (Some function) =
 
 -- Stalls.
 
--- some of these tables has fewer free lines than are needed of it
-abbrev pub is_short : (ℕ → ℕ) → List ℕ → Acting Bool
-is_short need [] = ends_body false
-is_short need (table ∷ tables) =
-    either (need table == 0) (is_short need tables)
-    (done (act.Free table) >>= (λ free. either (nat_lt free (need table)) (ends_body true) (is_short need tables)))
+-- some of these tables, which have the numbers from this one on, has fewer free lines than are needed of it
+abbrev pub is_short : (ℕ → ℕ) → ℕ → List TableSymbol → Acting Bool
+is_short need table [] = ends_body false
+is_short need table (t ∷ ts) =
+    either (need table == 0) (is_short need (table + 1) ts)
+    (done (act.Free table) >>= (λ free. either (nat_lt free (need table)) (ends_body true) (is_short need (table + 1) ts)))
 
 abbrev pub is_stall_among : List ℕ → Option ℕ → Bool
 is_stall_among actions None = false
@@ -131,7 +131,7 @@ fired s t state next row =
 -- of a written transition, by its number among those of the machine
 abbrev pub row_tried : Scope → Needs → Trigger → ℕ → ℕ → TransitionSymbol → Acting Tried
 row_tried s needs t state number row =
-    is_short (needs number) (range 0 (length s.machine.now.tables))
+    is_short (needs number) 0 s.machine.now.tables
     >>= (λ short. either short waiting
     (either (is_stall_among row.actions s.machine.now.stall) waiting (fired s t state (unwrap_or row.next state) row)))
 
