@@ -86,7 +86,7 @@ pub fn named_call<T: Local, F: Fn(u16, Seq<Value>, &mut T) -> Result<Thing, Trou
     local: &mut T,
 ) -> Result<Thing, Trouble>
     requires callable { F.IsAlwaysCallable calls.now }
-    requires does { CallsDo T.view F.Fn calls.now (calls_within s.entry depth) }
+    requires does { CallsDo T.view F.Fn calls.now (calls_within s depth) }
     ensures { DoesAs itself (named_call_of s.entry (calls_within s.entry depth) name.now arguments) result
         (T.view local.old) (T.view local.new) }
 {

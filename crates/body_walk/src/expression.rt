@@ -58,7 +58,7 @@ pub fn value<T: Local, F: Fn(u16, Seq<Value>, &mut T) -> Result<Thing, Trouble>>
     local: &mut T,
 ) -> Result<Thing, Trouble>
     requires callable { F.IsAlwaysCallable calls.now }
-    requires does { CallsDo T.view F.Fn calls.now (calls_within s.entry depth) }
+    requires does { CallsDo T.view F.Fn calls.now (calls_within s depth) }
     ensures { DoesAs itself (value_is s.entry (calls_within s.entry depth) frame.now e.now) result
         (T.view local.old) (T.view local.new) }
 {
@@ -107,7 +107,7 @@ fn operation<T: Local, F: Fn(u16, Seq<Value>, &mut T) -> Result<Thing, Trouble>>
     local: &mut T,
 ) -> Result<Thing, Trouble>
     requires callable { F.IsAlwaysCallable calls.now }
-    requires does { CallsDo T.view F.Fn calls.now (calls_within s.entry depth) }
+    requires does { CallsDo T.view F.Fn calls.now (calls_within s depth) }
     ensures { DoesAs itself (value_is s.entry (calls_within s.entry depth) frame.now first.now >>= (λ t. each (operand_step s.entry (calls_within s.entry depth) frame.now)
         (value_in_thing t) others.now >>= (λ v. ends (thing.Value v)))) result
         (T.view local.old) (T.view local.new) }
@@ -128,7 +128,7 @@ fn not_value<T: Local, F: Fn(u16, Seq<Value>, &mut T) -> Result<Thing, Trouble>>
     local: &mut T,
 ) -> Result<Thing, Trouble>
     requires callable { F.IsAlwaysCallable calls.now }
-    requires does { CallsDo T.view F.Fn calls.now (calls_within s.entry depth) }
+    requires does { CallsDo T.view F.Fn calls.now (calls_within s depth) }
     ensures { DoesAs itself (value_is s.entry (calls_within s.entry depth) frame.now inner.now >>= (λ t. ends (not_so_of t))) result
         (T.view local.old) (T.view local.new) }
 {
@@ -147,7 +147,7 @@ fn negation<T: Local, F: Fn(u16, Seq<Value>, &mut T) -> Result<Thing, Trouble>>(
     local: &mut T,
 ) -> Result<Thing, Trouble>
     requires callable { F.IsAlwaysCallable calls.now }
-    requires does { CallsDo T.view F.Fn calls.now (calls_within s.entry depth) }
+    requires does { CallsDo T.view F.Fn calls.now (calls_within s depth) }
     ensures { DoesAs itself (value_is s.entry (calls_within s.entry depth) frame.now inner.now >>= negation_of) result
         (T.view local.old) (T.view local.new) }
 {
@@ -166,7 +166,7 @@ fn valid<T: Local, F: Fn(u16, Seq<Value>, &mut T) -> Result<Thing, Trouble>>(
     local: &mut T,
 ) -> Result<Thing, Trouble>
     requires callable { F.IsAlwaysCallable calls.now }
-    requires does { CallsDo T.view F.Fn calls.now (calls_within s.entry depth) }
+    requires does { CallsDo T.view F.Fn calls.now (calls_within s depth) }
     ensures { DoesAs itself (value_is s.entry (calls_within s.entry depth) frame.now inner.now >>= (λ t. ends (names_line_of t))) result
         (T.view local.old) (T.view local.new) }
 {
@@ -185,7 +185,7 @@ fn invalid<T: Local, F: Fn(u16, Seq<Value>, &mut T) -> Result<Thing, Trouble>>(
     local: &mut T,
 ) -> Result<Thing, Trouble>
     requires callable { F.IsAlwaysCallable calls.now }
-    requires does { CallsDo T.view F.Fn calls.now (calls_within s.entry depth) }
+    requires does { CallsDo T.view F.Fn calls.now (calls_within s depth) }
     ensures { DoesAs itself (value_is s.entry (calls_within s.entry depth) frame.now inner.now >>= (λ t. ends (names_nothing_of t))) result
         (T.view local.old) (T.view local.new) }
 {
@@ -205,7 +205,7 @@ fn postfix<T: Local, F: Fn(u16, Seq<Value>, &mut T) -> Result<Thing, Trouble>>(
     local: &mut T,
 ) -> Result<Thing, Trouble>
     requires callable { F.IsAlwaysCallable calls.now }
-    requires does { CallsDo T.view F.Fn calls.now (calls_within s.entry depth) }
+    requires does { CallsDo T.view F.Fn calls.now (calls_within s depth) }
     ensures { DoesAs itself (value_is s.entry (calls_within s.entry depth) frame.now inner.now >>= (λ t. each (suffixed_of s.entry (calls_within s.entry depth) frame.now)
         t suffixes.now)) result
         (T.view local.old) (T.view local.new) }
@@ -226,7 +226,7 @@ fn call<T: Local, F: Fn(u16, Seq<Value>, &mut T) -> Result<Thing, Trouble>>(
     local: &mut T,
 ) -> Result<Thing, Trouble>
     requires callable { F.IsAlwaysCallable calls.now }
-    requires does { CallsDo T.view F.Fn calls.now (calls_within s.entry depth) }
+    requires does { CallsDo T.view F.Fn calls.now (calls_within s depth) }
     ensures { DoesAs itself (values_of_arguments s.entry (calls_within s.entry depth) frame.now arguments.now
         >>= named_call_of s.entry (calls_within s.entry depth) name.now) result
         (T.view local.old) (T.view local.new) }
@@ -248,7 +248,7 @@ fn method<T: Local, F: Fn(u16, Seq<Value>, &mut T) -> Result<Thing, Trouble>>(
     local: &mut T,
 ) -> Result<Thing, Trouble>
     requires callable { F.IsAlwaysCallable calls.now }
-    requires does { CallsDo T.view F.Fn calls.now (calls_within s.entry depth) }
+    requires does { CallsDo T.view F.Fn calls.now (calls_within s depth) }
     ensures { DoesAs itself (values_of_arguments s.entry (calls_within s.entry depth) frame.now arguments.now
         >>= method_call_of s.entry t name.now) result
         (T.view local.old) (T.view local.new) }
@@ -270,7 +270,7 @@ fn operand<T: Local, F: Fn(u16, Seq<Value>, &mut T) -> Result<Thing, Trouble>>(
     local: &mut T,
 ) -> Result<Value, Trouble>
     requires callable { F.IsAlwaysCallable calls.now }
-    requires does { CallsDo T.view F.Fn calls.now (calls_within s.entry depth) }
+    requires does { CallsDo T.view F.Fn calls.now (calls_within s depth) }
     ensures { DoesAs itself (operand_step s.entry (calls_within s.entry depth) frame.now left o.now)
         result (T.view local.old) (T.view local.new) }
 {
@@ -296,7 +296,7 @@ fn operands<T: Local, F: Fn(u16, Seq<Value>, &mut T) -> Result<Thing, Trouble>>(
     local: &mut T,
 ) -> Result<Value, Trouble>
     requires callable { F.IsAlwaysCallable calls.now }
-    requires does { CallsDo T.view F.Fn calls.now (calls_within s.entry depth) }
+    requires does { CallsDo T.view F.Fn calls.now (calls_within s depth) }
     ensures { DoesAs itself (each (operand_step s.entry (calls_within s.entry depth) frame.now) left
         others.now) result (T.view local.old) (T.view local.new) }
 {
@@ -320,7 +320,7 @@ fn suffixed<T: Local, F: Fn(u16, Seq<Value>, &mut T) -> Result<Thing, Trouble>>(
     local: &mut T,
 ) -> Result<Thing, Trouble>
     requires callable { F.IsAlwaysCallable calls.now }
-    requires does { CallsDo T.view F.Fn calls.now (calls_within s.entry depth) }
+    requires does { CallsDo T.view F.Fn calls.now (calls_within s depth) }
     ensures { DoesAs itself (suffixed_of s.entry (calls_within s.entry depth) frame.now t suffix.now)
         result (T.view local.old) (T.view local.new) }
 {
@@ -352,7 +352,7 @@ fn suffixed_all<T: Local, F: Fn(u16, Seq<Value>, &mut T) -> Result<Thing, Troubl
     local: &mut T,
 ) -> Result<Thing, Trouble>
     requires callable { F.IsAlwaysCallable calls.now }
-    requires does { CallsDo T.view F.Fn calls.now (calls_within s.entry depth) }
+    requires does { CallsDo T.view F.Fn calls.now (calls_within s depth) }
     ensures { DoesAs itself (each (suffixed_of s.entry (calls_within s.entry depth) frame.now) t
         suffixes.now) result (T.view local.old) (T.view local.new) }
 {
@@ -377,7 +377,7 @@ fn with_one<T: Local, F: Fn(u16, Seq<Value>, &mut T) -> Result<Thing, Trouble>>(
     local: &mut T,
 ) -> Result<Seq<Value>, Trouble>
     requires callable { F.IsAlwaysCallable calls.now }
-    requires does { CallsDo T.view F.Fn calls.now (calls_within s.entry depth) }
+    requires does { CallsDo T.view F.Fn calls.now (calls_within s depth) }
     ensures { DoesAs itself (value_step s.entry (calls_within s.entry depth) frame.now before e.now)
         result (T.view local.old) (T.view local.new) }
 {
@@ -398,7 +398,7 @@ fn values<T: Local, F: Fn(u16, Seq<Value>, &mut T) -> Result<Thing, Trouble>>(
     local: &mut T,
 ) -> Result<Seq<Value>, Trouble>
     requires callable { F.IsAlwaysCallable calls.now }
-    requires does { CallsDo T.view F.Fn calls.now (calls_within s.entry depth) }
+    requires does { CallsDo T.view F.Fn calls.now (calls_within s depth) }
     ensures { DoesAs itself (values_of_arguments s.entry (calls_within s.entry depth) frame.now
         arguments.now) result (T.view local.old) (T.view local.new) }
 {
