@@ -138,12 +138,7 @@ fn field_through<T: Local>(
 }
 
 /// The field of this name of a thing.
-pub fn field_in<T: Local>(
-    s: Scope<'_>,
-    name: &[u8],
-    t: &Thing,
-    local: &T,
-) -> Result<Thing, Trouble>
+pub fn field_in<T: Local>(s: Scope<'_>, name: &[u8], t: &Thing, local: &T) -> Result<Thing, Trouble>
     ensures { DoesAs itself (field_in_of s.entry name.now t.now) result (T.view local.now)
         (T.view local.now) }
 {

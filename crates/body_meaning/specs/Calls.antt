@@ -56,7 +56,7 @@ trigger_of s arguments =
       event = event_of s (argument arguments 0);
       address = address_of_line (line_named (argument arguments 1));
       entry = reference_at (is_some s.machine.now.entry) arguments 2;
-      tbe = reference_at (is_some s.machine.now.tbe) arguments (if is_some s.machine.now.entry then 3 else 2)
+      tbe = reference_at (is_some s.machine.now.tbe) arguments (if is_some s.machine.now.entry then 3 else 2);
     }
 
 -- `M_State_to_permission` for a machine M; a number that is none of its states has `Invalid`, which is this project's own rule.

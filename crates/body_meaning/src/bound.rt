@@ -78,12 +78,7 @@ fn made(alloc: Global, name: &[u8], thing: Thing) -> Result<Bound, NoMemory>
 }
 
 /// Binds a name, which hides others of its text.
-pub fn bind(
-    alloc: Global,
-    frame: &mut Frame,
-    name: &[u8],
-    thing: Thing,
-) -> Result<(), NoMemory>
+pub fn bind(alloc: Global, frame: &mut Frame, name: &[u8], thing: Thing) -> Result<(), NoMemory>
     ensures { OnOk result (frame.new ≡ bind_of name.now thing frame.old) }
 {
     let bound = made(alloc, name, thing)?;

@@ -5,8 +5,8 @@ ghost use Rattle.body_meaning.specs.Names.{line_field as line_field_of, member_a
 use crate::scope::Scope;
 use acts::Value;
 use ruby_symbols::{
-    MachineSymbols, Named, PortSymbol, Symbols, enumeration_named, field_named,
-    member_named, stands_for,
+    MachineSymbols, Named, PortSymbol, Symbols, enumeration_named, field_named, member_named,
+    stands_for,
 };
 
 /// The buffer that the port of this number is on.

@@ -3,9 +3,7 @@ ghost use Rattle.std.specs.Prelude.{◌≡◌};
 ghost use Rattle.body_meaning.specs.Operators.{joined as joined_of, negated as negated_of, settled as settled_of};
 
 use acts::{BodyFault, Value};
-use built_in_acts::{
-    are_equal, difference, is_at_most, is_less, negation, product, sum, truth,
-};
+use built_in_acts::{are_equal, difference, is_at_most, is_less, negation, product, sum, truth};
 use slicc_ast::tree::Operator;
 
 /// What the left side of an operator decides alone, so that the right one isn't evaluated.

@@ -140,9 +140,9 @@ known t state = record { address = Some t.address; state = state; event = Some t
 
 abbrev pub found_tried : Scope → Needs → Trigger → ℕ → Option ℕ → Trying Tried
 found_tried s needs t state None =
-    looks_up (record { state = state; event = t.event; is_written = false }) (stops (stop_at (known t (Some state)) Invalid))
+    looks_up (record { address = t.address; state = state; event = t.event; is_written = false }) (stops (stop_at (known t (Some state)) Invalid))
 found_tried s needs t state (Some number) =
-    looks_up (record { state = state; event = t.event; is_written = true })
+    looks_up (record { address = t.address; state = state; event = t.event; is_written = true })
     (with_known (known t (Some state))
     (found own.Reference (slice_get s.machine.now.transitions number) >>= row_tried s needs t state number))
 

@@ -22,8 +22,9 @@ nothing_known = record { address = None; state = None; event = None }
 abbrev pub stop_at : Known → Fault → StopAt
 stop_at k fault = record { address = k.address; state = k.state; event = k.event; fault = fault }
 
--- a pair that was looked up, and whether there is a written transition for it
+-- a pair that was looked up, for a line's byte address, and whether there is a written transition for it
 pub record Pair : Type 0 where
+  pub address : ℕ
   pub state : ℕ
   pub event : ℕ
   pub is_written : Bool

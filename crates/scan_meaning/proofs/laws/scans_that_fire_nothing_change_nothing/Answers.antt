@@ -6,5 +6,5 @@ pub returns : goal.returns
 returns c = record {
   stopped = λ s needs limit fired v at. stopped_leaves v (scan s needs limit fired v) at (scan_leaves s needs limit fired v);
   full = λ s needs limit fired v. full_leaves v (scan s needs limit fired v) (scan_leaves s needs limit fired v);
-  idle = λ s needs limit fired v. idle_leaves v (scan s needs limit fired v) (scan_leaves s needs limit fired v)
+  idle = λ s needs limit fired v. idle_leaves v (scan s needs limit fired v) (scan_leaves s needs limit fired v);
 }
