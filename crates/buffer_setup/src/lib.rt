@@ -7,5 +7,8 @@ mod ports;
 mod receivers;
 mod setups;
 
+pub use buffers::{BufferIn, Place, buffer_in};
+pub use message_types::message_type;
+pub use ports::{PortOn, all_ports};
 pub use ruby_base::NoMemory;
-pub use setups::buffer_setups;
+pub use setups::{buffer_place, buffer_setups, is_ordered};

@@ -30,7 +30,8 @@ fn attributes_of<'a>(d: Declared<'a>) -> Option<&'a Pairs>
     }
 }
 
-fn is_ordered(d: Declared<'_>) -> bool
+/// Whether a buffer's declaration calls it ordered.
+pub fn is_ordered(d: Declared<'_>) -> bool
     ensures { result ≡ is_ordered (attributes_of (declaration_of d.entry)) }
 {
     match attributes_of(d) {
@@ -49,7 +50,8 @@ fn kept_network(network: u64) -> Result<u16, NoMemory>
     Ok(network as u16)
 }
 
-fn buffer_place<'a>(
+/// Where the messages of a buffer of this place come from or go to, where they are of this type.
+pub fn buffer_place<'a>(
     types: &TypeNumbers<'a>,
     place: Place,
     t: Option<KnownType<'a>>,

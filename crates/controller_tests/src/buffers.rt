@@ -116,15 +116,14 @@ const BUFFERS: &[(&str, &[Step])] = &[
     ("a recycled message arrives again later", RECYCLED),
 ];
 
+fn wrong_step(alloc: Global, steps: &[Step]) -> Option<usize> {
+    first_wrong(alloc, &mut Buffer::new(alloc), steps)
+}
+
 #[test]
 fn a_buffer_gives_its_messages_by_arrival_and_number(rt: HostRuntime) -> Result<(), Fail> {
     for (name, steps) in BUFFERS {
-        let mut buffer = Buffer::new(rt.alloc());
-        assert_eq!(rt;
-            first_wrong(rt.alloc(), &mut buffer, *steps),
-            None,
-            "{name}"
-        );
+        assert_eq!(rt; wrong_step(rt.alloc(), *steps), None, "{name}");
     }
     Ok(())
 }

@@ -140,13 +140,19 @@ const CACHES: &[(u32, u32, &[Step])] = &[
     (1, 65536, MANY_WAYS),
 ];
 
+/// Whether there may be such a cache, and each step on it is so.
+fn is_played(alloc: Global, sets: u32, ways: u32, steps: &[Step]) -> bool {
+    match &mut cache(alloc, sets, ways) {
+        Some(cache) => first_wrong(alloc, cache, steps).is_none(),
+        None => false,
+    }
+}
+
 #[test]
 fn a_set_replaces_its_least_recently_used_line(rt: HostRuntime) -> Result<(), Fail> {
     for (sets, ways, steps) in CACHES {
-        let mut cache = cache(rt.alloc(), *sets, *ways).ok_or("no such cache")?;
-        assert_eq!(rt;
-            first_wrong(rt.alloc(), &mut cache, *steps),
-            None,
+        assert!(rt;
+            is_played(rt.alloc(), *sets, *ways, *steps),
             "{sets} sets of {ways}"
         );
     }

@@ -1,7 +1,7 @@
 use crate::answers::is_answer;
 use crate::players::{Plays, first_wrong};
 use cache_array::DirMemory;
-use ruby_value::Value;
+use ruby_value::{NoMemory, Value};
 use sample_controllers::{number_of, one_field};
 use std::alloc::Global;
 use std::test::Fail;
@@ -48,9 +48,13 @@ const STEPS: &[Step] = &[
     Step::Held(0x40, 5),
 ];
 
+fn wrong_step(alloc: Global) -> Result<Option<usize>, NoMemory> {
+    let zero = one_field(alloc, Value::Int(0))?;
+    Ok(first_wrong(alloc, &mut DirMemory::new(alloc, zero), STEPS))
+}
+
 #[test]
 fn each_line_of_a_directory_has_fields(rt: HostRuntime) -> Result<(), Fail> {
-    let mut memory = DirMemory::new(rt.alloc(), one_field(rt.alloc(), Value::Int(0))?);
-    assert_eq!(rt; first_wrong(rt.alloc(), &mut memory, STEPS), None);
+    assert_eq!(rt; wrong_step(rt.alloc())?, None);
     Ok(())
 }

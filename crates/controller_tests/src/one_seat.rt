@@ -36,7 +36,10 @@ impl OneSeat {
 
     /// How many requests were issued, and the issue cycle of the last one.
     pub(crate) fn last_issued(&self) -> (usize, Option<u64>) {
-        (self.issued.len(), self.issued.last().map(|a| a.issued))
+        match self.issued.last() {
+            Some(a) => (self.issued.len(), Some(a.issued)),
+            None => (0, None),
+        }
     }
 }
 

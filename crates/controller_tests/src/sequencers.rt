@@ -41,6 +41,14 @@ const fn block_of(byte: u8) -> Block {
     Block { bytes: [byte; 64] }
 }
 
+/// Whether it is a request of this line, or none is asked for and there is none.
+fn is_of(found: Option<&Asked>, line: Option<u64>) -> bool {
+    match found {
+        Some(a) => line == Some(a.line),
+        None => line.is_none(),
+    }
+}
+
 impl Plays for Sequencer {
     type Step = Step;
 
@@ -57,8 +65,8 @@ impl Plays for Sequencer {
                 Ok(block) => answer.is_ok() && block.bytes[0] == *byte && block.bytes[1] == 7,
                 Err(fault) => *answer == Err(fault),
             },
-            Step::Oldest(line) => self.oldest().map(|a| a.line) == *line,
-            Step::Next(after, line) => self.next_after(*after).map(|a| a.line) == *line,
+            Step::Oldest(line) => is_of(self.oldest(), *line),
+            Step::Next(after, line) => is_of(self.next_after(*after), *line),
             Step::Done(answer) => match (self.take_done(), answer) {
                 (Some(a), Some((line, issued, byte))) => {
                     a.asked.line == *line && a.asked.issued == *issued && a.block.bytes[1] == *byte
@@ -142,15 +150,14 @@ const SEQUENCERS: &[(&str, &[Step])] = &[
     ),
 ];
 
+fn wrong_step(alloc: Global, steps: &[Step]) -> Option<usize> {
+    first_wrong(alloc, &mut Sequencer::new(alloc), steps)
+}
+
 #[test]
 fn a_sequencer_has_one_request_of_a_line(rt: HostRuntime) -> Result<(), Fail> {
     for (name, steps) in SEQUENCERS {
-        let mut sequencer = Sequencer::new(rt.alloc());
-        assert_eq!(rt;
-            first_wrong(rt.alloc(), &mut sequencer, *steps),
-            None,
-            "{name}"
-        );
+        assert_eq!(rt; wrong_step(rt.alloc(), *steps), None, "{name}");
     }
     Ok(())
 }

@@ -1,5 +1,5 @@
 // What a machine may be, and what routes its controllers may go by.
-use ctl_face::{BufferPlace, TableSize, has_routes, is_machine};
+use ctl_face::{BufferPlace, MachineSetup, NoMemory, TableSize, has_routes, is_machine};
 use ruby_value::Kind;
 use sample_controllers::{BufferRow, MachineRow, Network, TableRow, machine, routes};
 use std::alloc::Global;
@@ -301,16 +301,35 @@ const MACHINES: &[(&str, &[TableRow], &[BufferRow], bool)] = &[
     ("two buffers from one network", &[PARAMETERS], TWICE, true),
 ];
 
+// The machine of these tables and buffers.
+fn machine_of(
+    alloc: Global,
+    tables: &'static [TableRow],
+    buffers: &'static [BufferRow],
+) -> Result<MachineSetup, NoMemory> {
+    let row = MachineRow {
+        tables,
+        buffers,
+        default_state: None,
+        has_sequencer: true,
+    };
+    machine(alloc, &row)
+}
+
+fn may_be_machine(
+    alloc: Global,
+    tables: &'static [TableRow],
+    buffers: &'static [BufferRow],
+) -> Result<bool, NoMemory> {
+    let m = machine_of(alloc, tables, buffers)?;
+    Ok(is_machine(&m))
+}
+
 #[test]
 fn a_machine_is_within_its_limits(rt: HostRuntime) -> Result<(), Fail> {
     for (name, tables, buffers, may_be) in MACHINES {
-        let row = MachineRow {
-            tables: *tables,
-            buffers: *buffers,
-            ..CACHES
-        };
-        let m = machine(rt.alloc(), &row)?;
-        assert_eq!(rt; is_machine(&m), *may_be, "{name}");
+        let answer = may_be_machine(rt.alloc(), *tables, *buffers)?;
+        assert_eq!(rt; answer, *may_be, "{name}");
     }
     Ok(())
 }
@@ -334,34 +353,55 @@ const FIRST_TWICE: Receiving = &[None, Some(0)];
 
 const SECOND_TWICE: Receiving = &[None, Some(1)];
 
-const CACHES: MachineRow = MachineRow {
-    tables: &[CACHE, PARAMETERS],
-    buffers: CACHE_BUFFERS,
-    default_state: None,
-    has_sequencer: true,
-};
+// The machine of a controller.
+#[derive(Clone, Copy)]
+enum Setup {
+    Caches,
+    Directories,
+    TwoFromOne,
+}
 
-const DIRECTORIES: MachineRow = MachineRow {
-    tables: &[DIRECTORY, PARAMETERS],
-    buffers: DIRECTORY_BUFFERS,
-    ..CACHES
-};
+fn tables_of(setup: Setup) -> &'static [TableRow] {
+    match setup {
+        Setup::Caches => &[CACHE, PARAMETERS],
+        Setup::Directories => &[DIRECTORY, PARAMETERS],
+        Setup::TwoFromOne => &[PARAMETERS],
+    }
+}
 
-const TWO_FROM_ONE: MachineRow = MachineRow {
-    tables: &[PARAMETERS],
-    buffers: TWICE,
-    ..CACHES
-};
+fn buffers_of(setup: Setup) -> &'static [BufferRow] {
+    match setup {
+        Setup::Caches => CACHE_BUFFERS,
+        Setup::Directories => DIRECTORY_BUFFERS,
+        Setup::TwoFromOne => TWICE,
+    }
+}
 
 // Of the routes between two caches, which are controllers 0 and 1, and a directory: the machine and the number of the controller that is to go
 // by them, its path to itself, each other path, the jitter, whether network 1 keeps order, what takes messages at the controller, and whether
 // its acts may go by them.
-const ROUTES: &[(&str, MachineRow, u32, [u64; 3], bool, Receiving, bool)] = &[
-    ("first cache", CACHES, 0, [0, 4, 3], true, AT_CACHE, true),
-    ("second cache", CACHES, 1, [0, 4, 3], true, AT_CACHE, true),
+const ROUTES: &[(&str, Setup, u32, [u64; 3], bool, Receiving, bool)] = &[
+    (
+        "first cache",
+        Setup::Caches,
+        0,
+        [0, 4, 3],
+        true,
+        AT_CACHE,
+        true,
+    ),
+    (
+        "second cache",
+        Setup::Caches,
+        1,
+        [0, 4, 3],
+        true,
+        AT_CACHE,
+        true,
+    ),
     (
         "directory",
-        DIRECTORIES,
+        Setup::Directories,
         2,
         [0, 4, 3],
         true,
@@ -370,18 +410,34 @@ const ROUTES: &[(&str, MachineRow, u32, [u64; 3], bool, Receiving, bool)] = &[
     ),
     (
         "no jitter",
-        DIRECTORIES,
+        Setup::Directories,
         2,
         [0, 4, 0],
         true,
         AT_DIRECTORY,
         true,
     ),
-    ("most", CACHES, 0, [0, 126_000, 1000], true, AT_CACHE, true),
-    ("own path", CACHES, 0, [7, 4, 3], true, AT_CACHE, false),
+    (
+        "most",
+        Setup::Caches,
+        0,
+        [0, 126_000, 1000],
+        true,
+        AT_CACHE,
+        true,
+    ),
+    (
+        "own path",
+        Setup::Caches,
+        0,
+        [7, 4, 3],
+        true,
+        AT_CACHE,
+        false,
+    ),
     (
         "long path",
-        CACHES,
+        Setup::Caches,
         0,
         [0, 126_001, 3],
         true,
@@ -390,7 +446,7 @@ const ROUTES: &[(&str, MachineRow, u32, [u64; 3], bool, Receiving, bool)] = &[
     ),
     (
         "more jitter",
-        CACHES,
+        Setup::Caches,
         0,
         [0, 4, 1001],
         true,
@@ -399,7 +455,7 @@ const ROUTES: &[(&str, MachineRow, u32, [u64; 3], bool, Receiving, bool)] = &[
     ),
     (
         "a buffer from it is ordered",
-        CACHES,
+        Setup::Caches,
         0,
         [0, 4, 3],
         false,
@@ -408,17 +464,25 @@ const ROUTES: &[(&str, MachineRow, u32, [u64; 3], bool, Receiving, bool)] = &[
     ),
     (
         "a buffer to it is ordered",
-        DIRECTORIES,
+        Setup::Directories,
         2,
         [0, 4, 3],
         false,
         AT_DIRECTORY,
         false,
     ),
-    ("none named", CACHES, 1, [0, 4, 3], true, NOWHERE, false),
+    (
+        "none named",
+        Setup::Caches,
+        1,
+        [0, 4, 3],
+        true,
+        NOWHERE,
+        false,
+    ),
     (
         "one unnamed",
-        DIRECTORIES,
+        Setup::Directories,
         2,
         [0, 4, 3],
         true,
@@ -427,7 +491,7 @@ const ROUTES: &[(&str, MachineRow, u32, [u64; 3], bool, Receiving, bool)] = &[
     ),
     (
         "from another network",
-        CACHES,
+        Setup::Caches,
         0,
         [0, 4, 3],
         true,
@@ -436,7 +500,7 @@ const ROUTES: &[(&str, MachineRow, u32, [u64; 3], bool, Receiving, bool)] = &[
     ),
     (
         "to a network",
-        CACHES,
+        Setup::Caches,
         1,
         [0, 4, 3],
         true,
@@ -445,7 +509,7 @@ const ROUTES: &[(&str, MachineRow, u32, [u64; 3], bool, Receiving, bool)] = &[
     ),
     (
         "those of a cache",
-        DIRECTORIES,
+        Setup::Directories,
         2,
         [0, 4, 3],
         true,
@@ -454,7 +518,7 @@ const ROUTES: &[(&str, MachineRow, u32, [u64; 3], bool, Receiving, bool)] = &[
     ),
     (
         "first of two",
-        TWO_FROM_ONE,
+        Setup::TwoFromOne,
         0,
         [0, 4, 3],
         true,
@@ -463,7 +527,7 @@ const ROUTES: &[(&str, MachineRow, u32, [u64; 3], bool, Receiving, bool)] = &[
     ),
     (
         "second of two",
-        TWO_FROM_ONE,
+        Setup::TwoFromOne,
         0,
         [0, 4, 3],
         true,
@@ -475,12 +539,12 @@ const ROUTES: &[(&str, MachineRow, u32, [u64; 3], bool, Receiving, bool)] = &[
 // Whether the acts of a controller of the machine may go by such routes.
 fn may_go_by(
     alloc: Global,
-    row: &MachineRow,
+    setup: Setup,
     me: u32,
     [own_path, path, jitter]: [u64; 3],
     in_order: bool,
     at_me: Receiving,
-) -> Result<bool, Fail> {
+) -> Result<bool, NoMemory> {
     let mut receiving = [AT_CACHE, AT_CACHE, AT_DIRECTORY];
     if let Some(buffers) = receiving.get_mut(me as usize) {
         *buffers = at_me;
@@ -491,15 +555,15 @@ fn may_go_by(
         jitter,
         in_order,
     };
-    let m = machine(alloc, row)?;
     let routes = routes(alloc, &network, &receiving)?;
+    let m = machine_of(alloc, tables_of(setup), buffers_of(setup))?;
     Ok(has_routes(&m, me, &routes))
 }
 
 #[test]
 fn acts_go_by_routes_that_fit_the_machine(rt: HostRuntime) -> Result<(), Fail> {
-    for (name, row, me, lengths, in_order, at_me, fit) in ROUTES {
-        let answer = may_go_by(rt.alloc(), row, *me, *lengths, *in_order, *at_me)?;
+    for (name, setup, me, lengths, in_order, at_me, fit) in ROUTES {
+        let answer = may_go_by(rt.alloc(), *setup, *me, *lengths, *in_order, *at_me)?;
         assert_eq!(rt; answer, *fit, "{name}");
     }
     Ok(())

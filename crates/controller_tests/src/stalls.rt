@@ -97,11 +97,14 @@ const STALLS: &[(&str, &[Step])] = &[
     ("all messages wake in increasing number", ALL),
 ];
 
+fn wrong_step(alloc: Global, steps: &[Step]) -> Option<usize> {
+    first_wrong(alloc, &mut StallMap::new(alloc), steps)
+}
+
 #[test]
 fn stalled_messages_wake_in_increasing_number(rt: HostRuntime) -> Result<(), Fail> {
     for (name, steps) in STALLS {
-        let mut map = StallMap::new(rt.alloc());
-        assert_eq!(rt; first_wrong(rt.alloc(), &mut map, *steps), None, "{name}");
+        assert_eq!(rt; wrong_step(rt.alloc(), *steps), None, "{name}");
     }
     Ok(())
 }

@@ -79,12 +79,15 @@ const TWO_ENTRIES: &[Step] = &[
 /// How many entries tables have, and what is played on each.
 const TABLES: &[(u32, &[Step])] = &[(1, ONE_ENTRY), (2, TWO_ENTRIES)];
 
+fn wrong_step(alloc: Global, entries: u32, steps: &[Step]) -> Option<usize> {
+    first_wrong(alloc, &mut TbeTable::new(alloc, entries), steps)
+}
+
 #[test]
 fn a_table_holds_as_many_lines_as_it_has_entries(rt: HostRuntime) -> Result<(), Fail> {
     for (entries, steps) in TABLES {
-        let mut table = TbeTable::new(rt.alloc(), *entries);
         assert_eq!(rt;
-            first_wrong(rt.alloc(), &mut table, *steps),
+            wrong_step(rt.alloc(), *entries, *steps),
             None,
             "{entries} entries"
         );

@@ -45,3 +45,4 @@ pub mod Table
 pub mod Tables
 pub mod Touch
 pub mod Wake
+pub mod LawfulProp

@@ -34,8 +34,7 @@ use ruby_value::{Block, Fields, MachineSetup, Message, Ref, Value};
 /// A call that changes it `Does` what the definition of its name has, and a call that only reads answers what its definition
 /// has; `send` is the definition `enqueue`. A fault comes exactly where that definition has it, unless there was no memory.
 /// After a fault or want of memory the local is as it was. A call that can't answer want of memory takes none. What always
-/// holds is the law `lawful`, which says that each local is lawful, and not by which proof; a run's locals go by routes that fit
-/// the whole run besides. Which words the faults are is this project's own.
+/// holds is the law `lawful`, which says that each local is lawful; a run's locals go by routes that fit the whole run besides. Which words the faults are is this project's own.
 pub trait Local {
     ghost view: { Self → LocalView };
 

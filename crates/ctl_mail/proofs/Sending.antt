@@ -13,7 +13,8 @@ use Rattle.ruby_value.specs.declared.setup.BufferSetup.{BufferSetup}
 use Rattle.ruby_value.specs.declared.setup.MachineSetup.{MachineSetup}
 use Rattle.ruby_value.specs.declared.value.Value.{Value}
 use Rattle.ctl_face.specs.Latency.{is_latency}
-use Rattle.ctl_face.specs.Acts.{Acts, Copy, note_of}
+use Rattle.ctl_face.specs.Acts.{Acts, sent_of}
+use Rattle.ruby_value.specs.declared.message.Delivery.{Delivery}
 use Rattle.ctl_face.specs.Ctl.{InboxMessage, Mail}
 use Rattle.ctl_face.specs.Enqueue.{for_others}
 use Rattle.ctl_face.specs.Inbox.{with_message}
@@ -57,10 +58,10 @@ module _ (mail : Mail) (me network : ℕ) (old : Told) where
         network_last = cond ordered (with_last after.network_last network receiver m.arrival) after.network_last;
       }
 
-  abbrev pub with_one : (drawn ordered : Bool) → Copy → MailView
+  abbrev pub with_one : (drawn ordered : Bool) → Delivery Message → MailView
   with_one drawn ordered c = record {
     mail = one_mail (eqb c.receiver me) drawn ordered c.receiver c.message;
-    acts = record old.acts { sent = old.acts.sent ++ note_of c ∷ []; posted = old.acts.posted ++ for_others me (c ∷ []) };
+    acts = record old.acts { sent = old.acts.sent ++ sent_of c ∷ []; posted = old.acts.posted ++ for_others me (c ∷ []) };
   }
 
   one-unordered : (mine drawn : Bool) (receiver : ℕ) (m : Message) → copied_mail mine drawn before m ≡ one_mail mine drawn false receiver m
@@ -72,19 +73,19 @@ module _ (mail : Mail) (me network : ℕ) (old : Told) where
   one-ordered true drawn receiver m = refl
   one-ordered false drawn receiver m = refl
 
-  pub view-unordered : (drawn : Bool) (c : Copy) → changed_view mail (told_with_copy me drawn c old) ≡ with_one drawn false c
+  pub view-unordered : (drawn : Bool) (c : Delivery Message) → changed_view mail (told_with_copy me drawn c old) ≡ with_one drawn false c
   view-unordered drawn c =
       ap (λ (m : Mail). record { mail = m; acts = (told_with_copy me drawn c old).acts })
       (after-copy mail me drawn c old ∙ one-unordered (eqb c.receiver me) drawn c.receiver c.message)
 
-  pub view-ordered : (drawn : Bool) (c : Copy) → changed_view mail (told_with_act (NetworkLast network c.receiver c.message.arrival) (told_with_copy me drawn c old)) ≡ with_one drawn true c
+  pub view-ordered : (drawn : Bool) (c : Delivery Message) → changed_view mail (told_with_act (NetworkLast network c.receiver c.message.arrival) (told_with_copy me drawn c old)) ≡ with_one drawn true c
   view-ordered drawn c =
       ap (λ (m : Mail). record { mail = m; acts = (told_with_copy me drawn c old).acts })
       (after-act mail (NetworkLast network c.receiver c.message.arrival) (told_with_copy me drawn c old)
       ∙ (ap (λ (m : Mail). record m { network_last = with_last m.network_last network c.receiver c.message.arrival }) (after-copy mail me drawn c old)
       ∙ one-ordered (eqb c.receiver me) drawn c.receiver c.message))
 
-  pub one-as : (d d' o o' : Bool) (c c' : Copy) → d ≡ d' → o ≡ o' → c ≡ c' → with_one d o c ≡ with_one d' o' c'
+  pub one-as : (d d' o o' : Bool) (c c' : Delivery Message) → d ≡ d' → o ≡ o' → c ≡ c' → with_one d o c ≡ with_one d' o' c'
   one-as d d' o o' c c' p q r = λ i. with_one (p i) (q i) (r i)
 
 -- one copy in a buffer of the controller's own, as a change of the view
@@ -99,10 +100,10 @@ module _ (mail : Mail) (me : ℕ) (old : Told) where
     local_last = cond ordered (finite.insert so_far.local_last buffer m.arrival) so_far.local_last;
   }
 
-  abbrev pub with_local : (ordered : Bool) → ℕ → Copy → MailView
+  abbrev pub with_local : (ordered : Bool) → ℕ → Delivery Message → MailView
   with_local ordered buffer c = record {
     mail = one_local_mail (eqb c.receiver me) ordered buffer c.message;
-    acts = record old.acts { sent = old.acts.sent ++ note_of c ∷ []; posted = old.acts.posted ++ for_others me (c ∷ []) };
+    acts = record old.acts { sent = old.acts.sent ++ sent_of c ∷ []; posted = old.acts.posted ++ for_others me (c ∷ []) };
   }
 
   local-unordered : (mine : Bool) (buffer : ℕ) (m : Message) → copied_mail mine false so_far m ≡ one_local_mail mine false buffer m
@@ -114,19 +115,19 @@ module _ (mail : Mail) (me : ℕ) (old : Told) where
   local-ordered true buffer m = refl
   local-ordered false buffer m = refl
 
-  pub view-local-unordered : (buffer : ℕ) (c : Copy) → changed_view mail (told_with_copy me false c old) ≡ with_local false buffer c
+  pub view-local-unordered : (buffer : ℕ) (c : Delivery Message) → changed_view mail (told_with_copy me false c old) ≡ with_local false buffer c
   view-local-unordered buffer c =
       ap (λ (m : Mail). record { mail = m; acts = (told_with_copy me false c old).acts })
       (after-copy mail me false c old ∙ local-unordered (eqb c.receiver me) buffer c.message)
 
-  pub view-local-ordered : (buffer : ℕ) (c : Copy) → changed_view mail (told_with_act (LocalLast buffer c.message.arrival) (told_with_copy me false c old)) ≡ with_local true buffer c
+  pub view-local-ordered : (buffer : ℕ) (c : Delivery Message) → changed_view mail (told_with_act (LocalLast buffer c.message.arrival) (told_with_copy me false c old)) ≡ with_local true buffer c
   view-local-ordered buffer c =
       ap (λ (m : Mail). record { mail = m; acts = (told_with_copy me false c old).acts })
       (after-act mail (LocalLast buffer c.message.arrival) (told_with_copy me false c old)
       ∙ (ap (λ (m : Mail). record m { local_last = finite.insert m.local_last buffer c.message.arrival }) (after-copy mail me false c old)
       ∙ local-ordered (eqb c.receiver me) buffer c.message))
 
-  pub local-as : (o o' : Bool) (buffer : ℕ) (c c' : Copy) → o ≡ o' → c ≡ c' → with_local o buffer c ≡ with_local o' buffer c'
+  pub local-as : (o o' : Bool) (buffer : ℕ) (c c' : Delivery Message) → o ≡ o' → c ≡ c' → with_local o buffer c ≡ with_local o' buffer c'
   local-as o o' buffer c c' p q = λ i. with_local (p i) buffer (q i)
 
 -- when a copy arrives
@@ -171,7 +172,7 @@ reflects-copied queues stalled told mail true m later fresh reflects = record {
   moved = reflects.moved;
 }
 
-pub are-copied : (store : MailStore) (me : ℕ) (drawn : Bool) (c : Copy) (old : Told) → old.cycle ≤ 10 ^ 12 → MaySend me old.cycle 1 (changed_mail (mail_of store) old)
+pub are-copied : (store : MailStore) (me : ℕ) (drawn : Bool) (c : Delivery Message) (old : Told) → old.cycle ≤ 10 ^ 12 → MaySend me old.cycle 1 (changed_mail (mail_of store) old)
     → old.cycle < c.message.arrival → c.message.number ≡ record { sender = me; count = (changed_mail (mail_of store) old).sent }
     → AreOf store old → AreOf store (told_with_copy me drawn c old)
 are-copied store me drawn c old le may later number are =
@@ -233,7 +234,7 @@ may-more me now more mail mine drawn m number may =
       drawn = drawn-after drawn mail.drawn (4096 * now) mail.copies may.drawn;
     }
 
-pub may-copied : (mail : Mail) (me : ℕ) (drawn : Bool) (c : Copy) (old : Told) (more : ℕ) → c.message.number ≡ record { sender = me; count = (changed_mail mail old).sent }
+pub may-copied : (mail : Mail) (me : ℕ) (drawn : Bool) (c : Delivery Message) (old : Told) (more : ℕ) → c.message.number ≡ record { sender = me; count = (changed_mail mail old).sent }
     → MaySend me old.cycle (more + 1) (changed_mail mail old) → MaySend me old.cycle more (changed_mail mail (told_with_copy me drawn c old))
 may-copied mail me drawn c old more number may =
     subst (MaySend me old.cycle more) (sym (after-copy mail me drawn c old))
@@ -262,9 +263,9 @@ module _ (actor : Actor) (network latency : ℕ) (fields : List Value) (now : �
   more-copies : (v : MailView) (s : Sending) (receiver : ℕ)
       → view_with_network_copy actor network latency fields now (view_with_copies actor.me v s) receiver ≡ view_with_copies actor.me v (step s receiver)
   more-copies v s receiver =
-      let more : List Copy = (step (no_copies s.mail) receiver).copies in
-      let sent : (v.acts.sent ++ map note_of s.copies) ++ map note_of more ≡ v.acts.sent ++ map note_of (s.copies ++ more) =
-      append_assoc v.acts.sent (map note_of s.copies) (map note_of more) ∙ ap (λ ns. v.acts.sent ++ ns) (sym (map-append note_of s.copies more)) in
+      let more : List (Delivery Message) = (step (no_copies s.mail) receiver).copies in
+      let sent : (v.acts.sent ++ map sent_of s.copies) ++ map sent_of more ≡ v.acts.sent ++ map sent_of (s.copies ++ more) =
+      append_assoc v.acts.sent (map sent_of s.copies) (map sent_of more) ∙ ap (λ ns. v.acts.sent ++ ns) (sym (map-append sent_of s.copies more)) in
       let posted : (v.acts.posted ++ for_others actor.me s.copies) ++ for_others actor.me more ≡ v.acts.posted ++ for_others actor.me (s.copies ++ more) =
       append_assoc v.acts.posted (for_others actor.me s.copies) (for_others actor.me more) ∙ ap (λ cs. v.acts.posted ++ cs) (sym (filter-append _ s.copies more)) in
       λ i. record { mail = (step s receiver).mail; acts = record v.acts { sent = sent i; posted = posted i } }

@@ -8,7 +8,8 @@ use Rattle.std.proofs.lemmas.List.{length-set}
 use Rattle.std.proofs.lemmas.List.Elements.{All-contains}
 use Rattle.std.proofs.lemmas.List.Sums.{fold-append}
 use Rattle.ruby_value.specs.declared.message.Message.{Message}
-use Rattle.ctl_face.specs.Acts.{Acts, Copy}
+use Rattle.ctl_face.specs.Acts.{Acts}
+use Rattle.ruby_value.specs.declared.message.Delivery.{Delivery}
 use Rattle.ctl_face.specs.AtFront.{at_front}
 use Rattle.ctl_face.specs.Ctl.{InboxMessage, Mail}
 use Rattle.ctl_face.specs.Front as face
@@ -120,7 +121,7 @@ after-copy-by now mail false drawn m = refl
 counts-copied : (mail : Mail) (mine drawn : Bool) (m : Message) → counts_after drawn (counts_in mail) ≡ counts_in (copied_mail mine drawn mail m)
 counts-copied mail mine drawn m = refl
 
-pub after-copy : (mail : Mail) (me : ℕ) (drawn : Bool) (c : Copy) (old : Told) → changed_mail mail (told_with_copy me drawn c old) ≡ copied_mail (eqb c.receiver me) drawn (changed_mail mail old) c.message
+pub after-copy : (mail : Mail) (me : ℕ) (drawn : Bool) (c : Delivery Message) (old : Told) → changed_mail mail (told_with_copy me drawn c old) ≡ copied_mail (eqb c.receiver me) drawn (changed_mail mail old) c.message
 after-copy mail me drawn c old =
     after-both old.cycle mail old.log (copy_acts me drawn c) ∙ after-copy-by old.cycle (changed_mail mail old) (eqb c.receiver me) drawn c.message
 
@@ -129,7 +130,7 @@ unfolding AreMakeable
 makeable-copy-by now mail true drawn m counts new = (counts, (new refl, tt))
 makeable-copy-by now mail false drawn m counts new = (counts, tt)
 
-pub fits-copy : (mail : Mail) (me : ℕ) (drawn : Bool) (c : Copy) (old : Told) → CountsFit (changed_mail mail old) → (eqb c.receiver me ≡ true → IsNewIn (changed_mail mail old) c.message.number)
+pub fits-copy : (mail : Mail) (me : ℕ) (drawn : Bool) (c : Delivery Message) (old : Told) → CountsFit (changed_mail mail old) → (eqb c.receiver me ≡ true → IsNewIn (changed_mail mail old) c.message.number)
     → CopiesFit mail old → CopiesFit mail (told_with_copy me drawn c old)
 fits-copy mail me drawn c old counts new fits =
     let before = changed_mail mail old in

@@ -5,7 +5,7 @@ use Rattle.std.specs.List.{All, filter, fold}
 use Rattle.ruby_value.specs.declared.fault.Fault.{Fault}
 use Rattle.ruby_value.specs.declared.setup.MachineSetup.{MachineSetup}
 use Rattle.ruby_value.specs.declared.value.Value.{Value}
-use Rattle.ctl_face.specs.Acts.{note_of}
+use Rattle.ctl_face.specs.Acts.{sent_of}
 use Rattle.ctl_face.specs.Ctl.{InboxMessage, Mail}
 use Rattle.ctl_face.specs.Enqueue.{for_others}
 use Rattle.ctl_face.specs.LocalView.{Actor}
@@ -30,7 +30,7 @@ view_after store changes = changed_view (mail_of store) (told_by changes)
 abbrev pub view_with_copies : ℕ → MailView → Sending → MailView
 view_with_copies me v s = record {
   mail = s.mail;
-  acts = record v.acts { sent = v.acts.sent ++ map note_of s.copies; posted = v.acts.posted ++ for_others me s.copies };
+  acts = record v.acts { sent = v.acts.sent ++ map sent_of s.copies; posted = v.acts.posted ++ for_others me s.copies };
 }
 
 abbrev pub view_after_sending : ℕ → MailView → Result Sending Fault → Result MailView Fault

@@ -3,7 +3,9 @@
 use Rattle.std.specs.Prelude.{◌-◌, ◌+◌, ◌≤◌, ◌++◌, ◌==◌, ◌&&◌, ℕ, Bool, false, Option, Some, List, [], ◌∷◌, vec_capacity, vec_len, if◌then◌else◌}
 use Rattle.std.specs.VecDeque.{deque_capacity, deque_len}
 use Rattle.ruby_value.specs.declared.value.Value.{Value}
-use Rattle.ctl_face.specs.Acts.{Copy, note_of}
+use Rattle.ruby_value.specs.declared.message.Delivery.{Delivery}
+use Rattle.ruby_value.specs.declared.message.Message.{Message}
+use Rattle.ctl_face.specs.Acts.{sent_of}
 use Rattle.ctl_face.specs.Enqueue.{for_others}
 use Rattle.ctl_mail.specs.declared.act.MailAct.{MailAct}
 use Rattle.ctl_mail.specs.declared.act.MailAct.TheVariants.{Arrive, Count, LocalLast, NetworkLast}
@@ -24,7 +26,7 @@ counts_after drawn counts = record {
   copies = counts.copies + 1;
 }
 
-abbrev pub copy_at : (me count receiver buffer arrival : ℕ) → List Value → Copy
+abbrev pub copy_at : (me count receiver buffer arrival : ℕ) → List Value → Delivery Message
 copy_at me count receiver buffer arrival fields = record {
   receiver = receiver;
   message = record {
@@ -37,14 +39,14 @@ copy_at me count receiver buffer arrival fields = record {
 }
 
 -- what a copy does to the sender's mail, but for last arrivals
-abbrev pub copy_acts : ℕ → Bool → Copy → List MailAct
+abbrev pub copy_acts : ℕ → Bool → Delivery Message → List MailAct
 copy_acts me drawn c = Count drawn ∷ (if c.receiver == me then Arrive c.message ∷ [] else [])
 
-abbrev pub told_with_copy : ℕ → Bool → Copy → Told → Told
+abbrev pub told_with_copy : ℕ → Bool → Delivery Message → Told → Told
 told_with_copy me drawn c old = record old {
   counts = counts_after drawn old.counts;
   log = old.log ++ copy_acts me drawn c;
-  acts = record old.acts { sent = old.acts.sent ++ note_of c ∷ []; posted = old.acts.posted ++ for_others me (c ∷ []) };
+  acts = record old.acts { sent = old.acts.sent ++ sent_of c ∷ []; posted = old.acts.posted ++ for_others me (c ∷ []) };
 }
 
 abbrev pub told_with_act : MailAct → Told → Told

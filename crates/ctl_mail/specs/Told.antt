@@ -8,7 +8,9 @@ use Rattle.ruby_value.specs.declared.fault.Fault.{Fault}
 use Rattle.ruby_value.specs.declared.message.MsgNo.{MsgNo}
 use Rattle.ruby_value.specs.declared.message.Message.{Message}
 use Rattle.stall_map.specs.declared.stalled.Stalled.{Stalled}
-use Rattle.ctl_face.specs.Acts.{Acts, Copy, Note}
+use Rattle.ctl_face.specs.Acts.{Acts}
+use Rattle.ruby_value.specs.declared.message.Delivery.{Delivery}
+use Rattle.ruby_value.specs.declared.message.Sent.{Sent}
 use Rattle.ctl_face.specs.AtFront.{AtFront, at_front}
 use Rattle.ctl_face.specs.Ctl.{InboxMessage, Mail}
 use Rattle.ctl_face.specs.Fits.{NumbersAscend}
@@ -25,7 +27,6 @@ use Rattle.ctl_mail.specs.declared.changes.MailChanges.{MailChanges}
 use Rattle.ctl_mail.specs.declared.moves.Move.{Move}
 use Rattle.ctl_mail.specs.declared.moves.Waking.{Waking}
 use Rattle.ctl_mail.specs.declared.sent.SendCounts.{SendCounts}
-use Rattle.ctl_mail.specs.declared.sent.SentNote.{SentNote}
 use Rattle.ctl_mail.specs.declared.store.MailStore.{MailStore}
 use Rattle.ctl_mail.specs.Inbox.{Has, IsAt}
 use Rattle.ctl_mail.specs.MailOf.{IsNewIn, mail_of}
@@ -64,13 +65,6 @@ pub record Told : Type 0 where
   pub acts : Acts
   pub moves : List Move
 
--- a note and a posted copy, as they are kept
-abbrev pub note_in : SentNote → Note
-note_in n = record { number = n.number; receiver = n.receiver; buffer = n.buffer; arrival = n.arrival }
-
-abbrev pub copy_in : ℕ × Message → Copy
-copy_in c = record { receiver = c.0; message = c.1 }
-
 -- the counts of a mail, as they are kept
 abbrev pub counts_in : Mail → SendCounts
 counts_in mail = record { sent = mail.sent; drawn = mail.drawn; copies = mail.copies }
@@ -85,8 +79,8 @@ told_by changes = record {
     stalled = changes.stalled.items;
     woken = changes.woken.items;
     recycled = changes.recycled.items;
-    sent = map note_in changes.sent.items;
-    posted = map copy_in changes.posted.items;
+    sent = changes.sent.items;
+    posted = changes.posted.items;
     again = changes.again;
   };
   moves = changes.moves.items;

@@ -1,15 +1,15 @@
-ghost use Rattle.std.specs.Prelude.{◌≡◌, ◌++◌, [], ◌∷◌, ◌↔◌, true, OnOk, OnErr, Contains, IsTrue, map};
+ghost use Rattle.std.specs.Prelude.{◌≡◌, ◌++◌, [], ◌∷◌, ◌↔◌, true, OnOk, OnErr, Contains, IsTrue};
 ghost use Rattle.ruby_value.specs.declared.message.MsgNo.{MsgNo as MsgNoRecord};
 ghost use Rattle.ctl_face.specs.ScanView.{no_acts};
 ghost use Rattle.ctl_mail.specs.declared.act.MailAct.TheVariants as act;
 ghost use Rattle.ctl_mail.specs.MailOf.{IsMail, mail_of};
-ghost use Rattle.ctl_mail.specs.Told.{AreOf, IsGone, copy_in, counts_in, note_in, told_by};
+ghost use Rattle.ctl_mail.specs.Told.{AreOf, IsGone, counts_in, told_by};
 
 use crate::MailStore;
 use crate::act::MailAct;
 use crate::moves::Move;
-use crate::sent::{SendCounts, SentNote};
-use ruby_value::{Message, MsgNo, NoMemory, Seq};
+use crate::sent::SendCounts;
+use ruby_value::{Delivery, Message, MsgNo, NoMemory, Sent, Seq};
 use std::alloc::Global;
 use std::collections::VecDeque;
 
@@ -23,8 +23,8 @@ pub struct MailChanges {
     pub(crate) stalled: Vec<MsgNo>,
     pub(crate) woken: Vec<MsgNo>,
     pub(crate) recycled: Vec<MsgNo>,
-    pub(crate) sent: Vec<SentNote>,
-    pub(crate) posted: Vec<(u32, Message)>,
+    pub(crate) sent: Vec<Sent>,
+    pub(crate) posted: Vec<Delivery<Message>>,
     pub(crate) again: bool,
     pub(crate) moves: Vec<Move>,
     pub(crate) alloc: Global,
@@ -83,15 +83,15 @@ impl MailChanges {
     }
 
     /// The copies that it sent.
-    pub fn sent(&self) -> &[SentNote]
-        ensures { map note_in result.now ≡ (told_by self.now).acts.sent }
+    pub fn sent(&self) -> &[Sent]
+        ensures { result.now ≡ (told_by self.now).acts.sent }
     {
         &self.sent
     }
 
     /// The copies for other controllers, each with its receiver, in the order in which they were sent.
-    pub fn into_posted(self) -> Seq<(u32, Message)>
-        ensures { map copy_in result ≡ (told_by self).acts.posted }
+    pub fn into_posted(self) -> Seq<Delivery<Message>>
+        ensures { result ≡ (told_by self).acts.posted }
     {
         Seq::of(self.posted)
     }

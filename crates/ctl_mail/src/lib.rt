@@ -28,7 +28,7 @@ pub use changes::MailChanges;
 pub use reads::{front, peek, ready};
 pub use scan::{again, pop, recycle};
 pub use sends::send;
-pub use sent::{SendCounts, SentNote};
+pub use sent::SendCounts;
 pub use stalls::stall;
 pub use store::MailStore;
 pub use wakes::{wake, wake_all};

@@ -5,19 +5,7 @@ ghost use Rattle.ctl_mail.specs.Sent.{HasSpace, copy_at, counts_after, newer_loc
 ghost use Rattle.ctl_mail.specs.Told.{told_by};
 
 use crate::{MailAct, MailChanges};
-use ruby_value::{Fields, Message, MsgNo, NoMemory};
-
-/// That a copy was sent.
-#[derive(Clone, Copy)]
-pub struct SentNote {
-    pub number: MsgNo,
-    /// The controller that gets the copy, which is the sender where the buffer is one of its own.
-    pub receiver: u32,
-    /// The number of the buffer within the receiver's machine.
-    pub buffer: u16,
-    /// The cycle from which on the copy is ready.
-    pub arrival: u64,
-}
+use ruby_value::{Delivery, Fields, Message, MsgNo, NoMemory, Sent};
 
 /// How many messages a controller has sent, how many words it has drawn, and how many copies it has sent in this cycle.
 #[derive(Clone, Copy)]
@@ -128,7 +116,7 @@ impl MailChanges {
             count: self.counts.sent,
         };
         self.counts = counts_after(self.counts, drawn);
-        self.sent.push_reserved(SentNote {
+        self.sent.push_reserved(Sent {
             number,
             receiver,
             buffer,
@@ -145,7 +133,7 @@ impl MailChanges {
         if receiver == me {
             self.log.push_back_reserved(MailAct::Arrive(message));
         } else {
-            self.posted.push_reserved((receiver, message));
+            self.posted.push_reserved(Delivery { receiver, message });
         }
     }
 

@@ -5,7 +5,8 @@ use Rattle.ctl_face.specs.declared.routes.Routes.{Routes}
 use Rattle.std.specs.FinMap as map
 use Rattle.std.specs.Ordering.{nat_cmp}
 use Rattle.ctl_face.specs.Acts.{Acts}
-use Rattle.ctl_face.specs.Ctl.{Mail, Requests}
+use Rattle.ctl_face.specs.Ctl.{Mail}
+use Rattle.ruby_value.specs.Requests.{Requests}
 use Rattle.ctl_face.specs.Table.{Table}
 use Rattle.ctl_face.specs.Fits.{Fits, IsLawful, last_cycle}
 use Rattle.ctl_face.specs.LocalView.{Actor, LocalView}
@@ -19,20 +20,19 @@ use Rattle.ctl_mail.specs.Told as mail
 use Rattle.ctl_tables.specs.declared.change.TableChanges.{TableChanges}
 use Rattle.ctl_tables.specs.Stored as tables
 use Rattle.sequencer.specs.Callbacks.{FitCallbacks, after_callbacks}
-use Rattle.sequencer.specs.Requests as own
 use Rattle.ctl_store.specs.declared.parts.Parts.{Parts}
 use Rattle.ctl_store.proofs.Joined.{four}
 use Rattle.ctl_store.specs.Changed.{FitCalls, after_calls}
-use Rattle.ctl_store.specs.Kept.{IsKept, ctl_of, face_requests, own_requests}
+use Rattle.ctl_store.specs.Kept.{IsKept, ctl_of}
 use Rattle.ctl_store.specs.Scanned.{IsScan, Scanned, local_of, scanned}
 
-no_calls : (calls : List Answer) (o : Option Requests) → ((r : own.Requests) → after_callbacks calls r ≡ r) → after_calls calls o ≡ o
+no_calls : (calls : List Answer) (o : Option Requests) → ((r : Requests) → after_callbacks calls r ≡ r) → after_calls calls o ≡ o
 no_calls calls None same = refl
-no_calls calls (Some r) same = ap (λ (s : own.Requests). Some (face_requests s)) (same (own_requests r))
+no_calls calls (Some r) same = ap (λ (s : Requests). Some s) (same r)
 
-fit_none : (calls : List Answer) (o : Option Requests) → calls ≡ [] → ((r : own.Requests) → FitCallbacks calls r) → FitCalls calls o
+fit_none : (calls : List Answer) (o : Option Requests) → calls ≡ [] → ((r : Requests) → FitCallbacks calls r) → FitCalls calls o
 fit_none calls None none fit = none
-fit_none calls (Some r) none fit = fit (own_requests r)
+fit_none calls (Some r) none fit = fit r
 
 none_made : (now : ℕ) (m : Mail) → mail.after_acts now m [] ≡ m
 unfolding mail.after_acts
@@ -62,7 +62,7 @@ module _ (p : Parts) (routes : Routes) (seed now : ℕ) (changed : TableChanges)
   }
 
   pub begun_view : tables.tables_now p.tables changed ≡ tables.tables_of p.tables → tables.states_now p.tables changed ≡ tables.states_of p.tables
-      → mail.told_by m ≡ first_told (mail.counts_in (mail_of p.mail)) now → ((r : own.Requests) → after_callbacks calls r ≡ r)
+      → mail.told_by m ≡ first_told (mail.counts_in (mail_of p.mail)) now → ((r : Requests) → after_callbacks calls r ≡ r)
       → local_of begun ≡ scan_view p.machine actor now (ctl_of p)
   begun_view same_tables same_states told same_calls =
       let mails : mail.changed_mail (mail_of p.mail) (mail.told_by m) ≡ mail_of p.mail = unchanged_mail (mail_of p.mail) (mail.told_by m) (mail.counts_in (mail_of p.mail)) now told in
@@ -72,7 +72,7 @@ module _ (p : Parts) (routes : Routes) (seed now : ℕ) (changed : TableChanges)
 
   pub begun_scan : IsKept p → HasRoutes p.machine p.me routes → now ≤ last_cycle → Fits p.machine p.me (ctl_of p) now
       → local_of begun ≡ scan_view p.machine actor now (ctl_of p)
-      → tables.AreOf changed p.tables → mail.AreOf p.mail (mail.told_by m) → calls ≡ [] → ((r : own.Requests) → FitCallbacks calls r)
+      → tables.AreOf changed p.tables → mail.AreOf p.mail (mail.told_by m) → calls ≡ [] → ((r : Requests) → FitCallbacks calls r)
       → IsScan begun
   begun_scan kept has_routes in_run fits view of_tables of_mail none fit = record {
     kept = kept;

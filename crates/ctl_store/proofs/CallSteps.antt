@@ -1,31 +1,25 @@
 -- A callback of a scan, as a call on the local that the scan is.
 use Rattle.std.proofs.Common.{◌≡◌, ℕ, cond, List, Option, None, Some, Result, Ok, Err, refl, sym, ap, subst, ◌∙◌}
 use Rattle.ruby_value.specs.declared.asked.Answer.{Answer}
-use Rattle.ruby_value.specs.declared.asked.Ask.{Ask}
-use Rattle.ruby_value.specs.declared.asked.Ask.TheVariants.{Load, Store, Fetch}
-use Rattle.ruby_value.specs.declared.asked.Asked.{Asked}
 use Rattle.ruby_value.specs.declared.fault.Fault.{Fault}
-use Rattle.ruby_value.specs.declared.fault.Fault.TheVariants.{Callback}
 use Rattle.ruby_value.specs.declared.value.Block.{Block}
 use Rattle.ruby_value.specs.Roomy.{Roomy}
-use Rattle.ctl_face.specs.Callback as face
-use Rattle.ctl_face.specs.Callback.{block_after_write, read_back, write_back}
+use Rattle.ctl_face.specs.Callback.{after_callback, block_after_write, read_back, write_back}
 use Rattle.ctl_face.specs.Does.{DoesWith}
 use Rattle.ctl_face.specs.Fits.{IsLawful}
 use Rattle.ctl_face.specs.LocalView.{LocalView}
 use Rattle.ctl_face.proofs.ActsKept.{read_acts, write_acts}
 use Rattle.ctl_face.proofs.Callbacks.{read_back_keeps, write_back_keeps}
 use Rattle.ctl_face.proofs.LawfulAfter.{lawful_after}
-use Rattle.sequencer.specs.declared.fault.BackFault.{BackFault}
-use Rattle.sequencer.specs.declared.fault.BackFault.TheVariants as back_fault
+use Rattle.ruby_value.specs.declared.asked.BackFault.{BackFault}
 use Rattle.sequencer.specs.declared.fault.CallbackFault.{CallbackFault}
 use Rattle.sequencer.specs.declared.fault.CallbackFault.TheVariants as refused
-use Rattle.sequencer.specs.Back as back
 use Rattle.sequencer.specs.Callbacks.{CallsBack, FitCallbacks, after_callbacks}
-use Rattle.sequencer.specs.Requests as own
+use Rattle.ruby_value.specs.Callback as callback
+use Rattle.ruby_value.specs.Requests.{Requests}
 use Rattle.ctl_store.specs.Answered.{as_trouble}
 use Rattle.ctl_store.specs.Changed.{FitCalls, after_calls}
-use Rattle.ctl_store.specs.Kept.{face_requests, requests_of}
+use Rattle.ctl_store.specs.Kept.{requests_of}
 use Rattle.ctl_store.specs.Scanned.{IsScan, Scanned, local_of}
 use Rattle.ctl_store.proofs.Stays.{Steps, stays_lawful}
 
@@ -34,76 +28,40 @@ abbrev pub with_calls : Scanned → List Answer → Scanned
 with_calls s calls = record s { changes = record s.changes { calls = calls } }
 
 -- the local with other requests
-abbrev with_requests : LocalView → own.Requests → LocalView
-with_requests v r = record v { ctl = record v.ctl { sequencer = Some (face_requests r) } }
-
-abbrev viewed : LocalView → Result own.Requests BackFault → Result LocalView Fault
-viewed v (Ok r) = Ok (with_requests v r)
-viewed v (Err fault) = Err Callback
-
-module _ (v : LocalView) (r : own.Requests) (line : ℕ) (block : Block) where
-  read_of_kind : (asked : Asked) (k : Ask) → asked.kind ≡ k
-      → face.finish_read (with_requests v r) line block (Some asked) ≡ viewed v (back.finish_read r line block (Some asked))
-  read_of_kind asked Load is =
-      ap (λ (k : Ask). cond (face.is_store k) (Err Callback) (Ok (with_requests v (back.after_answer r line asked block)))) is
-      ∙ sym (ap (λ (k : Ask). viewed v (cond (back.is_store k) (Err back_fault.WrongKind) (Ok (back.after_answer r line asked block)))) is)
-  read_of_kind asked Fetch is =
-      ap (λ (k : Ask). cond (face.is_store k) (Err Callback) (Ok (with_requests v (back.after_answer r line asked block)))) is
-      ∙ sym (ap (λ (k : Ask). viewed v (cond (back.is_store k) (Err back_fault.WrongKind) (Ok (back.after_answer r line asked block)))) is)
-  read_of_kind asked Store is =
-      ap (λ (k : Ask). cond (face.is_store k) (Err Callback) (Ok (with_requests v (back.after_answer r line asked block)))) is
-      ∙ sym (ap (λ (k : Ask). viewed v (cond (back.is_store k) (Err back_fault.WrongKind) (Ok (back.after_answer r line asked block)))) is)
-
-  reads : (o : Option Asked) → face.finish_read (with_requests v r) line block o ≡ viewed v (back.finish_read r line block o)
-  reads None = refl
-  reads (Some asked) = read_of_kind asked asked.kind refl
-
-  write_of_kind : (asked : Asked) (k : Ask) → asked.kind ≡ k
-      → face.finish_write (with_requests v r) line block (Some asked) ≡ viewed v (back.finish_write r line block (Some asked))
-  write_of_kind asked Load is =
-      ap (λ (k : Ask). cond (face.is_store k) (Ok (with_requests v (back.after_answer r line asked (back.stored_block asked block)))) (Err Callback)) is
-      ∙ sym (ap (λ (k : Ask). viewed v (cond (back.is_store k) (Ok (back.after_answer r line asked (back.stored_block asked block))) (Err back_fault.WrongKind))) is)
-  write_of_kind asked Fetch is =
-      ap (λ (k : Ask). cond (face.is_store k) (Ok (with_requests v (back.after_answer r line asked (back.stored_block asked block)))) (Err Callback)) is
-      ∙ sym (ap (λ (k : Ask). viewed v (cond (back.is_store k) (Ok (back.after_answer r line asked (back.stored_block asked block))) (Err back_fault.WrongKind))) is)
-  write_of_kind asked Store is =
-      ap (λ (k : Ask). cond (face.is_store k) (Ok (with_requests v (back.after_answer r line asked (back.stored_block asked block)))) (Err Callback)) is
-      ∙ sym (ap (λ (k : Ask). viewed v (cond (back.is_store k) (Ok (back.after_answer r line asked (back.stored_block asked block))) (Err back_fault.WrongKind))) is)
-
-  writes : (o : Option Asked) → face.finish_write (with_requests v r) line block o ≡ viewed v (back.finish_write r line block o)
-  writes None = refl
-  writes (Some asked) = write_of_kind asked asked.kind refl
-
-  block_is : (o : Option Asked) → face.block_of_write o block ≡ back.block_of_write o block
-  block_is None = refl
-  block_is (Some asked) = refl
+abbrev with_requests : LocalView → Requests → LocalView
+with_requests v r = record v { ctl = record v.ctl { sequencer = Some r } }
 
 -- what a callback does to requests it does to a local that has them
-does_by_calls : {A : Type 0} (v : LocalView) (old new : own.Requests) (want : Result own.Requests BackFault) (answer : A) (result : Result A CallbackFault)
+does_by_calls : {A : Type 0} (v : LocalView) (old new : Requests) (want : Result Requests BackFault) (answer : A) (result : Result A CallbackFault)
     → CallsBack want answer result old new
-    → DoesWith (viewed v want) answer (as_trouble result) (with_requests v old) (with_requests v new)
-does_by_calls v old new want answer (Ok a) does = record { comes = (ap (viewed v) does.0, does.1); scan = record { machine = refl; actor = refl; now = refl; start = refl } }
-does_by_calls v old new want answer (Err (refused.Refused fault)) does = record { comes = (ap (viewed v) does.0, ap (with_requests v) does.1); scan = record { machine = refl; actor = refl; now = refl; start = refl } }
+    → DoesWith (after_callback v want) answer (as_trouble result) (with_requests v old) (with_requests v new)
+does_by_calls v old new want answer (Ok a) does = record { comes = (ap (after_callback v) does.0, does.1); scan = record { machine = refl; actor = refl; now = refl; start = refl } }
+does_by_calls v old new want answer (Err (refused.Refused fault)) does = record { comes = (ap (after_callback v) does.0, ap (with_requests v) does.1); scan = record { machine = refl; actor = refl; now = refl; start = refl } }
 does_by_calls v old new want answer (Err refused.NoMemory) does = record { comes = ap (with_requests v) does; scan = record { machine = refl; actor = refl; now = refl; start = refl } }
 
+-- it makes no difference what requests the local had
+over : (v : LocalView) (r : Requests) (o : Result Requests BackFault) → after_callback (with_requests v r) o ≡ after_callback v o
+over v r (Ok after) = refl
+over v r (Err fault) = refl
+
 -- a scan of a store that has a sequencer with these requests
-module _ (s : Scanned) (q : Roomy own.Requests) (there : s.parts.sequencer ≡ Some q) where
-  abbrev now_of : List Answer → own.Requests
+module _ (s : Scanned) (q : Roomy Requests) (there : s.parts.sequencer ≡ Some q) where
+  abbrev now_of : List Answer → Requests
   now_of calls = after_callbacks calls q.kept
 
   view_is : (calls : List Answer) → local_of (with_calls s calls) ≡ with_requests (local_of s) (now_of calls)
   view_is calls =
-      ap (λ (o : Option (Roomy own.Requests)). record (local_of s) { ctl = record (local_of s).ctl { sequencer = after_calls calls (requests_of o) } }) there
+      ap (λ (o : Option (Roomy Requests)). record (local_of s) { ctl = record (local_of s).ctl { sequencer = after_calls calls (requests_of o) } }) there
 
   fits_is : (calls : List Answer) → FitCalls calls (requests_of s.parts.sequencer) → FitCallbacks calls q.kept
-  fits_is calls fits = subst (λ (o : Option (Roomy own.Requests)). FitCalls calls (requests_of o)) there fits
+  fits_is calls fits = subst (λ (o : Option (Roomy Requests)). FitCalls calls (requests_of o)) there fits
 
   fits_as : (calls : List Answer) → FitCallbacks calls q.kept → FitCalls calls (requests_of s.parts.sequencer)
-  fits_as calls fits = subst (λ (o : Option (Roomy own.Requests)). FitCalls calls (requests_of o)) (sym there) fits
+  fits_as calls fits = subst (λ (o : Option (Roomy Requests)). FitCalls calls (requests_of o)) (sym there) fits
 
   calls_step : {A : Type 0} (act : LocalView → Result LocalView Fault) (answer : LocalView → A) (own_answer : A) (calls : List Answer)
-      (want : Result own.Requests BackFault) (result : Result A CallbackFault)
-      → act (with_requests (local_of s) (now_of s.changes.calls)) ≡ viewed (local_of s) want
+      (want : Result Requests BackFault) (result : Result A CallbackFault)
+      → act (with_requests (local_of s) (now_of s.changes.calls)) ≡ after_callback (local_of s) want
       → answer (with_requests (local_of s) (now_of s.changes.calls)) ≡ own_answer
       → IsScan s → CallsBack want own_answer result (now_of s.changes.calls) (now_of calls)
       → (FitCallbacks s.changes.calls q.kept → FitCallbacks calls q.kept)
@@ -116,8 +74,8 @@ module _ (s : Scanned) (q : Roomy own.Requests) (there : s.parts.sequencer ≡ S
       let done : DoesWith (act (local_of s)) (answer (local_of s)) (as_trouble result) (local_of s) (local_of (with_calls s calls)) =
       subst (λ (v : LocalView). DoesWith (act v) (answer v) (as_trouble result) v (local_of (with_calls s calls))) (sym here)
       (subst (λ (w : Result LocalView Fault). DoesWith w (answer (with_requests (local_of s) (now_of s.changes.calls))) (as_trouble result) (with_requests (local_of s) (now_of s.changes.calls)) (local_of (with_calls s calls))) (sym acts)
-      (subst (λ (a : A). DoesWith (viewed (local_of s) want) a (as_trouble result) (with_requests (local_of s) (now_of s.changes.calls)) (local_of (with_calls s calls))) (sym answers)
-      (subst (DoesWith (viewed (local_of s) want) own_answer (as_trouble result) (with_requests (local_of s) (now_of s.changes.calls))) (sym there_is) raw))) in
+      (subst (λ (a : A). DoesWith (after_callback (local_of s) want) a (as_trouble result) (with_requests (local_of s) (now_of s.changes.calls)) (local_of (with_calls s calls))) (sym answers)
+      (subst (DoesWith (after_callback (local_of s) want) own_answer (as_trouble result) (with_requests (local_of s) (now_of s.changes.calls))) (sym there_is) raw))) in
       let lawful = stays_lawful (act (local_of s)) (answer (local_of s)) (as_trouble result) (local_of s) (local_of (with_calls s calls)) kept is.lawful done in
       record {
         does = done;
@@ -127,24 +85,24 @@ module _ (s : Scanned) (q : Roomy own.Requests) (there : s.parts.sequencer ≡ S
 
   pub read_step : (v : Scanned) (calls : List Answer) (line : ℕ) (block : Block) (result : Result (Unit {0}) CallbackFault)
       → s ≡ v → IsScan s
-      → CallsBack (back.read_back (now_of s.changes.calls) line block) tt result (now_of s.changes.calls) (now_of calls)
+      → CallsBack (callback.read_back (now_of s.changes.calls) line block) tt result (now_of s.changes.calls) (now_of calls)
       → (FitCallbacks s.changes.calls q.kept → FitCallbacks calls q.kept)
       → Steps (λ u. read_back u line block) (λ u. tt) (as_trouble result) v (with_calls s calls)
   read_step v calls line block result same_scan is does fit =
       subst (λ (u : Scanned). Steps (λ u. read_back u line block) (λ u. tt) (as_trouble result) u (with_calls s calls)) same_scan
-      (calls_step (λ u. read_back u line block) (λ u. tt) tt calls (back.read_back (now_of s.changes.calls) line block) result
-      (reads (local_of s) (now_of s.changes.calls) line block (own.request_for (now_of s.changes.calls) line)) refl is does fit
+      (calls_step (λ u. read_back u line block) (λ u. tt) tt calls (callback.read_back (now_of s.changes.calls) line block) result
+      (over (local_of s) (now_of s.changes.calls) (callback.read_back (now_of s.changes.calls) line block)) refl is does fit
       (λ u. lawful_after _ (read_back_keeps (local_of s) line block is.lawful.scan) (read_acts (local_of s) is.lawful.acts line block) u))
 
   pub write_step : (v : Scanned) (calls : List Answer) (line : ℕ) (block : Block) (result : Result Block CallbackFault)
       → s ≡ v → IsScan s
-      → CallsBack (back.write_back (now_of s.changes.calls) line block) (back.block_after_write (now_of s.changes.calls) line block) result (now_of s.changes.calls) (now_of calls)
+      → CallsBack (callback.write_back (now_of s.changes.calls) line block) (callback.block_after_write (now_of s.changes.calls) line block) result (now_of s.changes.calls) (now_of calls)
       → (FitCallbacks s.changes.calls q.kept → FitCallbacks calls q.kept)
       → Steps (λ u. write_back u line block) (λ u. block_after_write u line block) (as_trouble result) v (with_calls s calls)
   write_step v calls line block result same_scan is does fit =
       subst (λ (u : Scanned). Steps (λ u. write_back u line block) (λ u. block_after_write u line block) (as_trouble result) u (with_calls s calls)) same_scan
-      (calls_step (λ u. write_back u line block) (λ u. block_after_write u line block) (back.block_after_write (now_of s.changes.calls) line block) calls
-      (back.write_back (now_of s.changes.calls) line block) result
-      (writes (local_of s) (now_of s.changes.calls) line block (own.request_for (now_of s.changes.calls) line))
-      (block_is (local_of s) (now_of s.changes.calls) line block (own.request_for (now_of s.changes.calls) line)) is does fit
+      (calls_step (λ u. write_back u line block) (λ u. block_after_write u line block) (callback.block_after_write (now_of s.changes.calls) line block) calls
+      (callback.write_back (now_of s.changes.calls) line block) result
+      (over (local_of s) (now_of s.changes.calls) (callback.write_back (now_of s.changes.calls) line block))
+      refl is does fit
       (λ u. lawful_after _ (write_back_keeps (local_of s) line block is.lawful.scan) (write_acts (local_of s) is.lawful.acts line block) u))

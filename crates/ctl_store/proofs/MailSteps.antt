@@ -10,7 +10,8 @@ use Rattle.ctl_face.specs.Again.{again}
 use Rattle.ctl_face.specs.AtFront.{AtFront, after_front}
 use Rattle.ctl_face.specs.Does.{Does}
 use Rattle.ctl_face.specs.Enqueue.{enqueue}
-use Rattle.ctl_face.specs.Fits.{IsLawful, IsLine}
+use Rattle.ctl_face.specs.Fits.{IsLawful}
+use Rattle.ruby_value.specs.Lines.{IsLine}
 use Rattle.ctl_face.specs.LocalView.{LocalView}
 use Rattle.ctl_face.specs.Pop.{pop}
 use Rattle.ctl_face.specs.Recycle.{recycle}

@@ -17,7 +17,8 @@ use Rattle.ctl_face.specs.Allocate.{allocate}
 use Rattle.ctl_face.specs.Deallocate.{deallocate}
 use Rattle.ctl_face.specs.Does.{DoesWith}
 use Rattle.ctl_face.specs.FieldsIn.{fields_in}
-use Rattle.ctl_face.specs.Fits.{FitsTableAt, IsLawful, IsLine}
+use Rattle.ctl_face.specs.Fits.{FitsTableAt, IsLawful}
+use Rattle.ruby_value.specs.Lines.{IsLine}
 use Rattle.ctl_face.specs.LocalView.{LocalView}
 use Rattle.ctl_face.specs.Lookup.{reference_to}
 use Rattle.ctl_face.specs.OfMachine.{initial_fields}

@@ -6,20 +6,20 @@ use Rattle.std.specs.Option.{option_map}
 use Rattle.ruby_value.specs.declared.asked.Answer.{Answer}
 use Rattle.ruby_value.specs.WithAll.{with_all}
 use Rattle.ctl_face.specs.Acts.{Acts}
-use Rattle.ctl_face.specs.Ctl.{Ctl, Requests}
+use Rattle.ctl_face.specs.Ctl.{Ctl}
+use Rattle.ruby_value.specs.Requests.{Requests}
 use Rattle.ctl_mail.specs.Told.{CopiesFit, changed_mail, told_by}
 use Rattle.ctl_tables.specs.After.{after_changes}
 use Rattle.ctl_tables.specs.Stored.{log_of, state_log_of}
 use Rattle.sequencer.specs.Callbacks.{FitCallbacks, after_callbacks}
 use Rattle.ctl_store.specs.declared.changes.Changes.{Changes}
-use Rattle.ctl_store.specs.Kept.{face_requests, own_requests}
 
 abbrev pub after_calls : List Answer → Option Requests → Option Requests
-after_calls calls o = option_map (λ (r : Requests). face_requests (after_callbacks calls (own_requests r))) o
+after_calls calls o = option_map (after_callbacks calls) o
 
 abbrev pub FitCalls : List Answer → Option Requests → Type 0
 FitCalls calls None = calls ≡ []
-FitCalls calls (Some r) = FitCallbacks calls (own_requests r)
+FitCalls calls (Some r) = FitCallbacks calls r
 
 abbrev pub changed_ctl : Changes → Ctl → Ctl
 changed_ctl changes ctl = record ctl {

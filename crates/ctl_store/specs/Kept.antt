@@ -4,22 +4,15 @@ use Rattle.std.specs.Prelude.{◌≡◌, ℕ, Option, length, unwrap_or}
 use Rattle.std.specs.Option.{option_map}
 use Rattle.ruby_value.specs.declared.setup.MachineSetup.{MachineSetup}
 use Rattle.ruby_value.specs.Roomy.{Roomy}
-use Rattle.ctl_face.specs.Ctl.{Ctl, Requests}
+use Rattle.ctl_face.specs.Ctl.{Ctl}
+use Rattle.ruby_value.specs.Requests.{Requests}
 use Rattle.ctl_face.specs.IsMachine.{IsMachine}
 use Rattle.ctl_mail.specs.MailOf.{IsMail, buffer_count, mail_of}
 use Rattle.ctl_tables.specs.Stored.{default_of, states_of, tables_of}
-use Rattle.sequencer.specs.Requests as own
 use Rattle.ctl_store.specs.declared.parts.Parts.{Parts}
 
--- the requests of a sequencer as those of a controller, and back
-abbrev pub face_requests : own.Requests → Requests
-face_requests r = record { outstanding = r.outstanding; finished = r.finished }
-
-abbrev pub own_requests : Requests → own.Requests
-own_requests r = record { outstanding = r.outstanding; finished = r.finished }
-
-abbrev pub requests_of : Option (Roomy own.Requests) → Option Requests
-requests_of s = option_map (λ (r : Roomy own.Requests). face_requests r.kept) s
+abbrev pub requests_of : Option (Roomy Requests) → Option Requests
+requests_of s = option_map (λ (r : Roomy Requests). r.kept) s
 
 abbrev pub ctl_of : Parts → Ctl
 ctl_of p = record {

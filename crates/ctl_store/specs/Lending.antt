@@ -2,7 +2,7 @@
 use Rattle.std.specs.Prelude.{Option, Some}
 use Rattle.std.specs.Borrow.{Fml, LendsIf, MutBor}
 use Rattle.ruby_value.specs.Roomy.{Roomy}
-use Rattle.sequencer.specs.Requests.{Requests}
+use Rattle.ruby_value.specs.Requests.{Requests}
 use Rattle.sequencer.specs.contracts.sequencer.Sequencer as sequencer_type
 use Rattle.ctl_store.specs.contracts.store.Store as store_type
 use Rattle.ctl_store.specs.declared.parts.Parts.{Parts}

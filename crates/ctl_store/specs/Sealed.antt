@@ -1,12 +1,9 @@
 -- What a sealed scan has: what it changes, which fits the controller that the scan began with, and what is told of its transition.
-use Rattle.std.specs.Prelude.{◌≡◌, ℕ, List, map}
-use Rattle.ruby_value.specs.declared.message.Message.{Message}
+use Rattle.std.specs.Prelude.{◌≡◌}
 use Rattle.run_journal.specs.declared.entry.FireNote.{FireNote}
-use Rattle.ctl_face.specs.Acts.{Acts, Copy, Note}
+use Rattle.ctl_face.specs.Acts.{Acts}
 use Rattle.ctl_face.specs.Ctl.{Ctl}
 use Rattle.ctl_face.specs.LocalView.{LocalView}
-use Rattle.ctl_mail.specs.Told.{copy_in, note_in}
-use Rattle.ctl_mail.specs.declared.sent.SentNote.{SentNote}
 use Rattle.ctl_store.specs.declared.outcome.Outcome.{Outcome}
 use Rattle.ctl_store.specs.declared.parts.Parts.{Parts}
 use Rattle.ctl_store.specs.Changed.{FitChanges, acts_of, changed_ctl}
@@ -19,20 +16,12 @@ outcome_ctl o ctl = changed_ctl o.changes ctl
 abbrev pub outcome_acts : Outcome → Acts
 outcome_acts o = acts_of o.changes
 
-abbrev pub note_of : Outcome → FireNote
-note_of o = o.note
+abbrev pub sent_of : Outcome → FireNote
+sent_of o = o.note
 
 -- it can be applied to the controller
 abbrev pub IsOutcomeFor : Outcome → Ctl → Type 0
 IsOutcomeFor o ctl = FitChanges o.changes ctl
-
--- the copies for other controllers, each with its receiver, as they are handed out
-abbrev pub posted_as : List (ℕ × Message) → List Copy
-posted_as posted = map copy_in posted
-
--- the notes of the copies that were sent, as they are handed out
-abbrev pub notes_as : List SentNote → List Note
-notes_as sent = map note_in sent
 
 abbrev pub HasRoomForOutcome : Parts → Outcome → Type 0
 HasRoomForOutcome p o = HasRoomForChanges p o.changes
@@ -41,5 +30,5 @@ HasRoomForOutcome p o = HasRoomForChanges p o.changes
 pub record IsOutcomeOf (v : LocalView) (note : FireNote) (o : Outcome) : Type 0 where
   pub ctl : outcome_ctl o v.start ≡ v.ctl
   pub acts : outcome_acts o ≡ v.acts
-  pub note_is : note_of o ≡ note
+  pub note_is : sent_of o ≡ note
   pub fits : IsOutcomeFor o v.start

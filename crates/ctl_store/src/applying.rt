@@ -3,11 +3,10 @@ ghost use Rattle.std.specs.Prelude.{◌≡◌};
 ghost use Rattle.ctl_store.specs.Changed.{FitCalls, FitChanges, acts_of, after_calls, changed_ctl};
 ghost use Rattle.ctl_store.specs.Kept.{IsKept, ctl_of, requests_of};
 ghost use Rattle.ctl_store.specs.Room.{HasRoomForChanges, HasRoomForMark, IsSameStore};
-ghost use Rattle.ctl_store.specs.Sealed.{posted_as};
 
 use crate::changes::Changes;
 use crate::parts::Parts;
-use ruby_value::{Message, Seq};
+use ruby_value::{Delivery, Message, Seq};
 use sequencer::{Callbacks, Sequencer};
 
 fn finish(calls: Callbacks, sequencer: &mut Option<Sequencer>)
@@ -20,7 +19,7 @@ fn finish(calls: Callbacks, sequencer: &mut Option<Sequencer>)
 }
 
 // Makes the changes, for which there is room. It takes no memory.
-pub(crate) fn apply(parts: &mut Parts, changes: Changes) -> Seq<(u32, Message)>
+pub(crate) fn apply(parts: &mut Parts, changes: Changes) -> Seq<Delivery<Message>>
     requires kept { IsKept parts.old }
     requires fit { FitChanges changes (ctl_of parts.old) }
     requires room { HasRoomForChanges parts.old changes }
@@ -28,7 +27,7 @@ pub(crate) fn apply(parts: &mut Parts, changes: Changes) -> Seq<(u32, Message)>
     ensures kept { IsKept parts.new }
     ensures store { IsSameStore parts.old parts.new }
     ensures room { HasRoomForMark parts.new }
-    ensures posted { posted_as result ≡ (acts_of changes).posted }
+    ensures posted { result ≡ (acts_of changes).posted }
     ensures rest { (parts.new.fired ≡ parts.old.fired) × (parts.new.stopped ≡ parts.old.stopped) }
 {
     let Changes {

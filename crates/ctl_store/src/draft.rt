@@ -1,4 +1,5 @@
 ghost use Rattle.ctl_face.specs.Fits.{IsLawful};
+ghost use Rattle.ctl_face.specs.LawfulProp.{IsLawful-prop};
 ghost use Rattle.ctl_store.specs.Scanned.{local_of};
 
 use crate::outcome::Outcome;
@@ -13,7 +14,7 @@ use std::alloc::Global;
 #[derive(Drop)]
 pub struct Draft<'a> {
     pub(crate) scan: Scan<'a>,
-    ghost lawful: { ∥ IsLawful (local_of scan) ∥₁ },
+    ghost lawful: { IsLawful (local_of scan) } by { IsLawful-prop (local_of scan) },
 }
 
 impl<'a> Draft<'a> {

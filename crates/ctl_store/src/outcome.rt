@@ -2,13 +2,12 @@ ghost use Rattle.std.specs.Prelude.{◌≡◌, ◌<◌, ◌+◌, ◌^◌, OnOk};
 ghost use Rattle.ctl_face.specs.Between.{with_one_fired};
 ghost use Rattle.ctl_store.specs.Kept.{ctl_of};
 ghost use Rattle.ctl_store.specs.Room.{HasRoomForMark, IsSameStore};
-ghost use Rattle.ctl_store.specs.Sealed.{HasRoomForOutcome, IsOutcomeFor, note_of, notes_as, outcome_acts, outcome_ctl, posted_as};
+ghost use Rattle.ctl_store.specs.Sealed.{HasRoomForOutcome, IsOutcomeFor, note_of, outcome_acts, outcome_ctl};
 
 use crate::applying::apply;
 use crate::changes::Changes;
 use crate::store::Store;
-use ctl_mail::SentNote;
-use ruby_value::{Message, MsgNo, NoMemory, Seq};
+use ruby_value::{Delivery, Message, MsgNo, NoMemory, Sent, Seq};
 use run_journal::FireNote;
 
 /// What a scan has done that fired: what it changes, and the transition that fired.
@@ -55,8 +54,8 @@ impl Outcome {
     }
 
     /// The copies that it sent, to the controller itself too.
-    pub fn sent(&self) -> &[SentNote]
-        ensures { notes_as result.now ≡ (outcome_acts self.now).sent }
+    pub fn sent(&self) -> &[Sent]
+        ensures { result.now ≡ (outcome_acts self.now).sent }
     {
         self.changes.mail.sent()
     }
@@ -77,12 +76,12 @@ impl Store {
     /// Makes what an outcome changes, for which there is room, and counts one more transition as fired in this cycle. The outcome
     /// was sealed of a scan of this controller as it is. Answers the copies for other controllers with their receivers, in the order
     /// in which they were sent. It takes no memory, and leaves room for one mark.
-    pub fn apply(&mut self, o: Outcome) -> Seq<(u32, Message)>
+    pub fn apply(&mut self, o: Outcome) -> Seq<Delivery<Message>>
         requires sealed { IsOutcomeFor o (ctl_of self.old) }
         requires room { HasRoomForOutcome self.old o }
         requires few { (ctl_of self.old).fired + 1 < 2 ^ 64 }
         ensures after { ctl_of self.new ≡ with_one_fired (outcome_ctl o (ctl_of self.old)) }
-        ensures posted { posted_as result ≡ (outcome_acts o).posted }
+        ensures posted { result ≡ (outcome_acts o).posted }
         ensures store { IsSameStore self.old self.new }
         ensures room { HasRoomForMark self.new }
     {

@@ -14,8 +14,9 @@ use Rattle.ruby_value.specs.HasKinds.{has_kinds}
 use Rattle.ruby_value.specs.Roomy.{Roomy}
 use Rattle.run_journal.specs.declared.entry.FireNote.{FireNote}
 use Rattle.ctl_face.specs.Between.{at_cycle, with_arrival, with_one_fired, with_request}
-use Rattle.ctl_face.specs.Ctl.{Ctl, InboxMessage, Requests}
-use Rattle.ctl_face.specs.Fits.{Fits, IsLawful, IsRequest}
+use Rattle.ctl_face.specs.Ctl.{Ctl, InboxMessage}
+use Rattle.ruby_value.specs.Requests.{Requests, IsRequest}
+use Rattle.ctl_face.specs.Fits.{Fits, IsLawful}
 use Rattle.ctl_face.specs.IsMachine.{IsMachine}
 use Rattle.ctl_face.specs.LocalView.{Actor, LocalView, SameScan}
 use Rattle.ctl_face.specs.Mailing.{incoming_message}
@@ -29,8 +30,8 @@ use Rattle.ctl_face.proofs.Opened.{opening_fits}
 use Rattle.ctl_mail.specs.MailOf.{IsNewIn}
 use Rattle.ctl_store.specs.declared.outcome.Outcome.{Outcome}
 use Rattle.ctl_store.specs.declared.parts.Parts.{Parts}
-use Rattle.sequencer.specs.Requests as own
-use Rattle.ctl_store.specs.Kept.{ctl_of, face_requests, machine_of, me_of, requests_of}
+use Rattle.ruby_value.specs.Requests as own
+use Rattle.ctl_store.specs.Kept.{ctl_of, machine_of, me_of, requests_of}
 use Rattle.ctl_store.specs.Lending.{with_sequencer}
 use Rattle.ctl_store.specs.Room.{IsSameStore}
 use Rattle.ctl_store.specs.Sealed.{IsOutcomeFor, IsOutcomeOf, outcome_ctl}
@@ -57,17 +58,17 @@ begun_store_fits p q old now later same is fits =
     same_fits p q now (at_cycle (ctl_of p) now) same is (begun_keeps (machine_of p) (me_of p) old now (ctl_of p) later fits)
 
 -- so it does after a request that was issued in the sequencer that a store lends, and after one that was refused
-module _ (p : Parts) (now : ℕ) (asked : Asked) (lent left : Roomy own.Requests) (there : requests_of (Some lent) ≡ (ctl_of p).sequencer) (request : IsRequest asked) (fits : FitsIn p now) where
+module _ (p : Parts) (now : ℕ) (asked : Asked) (lent left : Roomy Requests) (there : requests_of (Some lent) ≡ (ctl_of p).sequencer) (request : IsRequest asked) (fits : FitsIn p now) where
   abbrev FitsWith : Option Requests → Type 0
   FitsWith o = Fits (machine_of p) (me_of p) (record (ctl_of p) { sequencer = o }) now
 
   pub issued_store_fits : {A E : Type 0} (r : Result A E) → OnOk r (left.kept ≡ own.with_request lent.kept asked) → OnErr r (left.kept ≡ lent.kept)
       → FitsIn (with_sequencer p left) now
   issued_store_fits (Ok a) is refused =
-      let same : Some (face_requests left.kept) ≡ (with_request (ctl_of p) asked).sequencer =
-      ap (λ (r : own.Requests). Some (face_requests r)) is ∙ ap (λ (o : Option Requests). (with_request (record (ctl_of p) { sequencer = o }) asked).sequencer) there
+      let same : Some left.kept ≡ (with_request (ctl_of p) asked).sequencer =
+      ap (λ (r : Requests). Some r) is ∙ ap (λ (o : Option Requests). (with_request (record (ctl_of p) { sequencer = o }) asked).sequencer) there
       in subst FitsWith (sym same) (request_keeps (machine_of p) (me_of p) now (ctl_of p) asked request fits)
-  issued_store_fits (Err e) ok same = subst FitsWith (sym (ap (λ (r : own.Requests). Some (face_requests r)) same ∙ there)) fits
+  issued_store_fits (Err e) ok same = subst FitsWith (sym (ap (λ (r : Requests). Some r) same ∙ there)) fits
 
 pub applied_store_fits : (p q : Parts) (now : ℕ) (o : Outcome) → IsSameStore p q → ctl_of q ≡ with_one_fired (outcome_ctl o (ctl_of p)) → IsScanned p now o → FitsIn q now
 applied_store_fits p q now o same is scanned =

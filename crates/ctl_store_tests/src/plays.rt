@@ -1,6 +1,6 @@
 // Plays: what comes into a store as a run begins, the scans of its controller, and the answers that are taken at their end.
 ghost use Rattle.std.specs.Prelude.{◌≡◌, ◌≤◌, ◌+◌, ◌^◌, ◌<◌, ◌≢◌, IfOk, IsTrue, ℕ};
-ghost use Rattle.ctl_face.specs.Fits.{IsRequest};
+ghost use Rattle.ruby_value.specs.Requests.{IsRequest};
 ghost use Rattle.ctl_store.specs.Room.{IsSameStore};
 ghost use Rattle.ctl_store_tests.specs.Open.{AreBelow, FitsIn, IsOpen};
 

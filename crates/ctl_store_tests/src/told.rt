@@ -2,9 +2,8 @@
 use crate::node::ME;
 use crate::rows::Copy;
 use ctl_face::{Message, Seq};
-use ctl_mail::SentNote;
 use ctl_store::Outcome;
-use ruby_value::MsgNo;
+use ruby_value::{Delivery, MsgNo, Sent};
 use run_journal::FireNote;
 
 /// The transition that each scan fires.
@@ -71,7 +70,7 @@ fn are_numbers(numbers: &[MsgNo], wanted: &[Number]) -> bool {
     true
 }
 
-fn is_note(note: &SentNote, (receiver, buffer, count, arrival): Copy) -> bool {
+fn is_note(note: &Sent, (receiver, buffer, count, arrival): Copy) -> bool {
     note.receiver == receiver
         && note.buffer == buffer
         && note.number.sender == ME
@@ -80,7 +79,7 @@ fn is_note(note: &SentNote, (receiver, buffer, count, arrival): Copy) -> bool {
 }
 
 // Whether there are so many notes, of which the first are of these copies.
-fn are_notes(notes: &[SentNote], copies: usize, wanted: &[Copy]) -> bool {
+fn are_notes(notes: &[Sent], copies: usize, wanted: &[Copy]) -> bool {
     if notes.len() != copies || copies < wanted.len() {
         return false;
     }
@@ -92,11 +91,12 @@ fn are_notes(notes: &[SentNote], copies: usize, wanted: &[Copy]) -> bool {
     true
 }
 
-fn is_posted(posted: Option<&(u32, Message)>, (receiver, buffer, count, arrival): Copy) -> bool {
-    let Some((to, m)) = posted else {
+fn is_posted(posted: Option<&Delivery<Message>>, (receiver, buffer, count, arrival): Copy) -> bool {
+    let Some(posted) = posted else {
         return false;
     };
-    *to == receiver
+    let m = &posted.message;
+    posted.receiver == receiver
         && m.buffer == buffer
         && m.number.sender == ME
         && m.number.count == count
@@ -105,14 +105,17 @@ fn is_posted(posted: Option<&(u32, Message)>, (receiver, buffer, count, arrival)
 }
 
 /// Whether so many copies were posted, of which the first are those of these copies that are for others.
-pub(crate) fn are_posted(posted: &Seq<(u32, Message)>, told: &Told) -> bool {
+pub(crate) fn are_posted(posted: &Seq<Delivery<Message>>, told: &Told) -> bool {
     if posted.len() != told.posted {
         return false;
     }
-    let for_others = told.sent.iter().filter(|copy| copy.0 != ME);
-    for (i, copy) in for_others.enumerate() {
-        if !is_posted(posted.get(i), *copy) {
-            return false;
+    let mut place = 0usize;
+    for copy in told.sent {
+        if copy.0 != ME {
+            if !is_posted(posted.get(place), *copy) {
+                return false;
+            }
+            place = place.saturating_add(1);
         }
     }
     true

@@ -22,6 +22,7 @@ use Rattle.slicc_ast.specs.declared.tree.item.Tree.{Tree}
 use Rattle.slicc_ast.specs.declared.tree.machine.Machine.{Machine}
 use Rattle.slicc_plan.specs.Declarations.{machines_of}
 use Rattle.slicc_plan.specs.MessageTypes.{network_type, receivers_field}
+use Rattle.ruby_value.specs.NetworkOf.{network_of}
 use Rattle.slicc_plan.specs.Setups as plan
 use Rattle.ctl_face.specs.IsMachine as face
 
@@ -60,7 +61,7 @@ parameters_lawful ts n count last = record {
 
 -- Buffers.
 
-network_lawful : (p : BufferPlace) → IfSome (plan.network_of p) (λ n. n ≤ 15) → IfSome (face.network_of p) (λ n. n < face.network_count)
+network_lawful : (p : BufferPlace) → IfSome (network_of p) (λ n. n ≤ 15) → IfSome (network_of p) (λ n. n < face.network_count)
 network_lawful place.Local h = tt
 network_lawful (place.To n receivers) h = omega (arith, h)
 network_lawful (place.From n) h = omega (arith, h)
@@ -70,16 +71,16 @@ receivers_lawful place.Local ordered kinds h = tt
 receivers_lawful (place.To n receivers) ordered kinds h = h
 receivers_lawful (place.From n) ordered kinds h = tt
 
-buffers_lawful : (bs : List BufferSetup) → All (λ (b : BufferSetup). IfSome (plan.network_of b.place) (λ n. n ≤ 15)) bs → All (λ (b : BufferSetup). plan.NamesReceivers b) bs → All (λ (b : BufferSetup). All (λ (k : Kind). is_reference k ≡ false) b.kinds) bs → All face.IsBufferSetup bs
+buffers_lawful : (bs : List BufferSetup) → All (λ (b : BufferSetup). IfSome (network_of b.place) (λ n. n ≤ 15)) bs → All (λ (b : BufferSetup). plan.NamesReceivers b) bs → All (λ (b : BufferSetup). All (λ (k : Kind). is_reference k ≡ false) b.kinds) bs → All face.IsBufferSetup bs
 buffers_lawful [] networks receivers plain = All-nil face.IsBufferSetup
 buffers_lawful (b ∷ bs) networks receivers plain =
     All-cons face.IsBufferSetup b bs
     (record {
-      network = network_lawful b.place (All-head (λ (b : BufferSetup). IfSome (plan.network_of b.place) (λ n. n ≤ 15)) b bs networks);
+      network = network_lawful b.place (All-head (λ (b : BufferSetup). IfSome (network_of b.place) (λ n. n ≤ 15)) b bs networks);
       receivers = receivers_lawful b.place b.ordered b.kinds (All-head (λ (b : BufferSetup). plan.NamesReceivers b) b bs receivers);
       plain = All-head (λ (b : BufferSetup). All (λ (k : Kind). is_reference k ≡ false) b.kinds) b bs plain;
     })
-    (buffers_lawful bs (All-tail (λ (b : BufferSetup). IfSome (plan.network_of b.place) (λ n. n ≤ 15)) b bs networks)
+    (buffers_lawful bs (All-tail (λ (b : BufferSetup). IfSome (network_of b.place) (λ n. n ≤ 15)) b bs networks)
     (All-tail (λ (b : BufferSetup). plan.NamesReceivers b) b bs receivers)
     (All-tail (λ (b : BufferSetup). All (λ (k : Kind). is_reference k ≡ false) b.kinds) b bs plain))
 
@@ -110,7 +111,7 @@ kinds_themselves (k ∷ ks) = and_true (equal_kinds k k) (same_kinds ks ks) (kin
 same_so : (ks js : List Kind) → ks ≡ js → IsTrue (same_kinds ks js)
 same_so ks js e = subst (λ xs. IsTrue (same_kinds ks xs)) e (kinds_themselves ks)
 
-kinds_by_network : (trees : List Tree) (p : BufferPlace) (ordered : Bool) (kinds : List Kind) (network : ℕ) → plan.HasTypeOf trees (record { place = p; ordered = ordered; kinds = kinds }) → face.network_of p ≡ Some network → kinds ≡ plan.kinds_on trees (network_type trees network)
+kinds_by_network : (trees : List Tree) (p : BufferPlace) (ordered : Bool) (kinds : List Kind) (network : ℕ) → plan.HasTypeOf trees (record { place = p; ordered = ordered; kinds = kinds }) → network_of p ≡ Some network → kinds ≡ plan.kinds_on trees (network_type trees network)
 kinds_by_network trees place.Local ordered kinds network h e = absurd (cc e)
 kinds_by_network trees (place.To n receivers) ordered kinds network h e =
     let same : n ≡ network = cc e in h.0 ∙ ap (λ k. plan.kinds_on trees (network_type trees k)) same
@@ -123,7 +124,7 @@ Names trees network place.Local = Unit {0}
 Names trees network (place.To n receivers) = receivers ≡ receivers_field trees (network_type trees network)
 Names trees network (place.From n) = Unit {0}
 
-names_by_network : (trees : List Tree) (p : BufferPlace) (ordered : Bool) (kinds : List Kind) (network : ℕ) → plan.HasTypeOf trees (record { place = p; ordered = ordered; kinds = kinds }) → face.network_of p ≡ Some network → Names trees network p
+names_by_network : (trees : List Tree) (p : BufferPlace) (ordered : Bool) (kinds : List Kind) (network : ℕ) → plan.HasTypeOf trees (record { place = p; ordered = ordered; kinds = kinds }) → network_of p ≡ Some network → Names trees network p
 names_by_network trees place.Local ordered kinds network h e = tt
 names_by_network trees (place.To n receivers) ordered kinds network h e =
     let same : n ≡ network = cc e in h.1 ∙ ap (λ k. receivers_field trees (network_type trees k)) same
@@ -165,7 +166,7 @@ pub lawful_in : (trees : List Tree) (number : ℕ) (sizes : Sizes) (m : Machine)
     → All (λ (s : TableSetup). plan.HasRoom s.size) (plan.setup_in trees number sizes m).tables
     → ((table : ℕ) → IfSome (slice_get (plan.setup_in trees number sizes m).tables table) (λ (s : TableSetup). plan.is_parameters s.size ≡ (table + 1 == length (plan.setup_in trees number sizes m).tables)))
     → All (λ (b : BufferSetup). plan.HasTypeOf trees b) (plan.setup_in trees number sizes m).buffers
-    → All (λ (b : BufferSetup). IfSome (plan.network_of b.place) (λ n. n ≤ 15)) (plan.setup_in trees number sizes m).buffers
+    → All (λ (b : BufferSetup). IfSome (network_of b.place) (λ n. n ≤ 15)) (plan.setup_in trees number sizes m).buffers
     → face.IsMachine (plan.setup_in trees number sizes m)
 lawful_in trees number sizes m count initial plain plain_messages receivers room last typed networks = record {
   tables = tables_lawful (plan.setup_in trees number sizes m).tables room plain initial;

@@ -10,10 +10,12 @@ use Rattle.ruby_value.specs.declared.kind.Kind.TheVariants.{Int}
 use Rattle.ruby_value.specs.declared.value.Value.{Value}
 use Rattle.ruby_value.specs.declared.value.Value.TheVariants as value
 use Rattle.ruby_value.specs.declared.setup.Sizes.{Sizes}
+use Rattle.ruby_symbols.specs.declared.machine.TableSort.{TableSort}
+use Rattle.ruby_symbols.specs.declared.types.FieldSymbol.{FieldSymbol}
 use Rattle.slicc_ast.specs.declared.tree.item.Tree.{Tree}
 use Rattle.slicc_ast.specs.declared.tree.machine.Machine.{Machine}
 use Rattle.slicc_plan.specs.Buffers.{listed}
-use Rattle.slicc_plan.specs.Setups.{TableSort, ValueParameter, parameter_value, table_setup, tables_from, values_from}
+use Rattle.slicc_plan.specs.Setups.{opening_value, table_setup, tables_from, values_from}
 use Rattle.machine_setup.specs.Ranges.{values_of_ranges}
 
 pub tables_more : (trees : List Tree) (m : Machine) (sizes : Sizes) (n : ℕ) (ts : List TableSort) (t : TableSort) → tables_from trees m sizes n (ts ++ t ∷ []) ≡ tables_from trees m sizes n ts ++ table_setup trees m sizes (n + length ts) t ∷ []
@@ -23,36 +25,34 @@ tables_more trees m sizes n (u ∷ ts) t =
     ap (λ xs. table_setup trees m sizes n u ∷ xs) (tables_more trees m sizes (n + 1) ts t)
     ∙ ap (λ k. table_setup trees m sizes n u ∷ (tables_from trees m sizes (n + 1) ts ++ table_setup trees m sizes k t ∷ [])) sum
 
-pub values_more : (sizes : Sizes) (n : ℕ) (ps : List ValueParameter) (p : ValueParameter) → values_from sizes n (ps ++ p ∷ []) ≡ values_from sizes n ps ++ parameter_value sizes (n + length ps) p ∷ []
-values_more sizes n [] p = ap (λ k. parameter_value sizes k p ∷ []) (sym (add-zero n))
-values_more sizes n (q ∷ ps) p =
-    let sum : n + 1 + length ps ≡ n + length (q ∷ ps) = omega arith in
-    ap (λ xs. parameter_value sizes n q ∷ xs) (values_more sizes (n + 1) ps p)
-    ∙ ap (λ k. parameter_value sizes n q ∷ (values_from sizes (n + 1) ps ++ parameter_value sizes k p ∷ [])) sum
+pub values_more : (sizes : Sizes) (n : ℕ) (vs : List FieldSymbol) (v : FieldSymbol) → values_from sizes n (vs ++ v ∷ []) ≡ values_from sizes n vs ++ opening_value sizes (n + length vs) v ∷ []
+values_more sizes n [] v = ap (λ k. opening_value sizes k v ∷ []) (sym (add-zero n))
+values_more sizes n (w ∷ vs) v =
+    let sum : n + 1 + length vs ≡ n + length (w ∷ vs) = omega arith in
+    ap (λ xs. opening_value sizes n w ∷ xs) (values_more sizes (n + 1) vs v)
+    ∙ ap (λ k. opening_value sizes n w ∷ (values_from sizes (n + 1) vs ++ opening_value sizes k v ∷ [])) sum
 
--- one more is seen
-seen_more : {X Y : Type 0} (f : X → Y) (xs : List X) (i : ℕ) (x : X) → i < length xs → x ≡ slice_index_or xs i x → map f (take (i + 1) xs) ≡ map f (take i xs) ++ f x ∷ []
-seen_more f xs i x below is =
-    let taken : take (i + 1) xs ≡ take i xs ++ x ∷ [] = rw (add-one, take-suc xs i x below) (ap (λ y. take i xs ++ y ∷ []) (sym is)) in
-    ap (map f) taken ∙ map-append f (take i xs) (x ∷ [])
+-- one more is taken
+one_more : {X : Type 0} (xs : List X) (i : ℕ) (x : X) → i < length xs → x ≡ slice_index_or xs i x → take (i + 1) xs ≡ take i xs ++ x ∷ []
+one_more xs i x below is = rw (add-one, take-suc xs i x below) (ap (λ y. take i xs ++ y ∷ []) (sym is))
 
-counted : {X Y : Type 0} (f : X → Y) (xs : List X) (i : ℕ) → i < length xs → 0 + length (map f (take i xs)) ≡ i
-counted f xs i below = grind (arith, common_steps)
+counted : {X : Type 0} (xs : List X) (i : ℕ) → i < length xs → 0 + length (take i xs) ≡ i
+counted xs i below = grind (arith, common_steps)
 
 -- the lists that are made of the first elements, with one more of them
-pub tables_step : {X : Type 0} (f : X → TableSort) (trees : List Tree) (m : Machine) (sizes : Sizes) (xs : List X) (i : ℕ) (x : X) → i < length xs → x ≡ slice_index_or xs i x
-    → tables_from trees m sizes 0 (map f (take (i + 1) xs)) ≡ tables_from trees m sizes 0 (map f (take i xs)) ++ table_setup trees m sizes i (f x) ∷ []
-tables_step f trees m sizes xs i x below is =
-    ap (tables_from trees m sizes 0) (seen_more f xs i x below is)
-    ∙ tables_more trees m sizes 0 (map f (take i xs)) (f x)
-    ∙ ap (λ k. tables_from trees m sizes 0 (map f (take i xs)) ++ table_setup trees m sizes k (f x) ∷ []) (counted f xs i below)
+pub tables_step : (trees : List Tree) (m : Machine) (sizes : Sizes) (xs : List TableSort) (i : ℕ) (x : TableSort) → i < length xs → x ≡ slice_index_or xs i x
+    → tables_from trees m sizes 0 (take (i + 1) xs) ≡ tables_from trees m sizes 0 (take i xs) ++ table_setup trees m sizes i x ∷ []
+tables_step trees m sizes xs i x below is =
+    ap (tables_from trees m sizes 0) (one_more xs i x below is)
+    ∙ tables_more trees m sizes 0 (take i xs) x
+    ∙ ap (λ k. tables_from trees m sizes 0 (take i xs) ++ table_setup trees m sizes k x ∷ []) (counted xs i below)
 
-pub values_step : {X : Type 0} (f : X → ValueParameter) (sizes : Sizes) (xs : List X) (i : ℕ) (x : X) → i < length xs → x ≡ slice_index_or xs i x
-    → values_from sizes 0 (map f (take (i + 1) xs)) ≡ values_from sizes 0 (map f (take i xs)) ++ parameter_value sizes i (f x) ∷ []
-values_step f sizes xs i x below is =
-    ap (values_from sizes 0) (seen_more f xs i x below is)
-    ∙ values_more sizes 0 (map f (take i xs)) (f x)
-    ∙ ap (λ k. values_from sizes 0 (map f (take i xs)) ++ parameter_value sizes k (f x) ∷ []) (counted f xs i below)
+pub values_step : (sizes : Sizes) (xs : List FieldSymbol) (i : ℕ) (x : FieldSymbol) → i < length xs → x ≡ slice_index_or xs i x
+    → values_from sizes 0 (take (i + 1) xs) ≡ values_from sizes 0 (take i xs) ++ opening_value sizes i x ∷ []
+values_step sizes xs i x below is =
+    ap (values_from sizes 0) (one_more xs i x below is)
+    ∙ values_more sizes 0 (take i xs) x
+    ∙ ap (λ k. values_from sizes 0 (take i xs) ++ opening_value sizes k x ∷ []) (counted xs i below)
 
 -- one element is put at the end of a list
 pub pushed : {X : Type 0} (after before made : List X) (x y : X) → after ≡ before ++ x ∷ [] → before ≡ made → x ≡ y → after ≡ made ++ y ∷ []

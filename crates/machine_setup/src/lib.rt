@@ -4,9 +4,8 @@
 mod law;
 mod line_tables;
 mod machine;
+mod opening_values;
 mod parameter_table;
-mod parameter_values;
-mod parameters;
 mod states;
 mod table_sizes;
 mod table_sorts;

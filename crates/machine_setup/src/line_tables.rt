@@ -1,18 +1,20 @@
 //! The tables of lines of a machine.
-ghost use Rattle.std.specs.Prelude.{◌≡◌, IfOk, Some, map, unwrap_or};
+ghost use Rattle.std.specs.Prelude.{◌≡◌, IfOk, Some, unwrap_or};
 ghost use Rattle.std.specs.Option.{option_copied};
 ghost use Rattle.slicc_plan.specs.Declarations.{machine_declarations, within};
 ghost use Rattle.slicc_plan.specs.TypeNumbers.{no_structure, structure_number};
 ghost use Rattle.slicc_plan.specs.Types.{structured};
-ghost use Rattle.slicc_plan.specs.Setups.{table_of_lines, table_setup, tables_from, tables_of};
+ghost use Rattle.slicc_plan.specs.Setups.{table_of_lines, table_setup, tables_from};
+ghost use Rattle.slicc_plan.specs.Tables.{tables_of};
 ghost use Rattle.declared_types.specs.Lent.{declarations_of};
-ghost use Rattle.machine_setup.specs.Seen.{line_among, sort_seen};
+ghost use Rattle.machine_setup.specs.Seen.{line_among};
 ghost use Rattle.type_numbers.specs.Numbered.{AreNumbered, trees_of};
 
 use crate::table_sizes::table_size;
-use crate::table_sorts::{TableSort, tables_of};
+use crate::table_sorts::tables_of;
 use declared_types::{Declared, LineSort, Scope, first_line};
 use ruby_base::{NoMemory, Seq};
+use ruby_symbols::TableSort;
 use ruby_value::{Fields, Sizes, TableSetup, TableSize};
 use slicc_ast::tree::{Machine, Structure};
 use std::alloc::Global;
@@ -20,12 +22,12 @@ use type_numbers::{TypeNumbers, field_kinds, initial_fields, structure_fields, s
 
 // The structure of the lines of a table of this sort, of a machine that declares this.
 fn line_structure<'a>(declarations: &[Declared<'a>], sort: TableSort) -> Option<&'a Structure>
-    ensures { option_copied result ≡ line_among (declarations_of declarations.now) (sort_seen sort) }
+    ensures { option_copied result ≡ line_among (declarations_of declarations.now) sort }
 {
     match sort {
         TableSort::Cache => first_line(LineSort::Entry, declarations),
         TableSort::Directory => first_line(LineSort::Directory, declarations),
-        TableSort::Tbes(_) => first_line(LineSort::Tbe, declarations),
+        TableSort::Tbe { .. } => first_line(LineSort::Tbe, declarations),
     }
 }
 
@@ -98,9 +100,9 @@ fn table_setup<'a>(
 ) -> Result<TableSetup, NoMemory>
     requires types { AreNumbered types.now }
     requires declarations { declarations_of declarations.now ≡ machine_declarations m.now }
-    ensures { IfOk result (λ table. table ≡ table_setup (trees_of types.now) m.now sizes.now number (sort_seen sort)) }
+    ensures { IfOk result (λ table. table ≡ table_setup (trees_of types.now) m.now sizes.now number sort) }
 {
-    let size = table_size(sizes, number, sort)?;
+    let size = table_size(sizes, number, sort);
     table_of_lines(alloc, types, m, size, line_structure(declarations, sort))
 }
 
@@ -114,7 +116,7 @@ fn tables_from<'a>(
 ) -> Result<Seq<TableSetup>, NoMemory>
     requires types { AreNumbered types.now }
     requires declarations { declarations_of declarations.now ≡ machine_declarations m.now }
-    ensures { IfOk result (λ tables. tables ≡ tables_from (trees_of types.now) m.now sizes.now 0 (map sort_seen sorts.now)) }
+    ensures { IfOk result (λ tables. tables ≡ tables_from (trees_of types.now) m.now sizes.now 0 sorts.now) }
 {
     let mut tables = Seq::new(alloc);
     for (number, sort) in sorts.iter().enumerate() {

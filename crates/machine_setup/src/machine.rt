@@ -1,7 +1,8 @@
 //! What a machine of a protocol is to its controllers.
 ghost use Rattle.std.specs.Prelude.{◌≡◌, ◌++◌, [], ◌∷◌, IfOk};
 ghost use Rattle.slicc_plan.specs.Declarations.{machine_declarations};
-ghost use Rattle.slicc_plan.specs.Setups.{parameter_table, setup_in, setup_of, tables_from, tables_of};
+ghost use Rattle.slicc_plan.specs.Setups.{parameter_table, setup_in, setup_of, tables_from};
+ghost use Rattle.slicc_plan.specs.Tables.{tables_of};
 ghost use Rattle.declared_types.specs.Lent.{declarations_of};
 ghost use Rattle.type_numbers.specs.Numbered.{AreNumbered, trees_of};
 
@@ -9,7 +10,7 @@ use crate::line_tables::line_tables;
 use crate::parameter_table::parameter_table;
 use crate::states::{default_state, has_sequencer};
 use buffer_setup::buffer_setups;
-use declared_types::Declared;
+use declared_types::{Declared, Scopes};
 use ruby_base::{NoMemory, Seq};
 use ruby_value::{MachineSetup, Sizes, TableSetup};
 use slicc_ast::tree::Machine;
@@ -30,7 +31,7 @@ fn all_tables<'a>(
     ensures { IfOk result (λ tables. tables ≡ tables_from (trees_of types.now) m.now sizes.now 0 (tables_of (trees_of types.now) m.now) ++ parameter_table (trees_of types.now) number m.now sizes.now ∷ []) }
 {
     let mut tables = line_tables(alloc, types, m, declarations, sizes)?;
-    let parameters = parameter_table(alloc, types, number, m, sizes)?;
+    let parameters = parameter_table(alloc, types, number, m, declarations, sizes)?;
     tables.push(parameters)?;
     Ok(tables)
 }
@@ -86,6 +87,7 @@ pub fn setup(
     let Some(m) = plan.machine(machine) else {
         return Ok(None);
     };
-    let types = number_types(alloc, plan.trees())?;
+    let scopes = Scopes::new(alloc, plan.trees())?;
+    let types = number_types(alloc, scopes)?;
     Ok(Some(setup_in(alloc, &types, machine, m, sizes)?))
 }

@@ -1,15 +1,19 @@
-//! The table of the parameters of a machine.
+//! The table of the values of a machine.
 ghost use Rattle.std.specs.Prelude.{◌≡◌, ◌++◌, [], ◌∷◌, ℕ, IfOk, List, OnOk, flat_map, map, pos};
 ghost use Rattle.ruby_value.specs.declared.kind.Kind.TheVariants as kind;
 ghost use Rattle.ruby_value.specs.declared.value.Value.{Value as ValueRecord};
-ghost use Rattle.slicc_plan.specs.Setups.{ValueParameter as ParameterRecord, parameter_table, range_values, values_from};
+ghost use Rattle.ruby_symbols.specs.declared.types.FieldSymbol.{FieldSymbol as FieldRecord};
+ghost use Rattle.slicc_plan.specs.Declarations.{machine_declarations};
+ghost use Rattle.slicc_plan.specs.Setups.{parameter_table, range_values, values_from};
+ghost use Rattle.declared_types.specs.Lent.{declarations_of};
 ghost use Rattle.machine_setup.specs.Ranges.{values_of_ranges};
-ghost use Rattle.machine_setup.specs.Seen.{parameter_seen};
 ghost use Rattle.type_numbers.specs.Numbered.{AreNumbered, trees_of};
 
-use crate::parameter_values::parameter_values;
-use crate::parameters::{ValueParameter, value_parameters};
+use crate::opening_values::opening_values;
+use declared_types::Declared;
+use protocol_symbols::values_of;
 use ruby_base::{NoMemory, Seq};
+use ruby_symbols::FieldSymbol;
 use ruby_value::{Fields, Kind, Sizes, TableSetup, TableSize, Value};
 use slicc_ast::tree::Machine;
 use std::alloc::Global;
@@ -25,14 +29,10 @@ fn add_ranges(values: &mut Seq<Value>, ranges: &[(u32, u32)]) -> Result<(), NoMe
     Ok(())
 }
 
-fn initial_values(
-    alloc: Global,
-    sizes: &Sizes,
-    parameters: &[ValueParameter<'_>],
-) -> Result<Fields, NoMemory>
-    ensures { IfOk result (λ values. values ≡ values_from sizes.now 0 (map parameter_seen parameters.now) ++ range_values sizes.now) }
+fn initial_values(alloc: Global, sizes: &Sizes, fields: &[FieldSymbol]) -> Result<Fields, NoMemory>
+    ensures { IfOk result (λ values. values ≡ values_from sizes.now 0 fields.now ++ range_values sizes.now) }
 {
-    let mut values = parameter_values(alloc, sizes, parameters)?;
+    let mut values = opening_values(alloc, sizes, fields)?;
     add_ranges(&mut values, &sizes.machines)?;
     Ok(Fields::of(values.into_vec()))
 }
@@ -47,43 +47,41 @@ fn add_range_kinds(kinds: &mut Seq<Kind>, ranges: &[(u32, u32)]) -> Result<(), N
     Ok(())
 }
 
-fn add_kinds(kinds: &mut Seq<Kind>, parameters: &[ValueParameter<'_>]) -> Result<(), NoMemory>
-    ensures { OnOk result (kinds.new ≡ kinds.old ++ map (λ (p : ParameterRecord). p.kind) (map parameter_seen parameters.now)) }
+fn add_kinds(kinds: &mut Seq<Kind>, fields: &[FieldSymbol]) -> Result<(), NoMemory>
+    ensures { OnOk result (kinds.new ≡ kinds.old ++ map (λ (f : FieldRecord). f.kind) fields.now) }
 {
-    for p in parameters {
-        kinds.push(p.kind)?;
+    for f in fields {
+        kinds.push(f.kind)?;
     }
     Ok(())
 }
 
-fn all_kinds(
-    alloc: Global,
-    sizes: &Sizes,
-    parameters: &[ValueParameter<'_>],
-) -> Result<Seq<Kind>, NoMemory>
-    ensures { IfOk result (λ kinds. kinds ≡ map (λ (p : ParameterRecord). p.kind) (map parameter_seen parameters.now) ++ map (λ (v : ValueRecord). kind.Int) (range_values sizes.now)) }
+fn all_kinds(alloc: Global, sizes: &Sizes, fields: &[FieldSymbol]) -> Result<Seq<Kind>, NoMemory>
+    ensures { IfOk result (λ kinds. kinds ≡ map (λ (f : FieldRecord). f.kind) fields.now ++ map (λ (v : ValueRecord). kind.Int) (range_values sizes.now)) }
 {
     let mut kinds = Seq::new(alloc);
-    add_kinds(&mut kinds, parameters)?;
+    add_kinds(&mut kinds, fields)?;
     add_range_kinds(&mut kinds, &sizes.machines)?;
     Ok(kinds)
 }
 
-/// The table of the parameters of the machine of this number.
+/// The table of the values of the machine of this number, which declares this.
 pub fn parameter_table<'a>(
     alloc: Global,
     types: &TypeNumbers<'a>,
     number: u16,
     m: &'a Machine,
+    declarations: &[Declared<'a>],
     sizes: &Sizes,
 ) -> Result<TableSetup, NoMemory>
-    requires { AreNumbered types.now }
+    requires types { AreNumbered types.now }
+    requires declarations { declarations_of declarations.now ≡ machine_declarations m.now }
     ensures { IfOk result (λ table. table ≡ parameter_table (trees_of types.now) number m.now sizes.now) }
 {
     let structure = parameters_number(types, number)?;
-    let parameters = value_parameters(alloc, types, m)?;
-    let kinds = all_kinds(alloc, sizes, &parameters)?;
-    let initial = initial_values(alloc, sizes, &parameters)?;
+    let fields = values_of(alloc, types, m, declarations)?;
+    let kinds = all_kinds(alloc, sizes, &fields)?;
+    let initial = initial_values(alloc, sizes, &fields)?;
     Ok(TableSetup {
         size: TableSize::Parameters,
         structure,

@@ -21,3 +21,4 @@ pub use numbers::{action_numbers, event_numbers, state_numbers};
 pub use parts::{event_count, events, state_count, states};
 pub use ruby_base::{NoMemory, Seq};
 pub use table::{TableFault, Tables};
+pub use written::written_transitions;

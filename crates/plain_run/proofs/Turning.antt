@@ -5,8 +5,8 @@ use Rattle.run_journal.specs.declared.entry.Entry.TheVariants as entry
 use Rattle.run_journal.specs.declared.verdict.Verdict.TheVariants as verdict
 use Rattle.ruby_value.specs.declared.message.MsgNo.{MsgNo}
 use Rattle.ruby_runs.specs.Change.{IsIdle, Closes, Turns}
-use Rattle.ruby_runs.specs.Rules.{Delivery}
-use Rattle.ruby_runs.specs.Step.{Stepped, step, changed_from, with_deliveries, with_drive, drive_in, stopped_by, after_driver}
+use Rattle.ruby_value.specs.declared.message.Delivery.{Delivery}
+use Rattle.ruby_runs.specs.Step.{Stepped, step, changed_from, with_deliveries, with_driver_turn, driver_turn_in, stopped_by, after_driver}
 use Rattle.ruby_runs.specs.Verdict.{least_stopped}
 use Rattle.ruby_runs.specs.World.{Place, World}
 use Rattle.ruby_runs.proofs.Places.{deliveries-length}
@@ -26,7 +26,7 @@ changed-same k (p ∷ ps) = ap (λ (qs : List (Place Controller)). p ∷ qs) (ch
 module _ (s : Setting) where
   pub drive-is : (w v : World Controller PlainDriver) (ds : List (Delivery Message)) (count : ℕ)
       → v ≡ record w { places = with_deliveries (rules s) w.places ds } → ds ≡ plain_requests s.topology w.driver w.now w.issued → count ≡ length ds
-      → record v { issued = w.issued + count; next = next_turn w.driver w.now } ≡ with_drive (rules s) w (drive_in (rules s) w)
+      → record v { issued = w.issued + count; next = next_turn w.driver w.now } ≡ with_driver_turn (rules s) w (driver_turn_in (rules s) w)
   drive-is w v ds count is requests counted =
       let P : List (Place Controller) → List (Delivery Message) → ℕ → World Controller PlainDriver =
       λ places es n. record w { places = with_deliveries (rules s) places es; issued = w.issued + n; next = next_turn w.driver w.now } in
@@ -45,7 +45,7 @@ module _ (s : Setting) where
       change-steps (rules s) n w (Turn worker) (stopped_by (rules s) w c) running (Closes worker c idle (sym least))
 
   pub turns : (n : ℕ) (w : World Controller PlainDriver) (worker : ℕ) → w.verdict ≡ None → IsIdle (rules s) w → None ≡ least_stopped (rules s) w.places
-      → step (rules s) n w (Turn worker) ≡ Some (after_driver (rules s) n (with_drive (rules s) w (drive_in (rules s) w)) (drive_in (rules s) w))
+      → step (rules s) n w (Turn worker) ≡ Some (after_driver (rules s) n (with_driver_turn (rules s) w (driver_turn_in (rules s) w)) (driver_turn_in (rules s) w))
   turns n w worker running idle least = change-steps (rules s) n w (Turn worker) _ running (Turns worker idle (sym least))
 
 -- what a turn with a stopped controller does, with this list of requests' numbers

@@ -1,6 +1,6 @@
 // Where the messages of a run have gone. The numbers are gathered before they are counted, so no count can be too large.
 ghost use Rattle.std.specs.Prelude.{◌≡◌, IfOk, OnOk, ◌++◌, map, count_by};
-ghost use Rattle.run_journal.specs.declared.entry.Sent.{Sent as SentRecord};
+ghost use Rattle.ruby_value.specs.declared.message.Sent.{Sent as SentRecord};
 ghost use Rattle.ruby_runs.specs.Account.{account as account_at, consumed_in as consumed_in_entry, consumed_numbers, is_queued as is_queued_message, is_recycled as is_recycled_message, is_stalled as is_stalled_message, sent_in, sent_numbers};
 ghost use Rattle.slicc_meaning.specs.declared.setting.Setting.{Setting as SettingRecord};
 ghost use Rattle.slicc_meaning.specs.Controller.{mailed};

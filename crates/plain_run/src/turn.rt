@@ -2,8 +2,9 @@
 ghost use Rattle.std.specs.Prelude.{◌≡◌, ◌<◌, ◌≤◌, ◌+◌, ◌∷◌, ◌^◌, [], ℕ, IfOk, OnOk, None, Some, false, length, map};
 ghost use Rattle.std.specs.List.{list_any};
 ghost use Rattle.run_journal.specs.declared.event.Event.TheVariants.{Turn};
-ghost use Rattle.ruby_runs.specs.Rules.{Delivery, Drive};
-ghost use Rattle.ruby_runs.specs.Step.{step, is_busy, next_world as next_world_at, with_drive, drive_in, after_driver as after_driver_at};
+ghost use Rattle.ruby_value.specs.declared.message.Delivery.{Delivery};
+ghost use Rattle.ruby_runs.specs.Rules.{DriverTurn};
+ghost use Rattle.ruby_runs.specs.Step.{step, is_busy, next_world as next_world_at, with_driver_turn, driver_turn_in, after_driver as after_driver_at};
 ghost use Rattle.ruby_runs.specs.Verdict.{held_mail};
 ghost use Rattle.slicc_meaning.specs.declared.controller.Controller.{Controller as ControllerRecord};
 ghost use Rattle.slicc_meaning.specs.declared.controller.Message.{Message as MessageRecord};
@@ -65,9 +66,9 @@ fn act(alloc: Global, setting: &Setting, world: &mut World) -> Result<Option<Req
     requires issued { world.old.issued ≤ world.old.now }
     requires one { length world.old.places ≡ 1 }
     requires counts { setting.now.topology.counts ≡ 1 ∷ [] }
-    ensures world { IfOk result (λ request. world.new ≡ with_drive (rules setting.now) world.old (drive_in (rules setting.now) world.old)) }
+    ensures world { IfOk result (λ request. world.new ≡ with_driver_turn (rules setting.now) world.old (driver_turn_in (rules setting.now) world.old)) }
     ensures one { IfOk result (λ request. length world.new.places ≡ 1) }
-    ensures request { IfOk result (λ request. deliveries request ≡ (drive_in (rules setting.now) world.old).requests) }
+    ensures request { IfOk result (λ request. deliveries request ≡ (driver_turn_in (rules setting.now) world.old).requests) }
 {
     let (driver, now, issued) = (world.driver, world.now, world.issued);
     let actor = world.places.len() as u32;
@@ -118,7 +119,7 @@ fn after_driver(
 ) -> Result<Entry, NoMemory>
     requires one { length world.old.places ≡ 1 }
     requires entries { entries < 2 ^ 63 }
-    ensures { (d : Drive ControllerRecord MessageRecord PlainDriverRecord) → d.requests ≡ deliveries request → d.finding ≡ None → IfOk result (λ entry. record { world = world.new; entry = Some entry } ≡ after_driver_at (rules setting.now) entries world.old d) }
+    ensures { (d : DriverTurn ControllerRecord MessageRecord PlainDriverRecord) → d.requests ≡ deliveries request → d.finding ≡ None → IfOk result (λ entry. record { world = world.new; entry = Some entry } ≡ after_driver_at (rules setting.now) entries world.old d) }
 {
     let cycle = world.now;
     let next = next_cycle(cycle, world.next, world.places.as_slice());

@@ -6,7 +6,7 @@ use Rattle.sequencer.specs.Drive.{after_taking}
 use Rattle.sequencer.specs.Seats.{Seat, controller_at, first_answer_at, without_answer_at}
 use Rattle.random_tester.specs.Answers.{from, taken-at}
 use Rattle.random_tester.specs.Law.{from-next, none-left}
-use Rattle.random_tester.specs.SeatsAfter.{length-of-one, unchanged}
+use Rattle.sequencer.proofs.SeatsAfter.{length-of-one, unchanged}
 use Rattle.random_tester.specs.State.{State}
 use Rattle.random_tester.specs.Took.{stopped, took-none, took-on, took-stop}
 use Rattle.random_tester.specs.Turn.{Finished, Took, and_before, judged, took}

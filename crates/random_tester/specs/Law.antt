@@ -20,7 +20,7 @@ use Rattle.sequencer.specs.Seats.{FitSeats, FitsSeat, Seat, Seating, controller_
 use Rattle.sequencer.proofs.FitsByLine.{by_line-fits}
 use Rattle.random_tester.specs.declared.slot.Slot.{Slot}
 use Rattle.random_tester.specs.Answers.{from, none-at, taken-at}
-use Rattle.random_tester.specs.SeatsAfter.{controllers, controllers-kept, fit-after, length-kept, length-of-one}
+use Rattle.sequencer.proofs.SeatsAfter.{controllers, controllers-kept, fit-after, length-kept, length-of-one}
 use Rattle.random_tester.specs.Slot.{first_difference, fresh_slot, request_of}
 use Rattle.random_tester.specs.State.{State, drawn_on, made, opening, with_slot}
 use Rattle.random_tester.specs.Took.{took-none, took-on, took-stop}

@@ -1,6 +1,5 @@
 pub mod Answers
 pub mod Law
-pub mod SeatsAfter
 pub mod Slot
 pub mod State
 pub mod Took

@@ -54,7 +54,10 @@ impl Tester {
     ) -> Result<Tester, NoMemory>
         requires some { 1 ≤ lines }
         requires at_most { lines ≤ 1024 }
-        ensures { IfOk result (λ t. t ≡ made seed stream lines checks deadlock) }
+        ensures made { IfOk result (λ t. t ≡ made seed stream lines checks deadlock) }
+
+        // It is at its opening.
+        ensures opening { IfOk result (λ t. opening t ≡ t) }
     {
         let slots = vec![in alloc; FRESH; lines as usize]?;
         Ok(Tester {

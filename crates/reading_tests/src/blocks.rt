@@ -110,10 +110,12 @@ fn is_read(alloc: Global, row: &(&[u8], u32, usize, &'static str, usize)) -> boo
     if tokens.is_empty() {
         return false;
     }
-    match &block(alloc, &tokens, 0, 0) {
+    match block(alloc, &tokens, 0, 0) {
         Ok((tree, next)) => {
-            let (word, inside) = first_kind(tree);
-            *next == row.1 && tree.statements.len() == row.2 && word == row.3 && inside == row.4
+            let (word, inside) = first_kind(&tree);
+            let count = tree.statements.len();
+            drop(tree);
+            next == row.1 && count == row.2 && word == row.3 && inside == row.4
         }
         Err(_) => false,
     }

@@ -162,10 +162,11 @@ fn is_read(alloc: Global, row: &(&[u8], u32, &'static str, u32)) -> bool {
     if tokens.is_empty() {
         return false;
     }
-    match &expr(alloc, &tokens, 0, 0) {
+    match expr(alloc, &tokens, 0, 0) {
         Ok((tree, next)) => {
-            let (word, start) = root(tree);
-            *next == row.1 && word == row.2 && start == row.3
+            let (word, start) = root(&tree);
+            drop(tree);
+            next == row.1 && word == row.2 && start == row.3
         }
         Err(_) => false,
     }

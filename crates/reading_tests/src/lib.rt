@@ -1,4 +1,5 @@
-//! Texts, and what is read in them: their tokens, declarations, expressions and blocks, or the first fault.
+//! Texts, and what is read in them: their tokens, declarations, expressions and blocks, or the first fault; and of whole files where
+//! the nodes of their trees are.
 #![tactic(auto)]
 
 #[cfg(test)]
@@ -7,6 +8,10 @@ mod blocks;
 mod declarations;
 #[cfg(test)]
 mod expressions;
+#[cfg(test)]
+mod file_rows;
+#[cfg(test)]
+mod files;
 #[cfg(test)]
 mod refusals;
 #[cfg(test)]

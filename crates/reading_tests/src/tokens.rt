@@ -241,23 +241,24 @@ fn is_placed(row: &(&[u8], u32, u32, u32)) -> bool {
 
 #[test]
 fn lines_and_columns_count_from_one(rt: HostRuntime) -> Result<(), Fail> {
-    assert_eq!(rt; PLACES.iter().position(|row| !is_placed(row)), None);
+    for (place, row) in PLACES.iter().enumerate() {
+        assert!(rt; is_placed(row), "row {place}");
+    }
     Ok(())
 }
 
 #[test]
 fn each_text_has_the_tokens_of_its_row(rt: HostRuntime) -> Result<(), Fail> {
-    let alloc = rt.alloc();
-    assert_eq!(rt; READ.iter().position(|row| !is_read(alloc, row)), None);
+    for (place, row) in READ.iter().enumerate() {
+        assert!(rt; is_read(rt.alloc(), row), "row {place}");
+    }
     Ok(())
 }
 
 #[test]
 fn each_text_has_the_first_fault_of_its_row(rt: HostRuntime) -> Result<(), Fail> {
-    let alloc = rt.alloc();
-    assert_eq!(rt;
-        REFUSED.iter().position(|row| !is_refused(alloc, row)),
-        None
-    );
+    for (place, row) in REFUSED.iter().enumerate() {
+        assert!(rt; is_refused(rt.alloc(), row), "row {place}");
+    }
     Ok(())
 }

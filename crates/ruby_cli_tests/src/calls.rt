@@ -55,6 +55,10 @@ const TOO_LARGE: &str = "too large tick.sm\n";
 
 const FAULT: &str = "library fault tick.sm\n";
 
+const RUN: &str = "run tick.sm 3";
+
+const CHECK: &str = "check tick.sm";
+
 /// What the file holds.
 #[derive(Clone, Copy)]
 enum File {
@@ -106,7 +110,7 @@ fn files(alloc: Global, file: File) -> Result<Seq<(Text, Text)>, NoMemory> {
 
 /// The status of a whole call, and whether a record is kept. The tests look at nothing else of what the call's contract
 /// says, so it says nothing.
-fn call<R: Threads + Wait + Sync, L: Library, S: Sink>(
+pub(crate) fn call<R: Threads + Wait + Sync, L: Library, S: Sink>(
     rt: &R,
     alloc: Global,
     words: &[String],
@@ -114,24 +118,13 @@ fn call<R: Threads + Wait + Sync, L: Library, S: Sink>(
     sink: &mut S,
 ) -> (u8, bool) {
     let done = ruby(rt, alloc, words, library, sink, &OpenGate);
-    (done.status, done.kept.is_some())
-}
-
-/// The same over a library of this file and a sink that never fail. This sink tells nothing of what it takes.
-fn sure_call<R: Threads + Wait + Sync>(
-    rt: &R,
-    alloc: Global,
-    line: &str,
-    file: File,
-) -> Result<(u8, bool), NoMemory> {
-    let asked = words(alloc, line)?;
-    let mut library = SureLibrary::new(alloc, files(alloc, file)?);
-    let mut sink = SureSink::new();
-    Ok(call(rt, alloc, asked.as_slice(), &mut library, &mut sink))
+    let answer = (done.status, done.kept.is_some());
+    drop(done);
+    answer
 }
 
 /// The words of a command line, which stand between single spaces.
-fn words(alloc: Global, line: &str) -> Result<Vec<String>, NoMemory> {
+pub(crate) fn words(alloc: Global, line: &str) -> Result<Vec<String>, NoMemory> {
     let mut all = Vec::new(alloc);
     for word in line.split(' ') {
         all.push(String::from_str(alloc, word)?)?;
@@ -144,31 +137,42 @@ type Row<'a> = (&'a str, File, u8, bool, &'a str);
 
 /// Files as long as they may be, and one byte longer.
 const ROWS: &[Row] = &[
-    ("run tick.sm 3", File::Longest, 0, true, THREE),
-    ("run tick.sm 3", File::TooLong, 9, false, TOO_LARGE),
-    ("check tick.sm", File::TooLong, 9, false, TOO_LARGE),
+    (RUN, File::Longest, 0, true, THREE),
+    (RUN, File::TooLong, 9, false, TOO_LARGE),
+    (CHECK, File::TooLong, 9, false, TOO_LARGE),
 ];
 
-/// The status, whether a record is kept, and whether this text is written.
-fn answered<R: Threads + Wait + Sync>(
+/// Whether this is the status, a record is kept or isn't, and this text is written.
+fn is_answered<R: Threads + Wait + Sync>(
     rt: &R,
     alloc: Global,
     row: &Row,
-) -> Result<(u8, bool, bool), NoMemory> {
+) -> Result<bool, NoMemory> {
     let asked = words(alloc, row.0)?;
     let mut library = MemLibrary::new(alloc, files(alloc, row.1)?, Seq::new(alloc));
     let mut sink = MemSink::new(alloc, Seq::new(alloc), 4096, 4096)?;
     let (status, kept) = call(rt, alloc, asked.as_slice(), &mut library, &mut sink);
-    Ok((status, kept, sink.bytes() == row.4.as_bytes()))
+    Ok(status == row.2 && kept == row.3 && sink.bytes() == row.4.as_bytes())
+}
+
+/// The same but for the text, over a library and a sink that never fail. This sink tells nothing of what it takes.
+fn is_answered_surely<R: Threads + Wait + Sync>(
+    rt: &R,
+    alloc: Global,
+    row: &Row,
+) -> Result<bool, NoMemory> {
+    let asked = words(alloc, row.0)?;
+    let mut library = SureLibrary::new(alloc, files(alloc, row.1)?);
+    let mut sink = SureSink::new();
+    let (status, kept) = call(rt, alloc, asked.as_slice(), &mut library, &mut sink);
+    Ok(status == row.2 && kept == row.3)
 }
 
 #[test]
 fn reads_files_up_to_a_limit(rt: HostRuntime) -> Result<(), Fail> {
     for row in ROWS {
-        let answer = answered(&rt, rt.alloc(), row)?;
-        assert_eq!(rt; answer, (row.2, row.3, true), "{}", row.0);
-        let answer = sure_call(&rt, rt.alloc(), row.0, row.1)?;
-        assert_eq!(rt; answer, (row.2, row.3), "{}", row.0);
+        assert!(rt; is_answered(&rt, rt.alloc(), row)?, "{}", row.0);
+        assert!(rt; is_answered_surely(&rt, rt.alloc(), row)?, "{}", row.0);
     }
     Ok(())
 }
@@ -201,31 +205,26 @@ fn ends_with(text: &[u8], end: &[u8]) -> bool {
     }
 }
 
-/// The status of a run of this file whose text is long, and whether its text ends so.
-fn long_run<R: Threads + Wait + Sync>(
+/// Whether a run of the ticker whose text is long has this status, and its text ends so.
+fn ends_so<R: Threads + Wait + Sync>(
     rt: &R,
     alloc: Global,
     line: &str,
+    status: u8,
     end: &str,
-) -> Result<(u8, bool), NoMemory> {
+) -> Result<bool, NoMemory> {
     let asked = words(alloc, line)?;
     let mut library = MemLibrary::new(alloc, files(alloc, File::Ticker)?, Seq::new(alloc));
     let mut sink = MemSink::new(alloc, Seq::new(alloc), 4096, 16_777_216)?;
-    let (status, _) = call(rt, alloc, asked.as_slice(), &mut library, &mut sink);
-    Ok((status, ends_with(sink.bytes(), end.as_bytes())))
+    let (found, _) = call(rt, alloc, asked.as_slice(), &mut library, &mut sink);
+    Ok(found == status && ends_with(sink.bytes(), end.as_bytes()))
 }
 
 #[test]
-fn ends_a_long_run_quietly(rt: HostRuntime) -> Result<(), Fail> {
-    let answer = long_run(&rt, rt.alloc(), "run tick.sm 100000", QUIET_END)?;
-    assert_eq!(rt; answer, (0, true));
-    Ok(())
-}
-
-#[test]
-fn ends_a_run_whose_journal_is_too_long(rt: HostRuntime) -> Result<(), Fail> {
-    let answer = long_run(&rt, rt.alloc(), "run tick.sm 400000", LONG_END)?;
-    assert_eq!(rt; answer, (1, true));
+fn ends_long_runs_quietly_or_by_their_journal(rt: HostRuntime) -> Result<(), Fail> {
+    let alloc = rt.alloc();
+    assert!(rt; ends_so(&rt, alloc, "run tick.sm 100000", 0, QUIET_END)?);
+    assert!(rt; ends_so(&rt, alloc, "run tick.sm 400000", 1, LONG_END)?);
     Ok(())
 }
 
@@ -250,66 +249,46 @@ fn one(alloc: Global, call: u64) -> Result<Seq<u64>, NoMemory> {
     Ok(calls)
 }
 
-/// The file, the failing write, the most bytes that a write takes, the failing read, the status, whether a record is
+/// The words, the file, the failing write, the most bytes that a write takes, the failing read, the status, whether a record is
 /// kept, and of which text how many lines are written.
-type Fault<'a> = (File, u64, u64, u64, u8, bool, &'a str, usize);
+type Fault<'a> = (&'a str, File, u64, u64, u64, u8, bool, &'a str, usize);
 
 const FAULTS: &[Fault] = &[
-    (File::Ticker, 1, 4096, 9, 7, true, THREE, 0),
-    (File::Ticker, 2, 4096, 9, 7, true, THREE, 1),
-    (File::Ticker, 3, 4096, 9, 7, true, THREE, 2),
-    (File::Ticker, 4, 4096, 9, 7, true, THREE, 3),
-    (File::Ticker, 5, 4096, 9, 7, true, THREE, 4),
-    (File::Ticker, 6, 4096, 9, 7, true, THREE, 5),
-    (File::Ticker, 9999, 1, 9, 0, true, THREE, 6),
-    (File::Ticker, 9999, 0, 9, 7, true, THREE, 0),
-    (File::Ticker, 9999, 4096, 1, 5, false, FAULT, 1),
-    (File::Ticker, 1, 4096, 1, 7, false, FAULT, 0),
-    (File::Comment, 1, 4096, 9, 7, false, ENDED, 0),
+    (RUN, File::Ticker, 1, 4096, 9, 7, true, THREE, 0),
+    (RUN, File::Ticker, 2, 4096, 9, 7, true, THREE, 1),
+    (RUN, File::Ticker, 3, 4096, 9, 7, true, THREE, 2),
+    (RUN, File::Ticker, 4, 4096, 9, 7, true, THREE, 3),
+    (RUN, File::Ticker, 5, 4096, 9, 7, true, THREE, 4),
+    (RUN, File::Ticker, 6, 4096, 9, 7, true, THREE, 5),
+    (RUN, File::Ticker, 9999, 1, 9, 0, true, THREE, 6),
+    (RUN, File::Ticker, 9999, 0, 9, 7, true, THREE, 0),
+    (RUN, File::Ticker, 9999, 4096, 1, 5, false, FAULT, 1),
+    (RUN, File::Ticker, 1, 4096, 1, 7, false, FAULT, 0),
+    (RUN, File::Comment, 1, 4096, 9, 7, false, ENDED, 0),
+    (CHECK, File::Ticker, 1, 4096, 9, 7, false, ACCEPTED, 0),
+    (CHECK, File::Ticker, 2, 4096, 9, 0, false, ACCEPTED, 1),
+    (CHECK, File::Ticker, 9, 4096, 1, 5, false, FAULT, 1),
+    (CHECK, File::Twice, 1, 4096, 9, 7, false, TWICE, 0),
 ];
 
-/// The same for a check.
-const CHECK_FAULTS: &[Fault] = &[
-    (File::Ticker, 1, 4096, 9, 7, false, ACCEPTED, 0),
-    (File::Ticker, 2, 4096, 9, 0, false, ACCEPTED, 1),
-    (File::Ticker, 9, 4096, 1, 5, false, FAULT, 1),
-    (File::Twice, 1, 4096, 9, 7, false, TWICE, 0),
-];
-
-/// The status, whether a record is kept, and whether these lines are written.
-fn faulted<R: Threads + Wait + Sync>(
+/// Whether this is the status, a record is kept or isn't, and these lines are written.
+fn is_faulted<R: Threads + Wait + Sync>(
     rt: &R,
     alloc: Global,
-    line: &str,
     row: &Fault,
-) -> Result<(u8, bool, bool), NoMemory> {
-    let asked = words(alloc, line)?;
-    let mut library = MemLibrary::new(alloc, files(alloc, row.0)?, one(alloc, row.3)?);
-    let mut sink = MemSink::new(alloc, one(alloc, row.1)?, row.2, 4096)?;
+) -> Result<bool, NoMemory> {
+    let asked = words(alloc, row.0)?;
+    let mut library = MemLibrary::new(alloc, files(alloc, row.1)?, one(alloc, row.4)?);
+    let mut sink = MemSink::new(alloc, one(alloc, row.2)?, row.3, 4096)?;
     let (status, kept) = call(rt, alloc, asked.as_slice(), &mut library, &mut sink);
-    Ok((status, kept, sink.bytes() == first_lines(row.6, row.7)))
+    let is_written = sink.bytes() == first_lines(row.7, row.8);
+    Ok(status == row.5 && kept == row.6 && is_written)
 }
 
 #[test]
 fn answers_each_kind_of_fault(rt: HostRuntime) -> Result<(), Fail> {
-    for row in FAULTS {
-        let answer = faulted(&rt, rt.alloc(), "run tick.sm 3", row)?;
-        assert_eq!(rt;
-            answer,
-            (row.4, row.5, true),
-            "write {}, read {}",
-            row.1,
-            row.3
-        );
-    }
-    Ok(())
-}
-
-#[test]
-fn answers_each_kind_of_fault_of_a_check(rt: HostRuntime) -> Result<(), Fail> {
-    for row in CHECK_FAULTS {
-        let answer = faulted(&rt, rt.alloc(), "check tick.sm", row)?;
-        assert_eq!(rt; answer, (row.4, row.5, true), "write {}", row.1);
+    for (place, row) in FAULTS.iter().enumerate() {
+        assert!(rt; is_faulted(&rt, rt.alloc(), row)?, "row {place}");
     }
     Ok(())
 }
@@ -344,8 +323,14 @@ fn options(alloc: Global, name: &str, cycles: u64, limit: u64) -> Result<Options
     })
 }
 
-/// The status of a run with these bounds, and whether this text is written.
-fn bounded(alloc: Global, cycles: u64, limit: u64, text: &str) -> Result<(u8, bool), NoMemory>
+/// Whether a run with these bounds has this status, and this text is written.
+fn is_bounded(
+    alloc: Global,
+    cycles: u64,
+    limit: u64,
+    status: u8,
+    text: &str,
+) -> Result<bool, NoMemory>
     requires cycles { (1 ≤ cycles) × (cycles ≤ 10 ^ 12) }
     requires limit { (1 ≤ limit) × (limit ≤ 1000) }
 {
@@ -353,12 +338,14 @@ fn bounded(alloc: Global, cycles: u64, limit: u64, text: &str) -> Result<(u8, bo
     let mut sink = MemSink::new(alloc, Seq::new(alloc), 4096, 4096)?;
     let options = options(alloc, "tick.sm", cycles, limit)?;
     let done = ruby_alone(alloc, options, &mut library, &mut sink);
-    Ok((done.status, sink.bytes() == text.as_bytes()))
+    let found = done.status;
+    drop(done);
+    Ok(found == status && sink.bytes() == text.as_bytes())
 }
 
 #[test]
 fn keeps_the_bound_on_cycles_and_the_limit(rt: HostRuntime) -> Result<(), Fail> {
-    assert_eq!(rt; bounded(rt.alloc(), 2, 32, CUT)?, (1, true));
-    assert_eq!(rt; bounded(rt.alloc(), 9, 1, FULL)?, (0, true));
+    assert!(rt; is_bounded(rt.alloc(), 2, 32, 1, CUT)?);
+    assert!(rt; is_bounded(rt.alloc(), 9, 1, 0, FULL)?);
     Ok(())
 }

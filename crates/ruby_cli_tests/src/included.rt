@@ -1,7 +1,7 @@
 // Calls over protocols of several files, of which one read fails: it is told, or comes after all that are made.
+use crate::calls::{call, words};
 use ruby_base::{NoMemory, Seq, Text};
-use ruby_cli::ruby;
-use ruby_outside::{MemLibrary, MemSink, OpenGate};
+use ruby_outside::{MemLibrary, MemSink};
 use std::alloc::Global;
 use std::sync::Wait;
 use std::test::Fail;
@@ -26,18 +26,18 @@ const SEVERAL: Files = &[
     ("c", "enumeration(C) { x; }"),
 ];
 
-/// The files, the failing read, the protocol, the status, and what is written.
-type Row<'a> = (Files<'a>, u64, &'a str, u8, &'a str);
+/// The files, the failing read, the status, and what is written.
+type Row<'a> = (Files<'a>, u64, u8, &'a str);
 
 const ROWS: &[Row] = &[
-    (GONE, 2, "m.sm", 5, "library fault gone.sm\n"),
-    (GONE, 1, "m.sm", 5, "library fault m.sm\n"),
-    (ITSELF, 2, "m.sm", 3, "refused m.sm:1:38 R18\n"),
-    (INTERFACES, 2, "m.sm", 3, "refused m.sm:1:60 R18\n"),
-    (SEVERAL, 2, "m.sm", 5, "library fault a\n"),
-    (SEVERAL, 3, "m.sm", 5, "library fault c\n"),
-    (SEVERAL, 4, "m.sm", 5, "library fault b\n"),
-    (SEVERAL, 5, "m.sm", 3, "refused m.sm:1:39 R18\n"),
+    (GONE, 2, 5, "library fault gone.sm\n"),
+    (GONE, 1, 5, "library fault m.sm\n"),
+    (ITSELF, 2, 3, "refused m.sm:1:38 R18\n"),
+    (INTERFACES, 2, 3, "refused m.sm:1:60 R18\n"),
+    (SEVERAL, 2, 5, "library fault a\n"),
+    (SEVERAL, 3, 5, "library fault c\n"),
+    (SEVERAL, 4, 5, "library fault b\n"),
+    (SEVERAL, 5, 3, "refused m.sm:1:39 R18\n"),
 ];
 
 fn library(alloc: Global, files: Files, fails: u64) -> Result<MemLibrary, NoMemory> {
@@ -52,29 +52,23 @@ fn library(alloc: Global, files: Files, fails: u64) -> Result<MemLibrary, NoMemo
     Ok(MemLibrary::new(alloc, all, calls))
 }
 
-/// The status of a run of this protocol, and whether this text is written.
-fn answered<R: Threads + Wait + Sync>(
+/// Whether a run of `m.sm` over these files has this status, and this text is written.
+fn is_answered<R: Threads + Wait + Sync>(
     rt: &R,
     alloc: Global,
-    library: &mut MemLibrary,
-    protocol: &str,
-    text: &str,
-) -> Result<(u8, bool), NoMemory> {
-    let mut words = Vec::new(alloc);
-    words.push(String::from_str(alloc, "run")?)?;
-    words.push(String::from_str(alloc, protocol)?)?;
-    words.push(String::from_str(alloc, "3")?)?;
+    row: &Row,
+) -> Result<bool, NoMemory> {
+    let asked = words(alloc, "run m.sm 3")?;
+    let mut library = library(alloc, row.0, row.1)?;
     let mut sink = MemSink::new(alloc, Seq::new(alloc), 4096, 4096)?;
-    let done = ruby(rt, alloc, words.as_slice(), library, &mut sink, &OpenGate);
-    Ok((done.status, sink.bytes() == text.as_bytes()))
+    let (status, _) = call(rt, alloc, asked.as_slice(), &mut library, &mut sink);
+    Ok(status == row.2 && sink.bytes() == row.3.as_bytes())
 }
 
 #[test]
 fn reads_each_file_once_and_depth_first(rt: HostRuntime) -> Result<(), Fail> {
     for row in ROWS {
-        let mut library = library(rt.alloc(), row.0, row.1)?;
-        let answer = answered(&rt, rt.alloc(), &mut library, row.2, row.4)?;
-        assert_eq!(rt; answer, (row.3, true), "{}", row.4);
+        assert!(rt; is_answered(&rt, rt.alloc(), row)?, "{}", row.3);
     }
     Ok(())
 }

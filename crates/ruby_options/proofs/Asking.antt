@@ -1,5 +1,5 @@
 -- What is asked by what clap makes of the line of the words.
-use Rattle.std.proofs.Common.{◌≡◌, ◌∙◌, ◌⊎◌, Bool, true, false, cond, Result, Ok, Err, List, ap, inl, inr, sym}
+use Rattle.std.proofs.Common.{◌≡◌, ◌∙◌, ◌⊎◌, Bool, true, false, cond, Result, Err, List, ap, inl, inr, sym}
 use Rattle.clap.specs.Walk.{Row, Text}
 use Rattle.ruby_options.specs.declared.options.Options.{Options}
 use Rattle.ruby_options.specs.declared.options.OptionFault.{OptionFault}

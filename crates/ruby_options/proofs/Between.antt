@@ -1,5 +1,5 @@
 -- The numbers of options are within their bounds.
-use Rattle.std.proofs.Common.{◌≡◌, ◌≤◌, ◌&&◌, ℕ, Bool, true, false, cond, Option, Some, None, List, arith, is_some, length, nat_le, refl, subst, unwrap_or}
+use Rattle.std.proofs.Common.{◌≡◌, ℕ, Bool, true, false, cond, Option, Some, None, List, [], arith, is_some, length, nat_le, refl, subst, unwrap_or}
 use Rattle.std.specs.Option.{option_map_or}
 use Rattle.std.proofs.lemmas.Bool.{eqb-true, leb-true}
 use Rattle.std.proofs.lemmas.Option.{none-some}
@@ -10,7 +10,7 @@ use Rattle.ruby_options.specs.declared.options.Command.TheVariants.{Run, Plain, 
 use Rattle.ruby_options.specs.declared.tables.TheConstants.{REQUESTS, GENERATED, SEED, CHECKS, LINES, CYCLES, WORKERS, DEADLOCK, LIMIT}
 use Rattle.ruby_options.specs.Asked.{are_in_range, count_in, counting, name_at, numbers_in_range, options_of}
 use Rattle.ruby_options.specs.Numbers.{Between, OptionRow, are_digits, is_number_within, number_in, number_of, number_within, option_row, trace_in, value_of}
-use Rattle.ruby_options.specs.Within.{IsBetween, IsWithin, requests_of}
+use Rattle.ruby_options.specs.Within.{HasDefaults, IsBetween, IsWithin, requests_of}
 
 within : (b : Between) (word : Text) → is_number_within b word ≡ true → IsBetween b (value_of word)
 within b word e =
@@ -66,6 +66,28 @@ no_workers command found e = go command
     go Code = alone
     go Gen = refl
 
+generated : (names : List Text) (count : ℕ) → HasDefaults (options_of Gen names count [])
+unfolding number_of number_in trace_in
+generated names count = record {
+  seed = refl;
+  checks = refl;
+  lines = refl;
+  cycles = refl;
+  workers = refl;
+  trace = refl;
+  deadlock = refl;
+  limit = refl;
+}
+
+when_generated : (command : Command) (names : List Text) (count : ℕ) (found : List Row) → command ≡ Gen
+    → HasDefaults (options_of command names count (counting command found))
+when_generated Gen names count found is = generated names count
+when_generated Run names count found is = absurd (cc is)
+when_generated Plain names count found is = absurd (cc is)
+when_generated Check names count found is = absurd (cc is)
+when_generated Table names count found is = absurd (cc is)
+when_generated Code names count found is = absurd (cc is)
+
 pub are_within : (command : Command) (names : List Text) (count : ℕ) (found : List Row) → count_in command names ≡ Some count → are_in_range found ≡ true
     → IsWithin (options_of command names count (counting command found))
 are_within command names count found e range =
@@ -79,4 +101,5 @@ are_within command names count found e range =
       workers = no_workers command found range;
       deadlock = option_between given (option_row DEADLOCK) (omega arith, omega arith);
       limit = option_between given (option_row LIMIT) (omega arith, omega arith);
+      generated = when_generated command names count found;
     }

@@ -1,5 +1,5 @@
 -- What is there, or isn't, as a list.
-use Rattle.std.proofs.Common.{ℕ, Bor, map, ◌≡◌, ◌∙◌, Option, Some, None, List, [], ap, option_map, refl, sym, unwrap_or}
+use Rattle.std.proofs.Common.{Bor, map, ◌≡◌, ◌∙◌, Option, Some, None, List, [], ap, option_map, refl, sym, unwrap_or}
 use Rattle.clap.specs.Matches.{matched_of, raw_values}
 use Rattle.clap.specs.Walk.{Text, rows_of}
 use Rattle.clap.specs.declared.parser.matches.Found.{Found}

@@ -1,13 +1,13 @@
 -- What the words of a command line ask for, which are those after the program's name: the options, or why there are none.
 -- Words that `clap` takes begin with a command of the table and as many names as it has; then each number is within its
 -- bounds. A generated protocol runs with the default of every option. All this is this project's own.
-use Rattle.std.specs.Prelude.{◌≡◌, ◌⊎◌, ◌==◌, ◌&&◌, ℕ, Bool, true, false, Option, Some, None, Result, Ok, Err, List, [], length, find, codes, is_some, slice_get, unwrap_or, option_and_then, option_map, map, if◌then◌else◌}
+use Rattle.std.specs.Prelude.{◌≡◌, ◌⊎◌, ◌==◌, ◌&&◌, ℕ, Bool, true, false, Option, Some, None, Result, Ok, Err, List, [], length, find, is_some, slice_get, unwrap_or, option_and_then, option_map, map, if◌then◌else◌}
 use Rattle.std.specs.List.{list_all}
 use Rattle.std.specs.Option.{option_map_or}
 use Rattle.std.specs.Str.{bytes_eq}
 use Rattle.clap.specs.Walk.{Row, Text, all_of, first_of}
 use Rattle.ruby_options.specs.declared.options.Command.{Command}
-use Rattle.ruby_options.specs.declared.options.Command.TheVariants.{Run, Plain, Check, Table, Code, Gen}
+use Rattle.ruby_options.specs.declared.options.Command.TheVariants.{Run, Plain, Code, Gen}
 use Rattle.ruby_options.specs.declared.options.Options.{Options}
 use Rattle.ruby_options.specs.declared.options.OptionFault.{OptionFault}
 use Rattle.ruby_options.specs.declared.options.OptionFault.TheVariants.{Words, Range, NoMemory}

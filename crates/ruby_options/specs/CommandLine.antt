@@ -2,7 +2,7 @@
 -- argument. The command has a positional argument for the command's word, a last one of one or more names, and an option
 -- with one value for each of the tables; `clap` adds a flag for help, which it always refuses. How `clap` reads a line, its
 -- own definitions say; the command is this project's own.
-use Rattle.std.specs.Prelude.{ℕ, Bool, Option, Some, None, List, [], ◌∷◌, fold, map}
+use Rattle.std.specs.Prelude.{Bool, Option, Some, None, List, [], ◌∷◌, fold, map}
 use Rattle.std.specs.Borrow.{Bor}
 use Rattle.clap.specs.Lexer.{usize_max}
 use Rattle.clap.specs.Walk.{Row, Rule, Text, is_empty, rows_of}

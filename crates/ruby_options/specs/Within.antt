@@ -1,10 +1,10 @@
--- What holds of all options that words ask for: each number is within its bounds by the tables, and no workers are asked for
--- as long as there are none. It follows from what is asked.
-use Rattle.std.specs.Prelude.{◌≡◌, ◌≤◌, ℕ}
+-- What holds of all options that words ask for: each number is within its bounds by the tables, no workers are asked for as
+-- long as there are none, and for a generated protocol every option has its default. It follows from what is asked.
+use Rattle.std.specs.Prelude.{◌≡◌, ◌≤◌, ℕ, true}
 use Rattle.ruby_options.specs.declared.options.Command.{Command}
 use Rattle.ruby_options.specs.declared.options.Command.TheVariants.{Plain, Gen}
 use Rattle.ruby_options.specs.declared.options.Options.{Options}
-use Rattle.ruby_options.specs.declared.tables.TheConstants.{REQUESTS, GENERATED, SEED, CHECKS, LINES, CYCLES, DEADLOCK, LIMIT}
+use Rattle.ruby_options.specs.declared.tables.TheConstants.{REQUESTS, GENERATED, SEED, CHECKS, LINES, CYCLES, WORKERS, DEADLOCK, LIMIT}
 use Rattle.ruby_options.specs.Numbers.{Between}
 
 abbrev pub IsBetween : Between → ℕ → Type 0
@@ -16,6 +16,16 @@ requests_of Plain = REQUESTS
 requests_of Gen = GENERATED
 requests_of command = (0, 0)
 
+pub record HasDefaults (o : Options) : Type 0 where
+  pub seed : o.seed ≡ SEED.2
+  pub checks : o.checks ≡ CHECKS.2
+  pub lines : o.lines ≡ LINES.2
+  pub cycles : o.cycles ≡ CYCLES.2
+  pub workers : o.workers ≡ WORKERS.2
+  pub trace : o.trace ≡ true
+  pub deadlock : o.deadlock ≡ DEADLOCK.2
+  pub limit : o.limit ≡ LIMIT.2
+
 pub record IsWithin (o : Options) : Type 0 where
   pub count : IsBetween (requests_of o.command) o.count
   pub seed : IsBetween SEED.1 o.seed
@@ -25,3 +35,4 @@ pub record IsWithin (o : Options) : Type 0 where
   pub workers : o.workers ≡ 0
   pub deadlock : IsBetween DEADLOCK.1 o.deadlock
   pub limit : IsBetween LIMIT.1 o.limit
+  pub generated : o.command ≡ Gen → HasDefaults o

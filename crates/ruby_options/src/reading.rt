@@ -139,7 +139,8 @@ fn asked_of(alloc: Global, matches: &ArgMatches<'_>) -> Result<Options, OptionFa
 pub fn read(alloc: Global, words: &[String]) -> Result<Options, OptionFault>
     ensures asked { IsRead (asked (map string_bytes words.now)) result }
 
-    // The names are words, which are text, and the numbers are within the bounds of the tables.
+    // The names are words, which are text. The numbers are within the bounds of the tables, and the defaults of a generated
+    // protocol.
     ensures names { IfOk result (λ o. IsUtf8 o.protocol × IsUtf8 o.topology) }
     ensures within { IfOk result IsWithin }
 {

@@ -62,57 +62,77 @@ fn word(got: &Got) -> &[u8] {
     }
 }
 
+/// The writes that fail, the most bytes that a write takes, how many the sink has room for, whether `hello` is written whole, and what
+/// the sink has then.
+type Taking = (&'static [u64], u64, u64, bool, &'static [u8]);
+
+const TAKINGS: &[Taking] = &[
+    (&[], 9, 9, true, b"hello"),
+    (&[], 1, 5, true, b"hello"),
+    (&[2], 1, 9, false, b"h"),
+    (&[2], 9, 9, true, b"hello"),
+    (&[], 0, 9, false, b""),
+    (&[], 3, 4, false, b"hell"),
+];
+
+fn is_taken_so(alloc: Global, row: &Taking) -> Result<bool, NoMemory> {
+    let mut sink = MemSink::new(alloc, Seq::copied(alloc, row.0)?, row.1, row.2)?;
+    let whole = put_both(&mut sink, b"", b"hello");
+    Ok(whole == row.3 && sink.bytes() == row.4)
+}
+
 #[test]
 fn a_sink_in_memory_takes_what_its_plan_says(rt: HostRuntime) -> Result<(), Fail> {
-    let none: &[u64] = &[];
-    let second: &[u64] = &[2];
-    for (fails, most, room, whole, bytes) in [
-        (none, 9, 9, true, "hello"),
-        (none, 1, 5, true, "hello"),
-        (second, 1, 9, false, "h"),
-        (second, 9, 9, true, "hello"),
-        (none, 0, 9, false, ""),
-        (none, 3, 4, false, "hell"),
-    ] {
-        let fails = Seq::copied(rt.alloc(), fails)?;
-        let mut sink = MemSink::new(rt.alloc(), fails, most, room)?;
-        assert_eq!(rt;
-            put_both(&mut sink, b"", b"hello"),
-            whole,
-            "most {most}, room {room}"
-        );
-        assert_eq!(rt; sink.bytes(), bytes.as_bytes(), "most {most}, room {room}");
+    for (place, row) in TAKINGS.iter().enumerate() {
+        assert!(rt; is_taken_so(rt.alloc(), row)?, "row {place}");
     }
     Ok(())
+}
+
+/// Reads of a library of which the second and the fourth fail: the name, the limit, and what is answered.
+const READS: &[(&str, u64, &[u8])] = &[
+    ("a.sm", 7, b"machine"),
+    ("a.sm", 7, b"(failed)"),
+    ("a.sm", 6, b"(too large)"),
+    ("empty", 0, b"(failed)"),
+    ("empty", 0, b""),
+    ("b.sm", 9, b"(absent)"),
+];
+
+/// Whether a library answers a read so.
+fn reads<L: Library>(library: &mut L, row: &(&str, u64, &[u8])) -> bool {
+    word(&library.read(row.0, row.1)) == row.2
+}
+
+/// Whether each read is answered as its row says.
+fn are_read_so(alloc: Global) -> Result<bool, NoMemory> {
+    let fails = Seq::copied(alloc, &[2, 4])?;
+    let mut library = MemLibrary::new(alloc, shelf(alloc)?, fails);
+    let mut are_so = true;
+    for row in READS {
+        are_so = reads(&mut library, row) && are_so;
+    }
+    Ok(are_so)
 }
 
 #[test]
 fn a_library_in_memory_reads_what_its_plan_says(rt: HostRuntime) -> Result<(), Fail> {
-    let fails = Seq::copied(rt.alloc(), &[2, 4])?;
-    let mut library = MemLibrary::new(rt.alloc(), shelf(rt.alloc())?, fails);
-    for (name, limit, want) in [
-        ("a.sm", 7, "machine"),
-        ("a.sm", 7, "(failed)"),
-        ("a.sm", 6, "(too large)"),
-        ("empty", 0, "(failed)"),
-        ("empty", 0, ""),
-        ("b.sm", 9, "(absent)"),
-    ] {
-        let got = library.read(name, limit);
-        assert_eq!(rt; word(&got), want.as_bytes(), "{name} to {limit}");
-    }
+    assert!(rt; are_read_so(rt.alloc())?);
     Ok(())
+}
+
+/// Whether a library that never fails answers two reads as it should, and a sink that never fails takes a piece.
+fn are_sure(alloc: Global) -> Result<bool, NoMemory> {
+    let mut library = SureLibrary::new(alloc, shelf(alloc)?);
+    let is_there = !is_absent(&mut library, "a.sm") && is_absent(&mut library, "b.sm");
+    let is_read = reads(&mut library, &("a.sm", 7, b"machine"));
+    Ok(is_there && is_read && put(&mut SureSink::new(), b"hello"))
 }
 
 #[test]
 fn the_sure_ones_never_fail(rt: HostRuntime) -> Result<(), Fail> {
-    let mut library = SureLibrary::new(rt.alloc(), shelf(rt.alloc())?);
-    assert!(rt; is_absent(&mut library, "b.sm"));
-    assert!(rt; !is_absent(&mut library, "a.sm"));
-    let got = library.read("a.sm", 7);
-    assert_eq!(rt; word(&got), b"machine".as_slice());
-    assert!(rt; put(&mut SureSink::new(), b"hello"));
     pass_shared(&OpenGate);
+    assert!(rt; are_sure(rt.alloc())?);
     Ok(())
 }
 
@@ -164,24 +184,37 @@ impl<'a> Read for Torn<'a> {
     }
 }
 
+/// Whether a file opens, the fault of opening it or of reading it at its end, the limit, and what is answered.
+type Fault = (bool, ErrorKind, u64, &'static [u8]);
+
+const FAULTS: &[Fault] = &[
+    (true, ErrorKind::Other, 9, b"(failed)"),
+    (true, ErrorKind::NotFound, 9, b"(failed)"),
+    (true, ErrorKind::OutOfMemory, 9, b"(no memory)"),
+    (true, ErrorKind::Other, 6, b"(too large)"),
+    (false, ErrorKind::PermissionDenied, 9, b"(failed)"),
+    (false, ErrorKind::NotFound, 9, b"(absent)"),
+];
+
+fn opened<'a>(opens: bool, fault: ErrorKind) -> io::Result<Torn<'a>> {
+    if opens {
+        Ok(Torn {
+            bytes: b"machine",
+            fault,
+        })
+    } else {
+        Err(io::Error::from(fault))
+    }
+}
+
+fn is_told_so(alloc: Global, row: &Fault) -> bool {
+    word(&read_opened(alloc, opened(row.0, row.1), row.2)) == row.3
+}
+
 #[test]
 fn faults_of_opening_and_reading_are_told_apart(rt: HostRuntime) -> Result<(), Fail> {
-    for (opens, fault, limit, want) in [
-        (true, ErrorKind::Other, 9, "(failed)"),
-        (true, ErrorKind::NotFound, 9, "(failed)"),
-        (true, ErrorKind::OutOfMemory, 9, "(no memory)"),
-        (true, ErrorKind::Other, 6, "(too large)"),
-        (false, ErrorKind::PermissionDenied, 9, "(failed)"),
-        (false, ErrorKind::NotFound, 9, "(absent)"),
-    ] {
-        let bytes = b"machine".as_slice();
-        let opened = if opens {
-            Ok(Torn { bytes, fault })
-        } else {
-            Err(io::Error::from(fault))
-        };
-        let got = read_opened(rt.alloc(), opened, limit);
-        assert_eq!(rt; word(&got), want.as_bytes(), "{opens}, {fault:?}");
+    for (place, row) in FAULTS.iter().enumerate() {
+        assert!(rt; is_told_so(rt.alloc(), row), "row {place}");
     }
     Ok(())
 }
@@ -218,26 +251,37 @@ impl Print for Output {
     }
 }
 
+/// The most bytes that a write takes, where it doesn't fail; what a write of `hello` answers, whether `you` is written whole behind
+/// it, and what was taken then.
+const OUTPUTS: &[(Option<usize>, Wrote, bool, &[u8])] = &[
+    (None, Wrote::Failed, false, b""),
+    (Some(0), Wrote::Took(0), false, b""),
+    (Some(1), Wrote::Took(1), true, b"hyou"),
+    (Some(9), Wrote::Took(5), true, b"helloyou"),
+];
+
+fn has_taken(output: &Output, bytes: &[u8]) -> bool {
+    match &output.taken.try_borrow() {
+        Ok(taken) => taken.as_slice() == bytes,
+        Err(_) => false,
+    }
+}
+
+fn is_written_so(alloc: Global, row: &(Option<usize>, Wrote, bool, &[u8])) -> bool {
+    let output = Output {
+        most: row.0,
+        taken: RefCell::new(Vec::new(alloc)),
+    };
+    let mut sink = StdSink::new(&output);
+    let wrote = sink.write(b"hello") == row.1;
+    let whole = put(&mut sink, b"you") == row.2;
+    wrote && whole && has_taken(&output, row.3)
+}
+
 #[test]
 fn the_output_takes_what_the_system_does(rt: HostRuntime) -> Result<(), Fail> {
-    for (most, wrote, whole, taken) in [
-        (None, Wrote::Failed, false, ""),
-        (Some(0), Wrote::Took(0), false, ""),
-        (Some(1), Wrote::Took(1), true, "hyou"),
-        (Some(9), Wrote::Took(5), true, "helloyou"),
-    ] {
-        let output = Output {
-            most,
-            taken: RefCell::new(Vec::new(rt.alloc())),
-        };
-        let mut sink = StdSink::new(&output);
-        assert_eq!(rt; sink.write(b"hello"), wrote, "{most:?}");
-        assert_eq!(rt; put(&mut sink, b"you"), whole, "{most:?}");
-        assert_eq!(rt;
-            output.taken.try_borrow()?.as_slice(),
-            taken.as_bytes(),
-            "{most:?}"
-        );
+    for (place, row) in OUTPUTS.iter().enumerate() {
+        assert!(rt; is_written_so(rt.alloc(), row), "row {place}");
     }
     Ok(())
 }

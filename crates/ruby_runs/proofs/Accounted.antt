@@ -12,16 +12,17 @@ use Rattle.run_journal.specs.declared.entry.Entry.{Entry}
 use Rattle.run_journal.specs.declared.entry.Entry.TheVariants as entry
 use Rattle.run_journal.specs.declared.event.Event.{Event}
 use Rattle.run_journal.specs.declared.verdict.Verdict.{Verdict}
-use Rattle.ruby_runs.specs.Rules.{Rules, Drive, Mailed}
+use Rattle.ruby_runs.specs.Rules.{Rules, DriverTurn, Mailed}
 use Rattle.ruby_runs.specs.World.{Place, World, opening, opening_place}
 use Rattle.ruby_runs.specs.Verdict.{held_mail}
-use Rattle.ruby_runs.specs.Step.{Stepped, with_deliveries, changed_from, with_drive, drive_in, delivery_numbers, begun_place, stopped_by}
+use Rattle.ruby_runs.specs.Step.{Stepped, with_deliveries, changed_from, with_driver_turn, driver_turn_in, delivery_numbers, begun_place, stopped_by}
 use Rattle.ruby_runs.specs.Run.{Ran, IsRun}
 use Rattle.ruby_runs.specs.Account.{sent_numbers, consumed_numbers, sent_in, consumed_in, is_stalled, is_recycled, is_queued, times, account, IsAccounted}
 use Rattle.ruby_runs.specs.Change.{Change, Moves, Closes, Turns}
 use Rattle.ruby_runs.specs.Outcome.{driven_world, entry_of, IsOutcome, StopsAt, EndsWith, ContinuesAt}
 use Rattle.ruby_runs.proofs.Outcomes.{change-outcome}
-use Rattle.ruby_runs.specs.Premises.{numbers_from, KeepsMail, IsSound, CarriesMail}
+use Rattle.ruby_value.specs.NumbersFrom.{numbers_from}
+use Rattle.ruby_runs.specs.Premises.{KeepsMail, IsSound, CarriesMail}
 use Rattle.ruby_runs.proofs.Runs.{hold-along}
 use Rattle.ruby_runs.proofs.Places.{paired-map, changed, changed-length}
 use Rattle.ruby_runs.proofs.Fitting.{WorldFits, opening-fits, change-fits, asked-in, at-controller, controllers_in, served_places, served-grown}
@@ -70,14 +71,14 @@ module _ {C M D : Type 0} (r : Rules C M D) (Fits : ℕ → C → ℕ → Type 0
     (sound : IsSound r Fits Suits Leads) (carries : CarriesMail r Fits Suits Leads) where
   -- a turn
   module _ (w : World C D) (running : w.verdict ≡ None) (journal : List Entry) (kept : IsKept r w journal) (fits : WorldFits r Fits Suits Leads sound w) where
-    served-keeps : KeepsAt r (drive_in r w).controller_after 0 w.places
+    served-keeps : KeepsAt r (driver_turn_in r w).controller_after 0 w.places
     served-keeps c p there =
-        subst (λ (i : ℕ). KeepsMail r p.controller ((drive_in r w).controller_after i p.controller)) (omega arith)
+        subst (λ (i : ℕ). KeepsMail r p.controller ((driver_turn_in r w).controller_after i p.controller)) (omega arith)
         (carries.serves w.driver (controllers_in r Fits Suits Leads sound w) w.now w.issued (asked-in r Fits Suits Leads sound w running fits) c p.controller (at-controller r Fits Suits Leads sound w c p there))
 
     served-silent : IsSilent r w.places (served_places r Fits Suits Leads sound w running fits)
     served-silent =
-        let change : ℕ → C → C = (drive_in r w).controller_after in
+        let change : ℕ → C → C = (driver_turn_in r w).controller_after in
         record {
           held = λ f. ap (λ (ms : List Mailed). tally (λ (m : Mailed). f m.number) ms) (changed-mail r 0 change w.places served-keeps);
           sent = λ c.
@@ -90,9 +91,9 @@ module _ {C M D : Type 0} (r : Rules C M D) (Fits : ℕ → C → ℕ → Type 0
 
     -- the driver's requests have come to their receivers, and its entry is written
     drive-kept : (now : ℕ) (finding : Option Finding) (verdict : Option Verdict)
-        → IsKept r (with_drive r w (drive_in r w)) (journal ++ entry.Turned now (delivery_numbers r (drive_in r w).requests) finding verdict ∷ [])
+        → IsKept r (with_driver_turn r w (driver_turn_in r w)) (journal ++ entry.Turned now (delivery_numbers r (driver_turn_in r w).requests) finding verdict ∷ [])
     drive-kept now finding verdict =
-        let d : Drive C M D = drive_in r w in
+        let d : DriverTurn C M D = driver_turn_in r w in
         let n : ℕ = length r.controllers in
         let set : List (Place C) = served_places r Fits Suits Leads sound w running fits in
         let asked = asked-in r Fits Suits Leads sound w running fits in
@@ -146,13 +147,13 @@ module _ {C M D : Type 0} (r : Rules C M D) (Fits : ℕ → C → ℕ → Type 0
       silent-kept r w closed.world journal closed.entry kept
       (record { held = λ f. refl; sent = λ d. same-sent r (slice_get w.places d) }) refl refl refl
   outcome-kept n w st journal (EndsWith v nobody comes) running fits kept =
-      let driven-kept = drive-kept w running journal kept fits w.now (drive_in r w).finding (Some v) in
+      let driven-kept = drive-kept w running journal kept fits w.now (driver_turn_in r w).finding (Some v) in
       record { sent = driven-kept.sent; moved = driven-kept.moved }
   outcome-kept n w st journal (ContinuesAt next nobody on) running fits kept =
       let told : List Entry = journal ++ entry_of r w None ∷ [] in
       let after : World C D = record (driven_world r w) { now = next; places = map (begun_place r next) (driven_world r w).places } in
       subst (λ (j : List Entry). IsKept r after j) (append-nil told)
-      (silent-kept r (driven_world r w) after told None (drive-kept w running journal kept fits w.now (drive_in r w).finding None)
+      (silent-kept r (driven_world r w) after told None (drive-kept w running journal kept fits w.now (driver_turn_in r w).finding None)
       (begun-silent next (driven_world r w).places) refl refl refl)
 
   change-kept : (n : ℕ) (w : World C D) (e : Event) (st : Stepped C D) (journal : List Entry) → Change r n w e st → w.verdict ≡ None

@@ -9,18 +9,20 @@ use Rattle.std.proofs.lemmas.List.{append-nil, length-set}
 use Rattle.std.proofs.lemmas.List.Elements.{All-nil, All-cons, All-head, All-tail}
 use Rattle.ruby_value.specs.declared.message.MsgNo.{MsgNo}
 use Rattle.ruby_value.specs.NumberBefore.{same_number}
-use Rattle.run_journal.specs.declared.entry.Sent.{Sent}
+use Rattle.ruby_value.specs.declared.message.Sent.{Sent}
 use Rattle.run_journal.specs.declared.entry.End.{End}
 use Rattle.run_journal.specs.declared.entry.Entry.{Entry}
 use Rattle.run_journal.specs.declared.entry.FireNote.{FireNote}
 use Rattle.run_journal.specs.declared.event.Event.{Event}
-use Rattle.ruby_runs.specs.Rules.{Rules, Acts, Delivery, Mailed}
+use Rattle.ruby_runs.specs.Rules.{Rules, Acts, Mailed}
+use Rattle.ruby_value.specs.declared.message.Delivery.{Delivery}
 use Rattle.ruby_runs.specs.World.{Place, World}
 use Rattle.ruby_runs.specs.Verdict.{held_mail}
 use Rattle.ruby_runs.specs.Step.{Moved, fired_entry, with_controller, with_arrival, with_delivery_at, with_delivery, with_deliveries, with_moved, delivery_numbers}
 use Rattle.ruby_runs.specs.Account.{sent_numbers, consumed_numbers, sent_in, consumed_in, times}
 use Rattle.ruby_runs.specs.Change.{Ends, Idled, Filled, Halted, Move, Taken, FiredBy, EndedBy, Released}
-use Rattle.ruby_runs.specs.Premises.{numbers_from, mail_numbers, IsOnce, KeepsMail, MovesMail, AllSuit, IsSound, CarriesMail}
+use Rattle.ruby_value.specs.NumbersFrom.{numbers_from}
+use Rattle.ruby_runs.specs.Premises.{mail_numbers, IsOnce, KeepsMail, MovesMail, AllSuit, IsSound, CarriesMail}
 use Rattle.ruby_runs.proofs.Places.{Paired, paired-same, paired-set, paired-trans, set-at, AllFit, set-fits, deliveries-length, deliveries-grown}
 use Rattle.ruby_runs.proofs.Fitting.{WorldFits}
 use Rattle.ruby_runs.proofs.Tallies.{one, tally, counted, tally-map, tally-set, tally-within, tally-more}

@@ -1,16 +1,17 @@
 -- In each world of a run each controller fits. And what an event of a controller, and a turn, keep of the places.
-use Rattle.std.proofs.Common.{◌≡◌, ◌<◌, ◌≤◌, ℕ, Option, None, Some, List, length, map, refl, sym, ◌∙◌, ap, subst, slice_get, slice_set, arith}
+use Rattle.std.proofs.Common.{◌≡◌, ◌<◌, ◌≤◌, IsTrue, ℕ, Option, None, Some, List, length, map, refl, sym, ◌∙◌, ap, subst, slice_get, slice_set, arith}
 use Rattle.std.proofs.lemmas.List.{length-set, length-map}
 use Rattle.std.proofs.lemmas.List.Elements.{All-nil}
 use Rattle.std.proofs.lemmas.Option.{slice_get-map}
 use Rattle.std.specs.Option.{option_map}
+use Rattle.ruby_value.specs.Ascending.{has_mark}
 use Rattle.run_journal.specs.declared.entry.End.{End}
 use Rattle.run_journal.specs.declared.entry.Entry.{Entry}
 use Rattle.run_journal.specs.declared.event.Event.{Event}
 use Rattle.ruby_runs.specs.Rules.{Rules}
 use Rattle.ruby_runs.specs.World.{Place, World, must_wake, opening, opening_place}
 use Rattle.ruby_runs.specs.Verdict.{above}
-use Rattle.ruby_runs.specs.Step.{Stepped, Moved, with_moved, with_deliveries, changed_from, with_drive, drive_in, begun_place}
+use Rattle.ruby_runs.specs.Step.{Stepped, Moved, with_moved, with_deliveries, changed_from, with_driver_turn, driver_turn_in, begun_place}
 use Rattle.ruby_runs.specs.Run.{IsRun}
 use Rattle.ruby_runs.specs.Change.{Ends, Idled, Filled, Halted, Move, Taken, FiredBy, EndedBy, Released, Change, Moves, Closes, Turns}
 use Rattle.ruby_runs.specs.Outcome.{driven_world, IsOutcome, StopsAt, EndsWith, ContinuesAt}
@@ -24,6 +25,7 @@ module _ {C M D : Type 0} (r : Rules C M D) (Fits : ℕ → C → ℕ → Type 0
   pub record MoveKeeps (now c : ℕ) (p : Place C) (m : Moved C M) : Type 0 where
     pub fits : Fits c m.place.controller now
     pub awake : must_wake r now m.place ≡ must_wake r now p
+    pub later : (cycle : ℕ) → now < cycle → IsTrue (has_mark (r.marks p.controller) cycle) → IsTrue (has_mark (r.marks m.place.controller) cycle)
     pub suit : AllSuit r Fits Suits Leads now m.copies
 
   ends-keeps : (c now : ℕ) (x after : C) (e : End) → Fits c x now → Ends r c now x after e → Keeps r Fits Suits Leads c now x after
@@ -32,14 +34,14 @@ module _ {C M D : Type 0} (r : Rules C M D) (Fits : ℕ → C → ℕ → Type 0
   ends-keeps c now x after e fits (Halted at is) = sound.stops c now x fits at is
 
   pub move-keeps : (now c : ℕ) (p : Place C) (e : Event) (m : Moved C M) → Fits c p.controller now → Move r now c p e m → MoveKeeps now c p m
-  move-keeps now c p e m fits (Taken worker free) = record { fits = fits; awake = refl; suit = All-nil _ }
+  move-keeps now c p e m fits (Taken worker free) = record { fits = fits; awake = refl; later = λ cycle above has. has; suit = All-nil _ }
   move-keeps now c p e m fits (FiredBy worker note acts copies after holds is) =
       let both = sound.fires c now p.controller fits note acts copies after is in
-      record { fits = both.0.fits; awake = both.0.awake; suit = both.1 }
+      record { fits = both.0.fits; awake = both.0.awake; later = both.0.later; suit = both.1 }
   move-keeps now c p e m fits (EndedBy worker after end holds ends) =
       let keeps = ends-keeps c now p.controller after end fits ends in
-      record { fits = keeps.fits; awake = keeps.awake; suit = All-nil _ }
-  move-keeps now c p e m fits (Released worker holds) = record { fits = fits; awake = refl; suit = All-nil _ }
+      record { fits = keeps.fits; awake = keeps.awake; later = keeps.later; suit = All-nil _ }
+  move-keeps now c p e m fits (Released worker holds) = record { fits = fits; awake = refl; later = λ cycle above has. has; suit = All-nil _ }
 
   -- what holds of each world of a run: each controller fits at its cycle, which is within the bound, and the driver leads
   pub record WorldFits (w : World C D) : Type 0 where
@@ -75,21 +77,21 @@ module _ {C M D : Type 0} (r : Rules C M D) (Fits : ℕ → C → ℕ → Type 0
       slice_get-map (λ (q : Place C). q.controller) w.places c ∙ ap (λ (o : Option (Place C)). option_map (λ (q : Place C). q.controller) o) there
 
   module _ (w : World C D) (running : w.verdict ≡ None) (fits : WorldFits w) where
-    served-keeps : (c : ℕ) (p q : Place C) → slice_get w.places c ≡ Some p → q ≡ record p { controller = (drive_in r w).controller_after c p.controller }
+    served-keeps : (c : ℕ) (p q : Place C) → slice_get w.places c ≡ Some p → q ≡ record p { controller = (driver_turn_in r w).controller_after c p.controller }
         → Fits c q.controller w.now × IsLater r w.now p q
     served-keeps c p q there served =
         let keeps = sound.serves w.driver (controllers_in w) w.now w.issued (asked-in w running fits) c p.controller (at-controller w c p there) in
-        let s : Place C = record p { controller = (drive_in r w).controller_after c p.controller } in
-        let later : Fits c s.controller w.now × IsLater r w.now p s = (keeps.fits, record { finished = refl; holder = refl; awake = keeps.awake }) in
+        let s : Place C = record p { controller = (driver_turn_in r w).controller_after c p.controller } in
+        let later : Fits c s.controller w.now × IsLater r w.now p s = (keeps.fits, record { finished = refl; holder = refl; awake = keeps.awake; later = keeps.later }) in
         subst (λ (x : Place C). Fits c x.controller w.now × IsLater r w.now p x) (sym served) later
 
     -- the places whose controllers the driver has served
     abbrev pub served_places : List (Place C)
-    served_places = changed_from 0 (drive_in r w).controller_after w.places
+    served_places = changed_from 0 (driver_turn_in r w).controller_after w.places
 
     pub served-grown : IsGrown r Fits w.now w.places served_places
     served-grown =
-        let change : ℕ → C → C = (drive_in r w).controller_after in
+        let change : ℕ → C → C = (driver_turn_in r w).controller_after in
         let both : (c : ℕ) → Paired (λ p q. Fits c q.controller w.now × IsLater r w.now p q) (slice_get w.places c) (slice_get served_places c) =
         λ c. paired-map _ _ (slice_get w.places c) (slice_get served_places c) (λ p q there is. served-keeps c p q there is) (changed change w.places c) in
         record {
@@ -97,16 +99,16 @@ module _ {C M D : Type 0} (r : Rules C M D) (Fits : ℕ → C → ℕ → Type 0
           later = λ c. paired-map _ (IsLater r w.now) (slice_get w.places c) (slice_get served_places c) (λ p q there keeps. keeps.1) (both c);
         }
 
-    pub drive-grown : IsGrown r Fits w.now w.places (with_drive r w (drive_in r w)).places
+    pub drive-grown : IsGrown r Fits w.now w.places (with_driver_turn r w (driver_turn_in r w)).places
     drive-grown =
-        grown-grown r Fits w.now w.places served_places (with_deliveries r served_places (drive_in r w).requests) served-grown
-        (deliveries-grown r Fits Suits Leads sound w.now served_places (drive_in r w).requests
+        grown-grown r Fits w.now w.places served_places (with_deliveries r served_places (driver_turn_in r w).requests) served-grown
+        (deliveries-grown r Fits Suits Leads sound w.now served_places (driver_turn_in r w).requests
         (sound.asks w.driver (controllers_in w) w.now w.issued (asked-in w running fits)) served-grown.fit)
 
-    pub drive-length : length (with_drive r w (drive_in r w)).places ≡ length r.controllers
+    pub drive-length : length (with_driver_turn r w (driver_turn_in r w)).places ≡ length r.controllers
     drive-length =
-        deliveries-length r (changed_from 0 (drive_in r w).controller_after w.places) (drive_in r w).requests
-        ∙ changed-length 0 (drive_in r w).controller_after w.places ∙ fits.count
+        deliveries-length r (changed_from 0 (driver_turn_in r w).controller_after w.places) (driver_turn_in r w).requests
+        ∙ changed-length 0 (driver_turn_in r w).controller_after w.places ∙ fits.count
 
   -- the next cycle begins
   begun-fits : (now next : ℕ) (places : List (Place C)) → now < next → next ≤ r.cycles → AllFit r Fits now places

@@ -10,3 +10,4 @@ pub mod OneRun
 pub mod Tallies
 pub mod Accounting
 pub mod Accounted
+pub mod Marks

@@ -15,7 +15,7 @@ use Rattle.run_journal.specs.declared.verdict.Verdict.TheVariants as verdict
 use Rattle.ruby_runs.specs.Rules.{Rules}
 use Rattle.ruby_runs.specs.World.{Place, World}
 use Rattle.ruby_runs.specs.Verdict.{journal_limit, mail_limit, too_long, too_full, first_of, verdict_after, least_stopped}
-use Rattle.ruby_runs.specs.Step.{begun_place, Stepped, next_world, next_in, drive_in, step}
+use Rattle.ruby_runs.specs.Step.{begun_place, Stepped, next_world, next_in, driver_turn_in, step}
 use Rattle.ruby_runs.specs.WakesOnce.{is_turn, wakes_at}
 use Rattle.ruby_runs.specs.Premises.{KeepsMarks}
 use Rattle.ruby_runs.specs.Change.{Change, Moves, Closes, Turns}
@@ -83,7 +83,7 @@ module _ {C M D : Type 0} (r : Rules C M D) where
   change-outcome n w e st (Closes worker c idle least) turns = StopsAt c (first-stopped w.places c least)
   change-outcome n w e st (Turns worker idle least) turns =
       let v : World C D = driven_world r w in
-      by-finding n w (none-stopped w.places least) (drive_in r w).finding (next_in r v) refl (next_cycle-is r v.now v.next v.places)
+      by-finding n w (none-stopped w.places least) (driver_turn_in r w).finding (next_in r v) refl (next_cycle-is r v.now v.next v.places)
 
   -- whatever a lawful turn does is an outcome
   pub turn-outcome : (n : ℕ) (w : World C D) (worker : ℕ) (st : Stepped C D) → step r n w (Turn worker) ≡ Some st → IsOutcome r n w st

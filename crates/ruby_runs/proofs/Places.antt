@@ -1,9 +1,11 @@
 -- Places by their numbers: what one changed place, arrivals and the driver's answers leave of the others.
-use Rattle.std.proofs.Common.{◌≡◌, ◌≢◌, ◌+◌, ℕ, zero, suc, Option, None, Some, List, [], ◌∷◌, length, map, refl, sym, ◌∙◌, ap, subst, slice_get, slice_set, zero-add, arith}
+use Rattle.std.proofs.Common.{◌≡◌, ◌≢◌, ◌+◌, ◌<◌, IsTrue, ℕ, zero, suc, Option, None, Some, List, [], ◌∷◌, length, map, refl, sym, ◌∙◌, ap, subst, slice_get, slice_set, zero-add, arith}
 use Rattle.std.proofs.lemmas.List.{length-set}
 use Rattle.std.proofs.lemmas.List.Elements.{All-head, All-tail}
 use Rattle.std.proofs.lemmas.Option.{same_Some}
-use Rattle.ruby_runs.specs.Rules.{Rules, Delivery}
+use Rattle.ruby_runs.specs.Rules.{Rules}
+use Rattle.ruby_value.specs.declared.message.Delivery.{Delivery}
+use Rattle.ruby_value.specs.Ascending.{has_mark}
 use Rattle.ruby_runs.specs.World.{Place, must_wake}
 use Rattle.ruby_runs.specs.Step.{with_arrival, with_delivery_at, with_delivery, with_deliveries, changed_from, with_controller}
 use Rattle.ruby_runs.specs.Premises.{IsSound, AllSuit}
@@ -100,16 +102,22 @@ module _ {C M D : Type 0} (r : Rules C M D) where
     pub finished : after.finished ≡ before.finished
     pub holder : after.holder ≡ before.holder
     pub awake : must_wake r now after ≡ must_wake r now before
+    pub later : (cycle : ℕ) → now < cycle → IsTrue (has_mark (r.marks before.controller) cycle) → IsTrue (has_mark (r.marks after.controller) cycle)
 
   abbrev pub AreLater : ℕ → Option (Place C) → Option (Place C) → Type 0
   AreLater now o u = Paired (IsLater now) o u
 
   later-same : (now : ℕ) (p : Place C) → IsLater now p p
-  later-same now p = record { finished = refl; holder = refl; awake = refl }
+  later-same now p = record { finished = refl; holder = refl; awake = refl; later = λ cycle above has. has }
 
   later-later : (now : ℕ) (p q s : Place C) → IsLater now p q → IsLater now q s → IsLater now p s
   later-later now p q s first second =
-      record { finished = second.finished ∙ first.finished; holder = second.holder ∙ first.holder; awake = second.awake ∙ first.awake }
+      record {
+        finished = second.finished ∙ first.finished;
+        holder = second.holder ∙ first.holder;
+        awake = second.awake ∙ first.awake;
+        later = λ cycle above has. second.later cycle above (first.later cycle above has);
+      }
 
   -- the places of a world, each with its number
   abbrev pub AllLater : ℕ → List (Place C) → List (Place C) → Type 0
@@ -151,7 +159,7 @@ module _ {C M D : Type 0} (r : Rules C M D) (Fits : ℕ → C → ℕ → Type 0
         fit = set-fits now places d.receiver p q there keeps.fits fit;
         later = λ c.
             paired-set (IsLater r now) (later-same r now) places d.receiver c p q there
-            (record { finished = refl; holder = refl; awake = keeps.awake });
+            (record { finished = refl; holder = refl; awake = keeps.awake; later = keeps.later });
       }
 
   pub deliveries-grown : (now : ℕ) (places : List (Place C)) (ds : List (Delivery M)) → AllSuit r Fits Suits Leads now ds → AllFit r Fits now places

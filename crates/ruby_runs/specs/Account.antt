@@ -7,7 +7,7 @@ use Rattle.std.specs.List.{flat_map}
 use Rattle.ruby_value.specs.declared.message.MsgNo.{MsgNo}
 use Rattle.run_journal.specs.declared.entry.Entry.{Entry}
 use Rattle.run_journal.specs.declared.entry.Entry.TheVariants.{Fired, Ended, Turned}
-use Rattle.run_journal.specs.declared.entry.Sent.{Sent}
+use Rattle.ruby_value.specs.declared.message.Sent.{Sent}
 use Rattle.run_journal.specs.declared.summary.Account.{Account}
 use Rattle.ruby_value.specs.NumberBefore.{same_number}
 use Rattle.ruby_runs.specs.Rules.{Rules, Mailed}

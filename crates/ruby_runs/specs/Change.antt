@@ -9,10 +9,11 @@ use Rattle.run_journal.specs.declared.entry.FireNote.{FireNote}
 use Rattle.run_journal.specs.declared.entry.StopAt.{StopAt}
 use Rattle.run_journal.specs.declared.event.Event.{Event}
 use Rattle.run_journal.specs.declared.event.Event.TheVariants.{Take, Fire, Done, Release, Turn}
-use Rattle.ruby_runs.specs.Rules.{Rules, Acts, Full, Fired, Stop, Idle, Delivery}
+use Rattle.ruby_runs.specs.Rules.{Rules, Acts, Full, Fired, Stop, Idle}
+use Rattle.ruby_value.specs.declared.message.Delivery.{Delivery}
 use Rattle.ruby_runs.specs.World.{Place, World, is_free}
 use Rattle.ruby_runs.specs.Verdict.{least_stopped}
-use Rattle.ruby_runs.specs.Step.{Stepped, Moved, held_by, held_by_nobody, with_controller, fired_entry, given_back, with_moved, is_busy, stopped_by, with_drive, after_driver, drive_in}
+use Rattle.ruby_runs.specs.Step.{Stepped, Moved, held_by, held_by_nobody, with_controller, fired_entry, given_back, with_moved, is_busy, stopped_by, with_driver_turn, after_driver, driver_turn_in}
 
 module _ {C M D : Type 0} (r : Rules C M D) where
   -- a wake-up of this controller ends so, with this controller after it
@@ -54,4 +55,4 @@ module _ {C M D : Type 0} (r : Rules C M D) where
     Turns :
         (worker : ℕ) → IsIdle w → least_stopped r w.places ≡ None
         → Change n w (Turn worker)
-        (after_driver r n (with_drive r w (drive_in r w)) (drive_in r w))
+        (after_driver r n (with_driver_turn r w (driver_turn_in r w)) (driver_turn_in r w))

@@ -14,7 +14,7 @@ use Rattle.ruby_runs.specs.World.{Place, World}
 use Rattle.ruby_runs.specs.Verdict.{held_mail}
 use Rattle.ruby_runs.specs.NextCycle.{IsNextCycle}
 use Rattle.ruby_runs.specs.WakesOnce.{wakes_at}
-use Rattle.ruby_runs.specs.Step.{Stepped, with_drive, drive_in, delivery_numbers, begun_place}
+use Rattle.ruby_runs.specs.Step.{Stepped, with_driver_turn, driver_turn_in, delivery_numbers, begun_place}
 
 module _ {C M D : Type 0} (r : Rules C M D) where
   -- the controller with this number has stopped
@@ -30,10 +30,10 @@ module _ {C M D : Type 0} (r : Rules C M D) where
 
   -- the world in which the driver has acted, what the driver found, and how many messages are in inboxes then
   abbrev pub driven_world : World C D → World C D
-  driven_world w = with_drive r w (drive_in r w)
+  driven_world w = with_driver_turn r w (driver_turn_in r w)
 
   abbrev pub Finds : World C D → Option Finding → Type 0
-  Finds w found = (drive_in r w).finding ≡ found
+  Finds w found = (driver_turn_in r w).finding ≡ found
 
   abbrev pub messages_in : World C D → ℕ
   messages_in w = length (held_mail r (driven_world w).places)
@@ -74,7 +74,7 @@ module _ {C M D : Type 0} (r : Rules C M D) where
 
   -- the entry of a turn in which the driver has acted
   abbrev pub entry_of : World C D → Option Verdict → Entry
-  entry_of w v = Turned w.now (delivery_numbers r (drive_in r w).requests) (drive_in r w).finding v
+  entry_of w v = Turned w.now (delivery_numbers r (driver_turn_in r w).requests) (driver_turn_in r w).finding v
 
   -- the world after a turn in the world w, and its entry, where the journal has n entries before it
   pub data IsOutcome (n : ℕ) (w : World C D) : Stepped C D → Type 0 where

@@ -2,22 +2,19 @@
 -- controller x with the number c at the cycle `now`; `Suits c m now` what holds of a message that comes to it at that cycle;
 -- `Leads d issued now` what holds of the driver d that has issued n requests as it comes to act at that cycle. All three are
 -- the instance's own.
-use Rattle.std.specs.Prelude.{◌≡◌, ◌<◌, ◌≤◌, ◌+◌, ◌==◌, ◌||◌, ℕ, zero, suc, Bool, Some, List, [], ◌∷◌, map, length, All, count_by, slice_get}
+use Rattle.std.specs.Prelude.{◌≡◌, ◌<◌, ◌≤◌, ◌+◌, ◌==◌, ◌||◌, ℕ, Bool, Some, List, [], ◌∷◌, map, length, All, count_by, slice_get, IsTrue}
 use Rattle.ruby_value.specs.Ascending.{has_mark}
 use Rattle.ruby_value.specs.declared.fault.Fault.TheVariants.{Invalid}
 use Rattle.ruby_value.specs.declared.message.MsgNo.{MsgNo}
+use Rattle.ruby_value.specs.NumbersFrom.{numbers_from}
 use Rattle.run_journal.specs.declared.entry.FireNote.{FireNote}
-use Rattle.run_journal.specs.declared.entry.Sent.{Sent}
+use Rattle.ruby_value.specs.declared.message.Sent.{Sent}
 use Rattle.run_journal.specs.declared.entry.StopAt.{StopAt}
-use Rattle.ruby_runs.specs.Rules.{Rules, Acts, Full, Fired, Stop, Idle, Delivery, Mailed, Tried}
+use Rattle.ruby_runs.specs.Rules.{Rules, Acts, Full, Fired, Stop, Idle, Mailed, Tried}
+use Rattle.ruby_value.specs.declared.message.Delivery.{Delivery}
 use Rattle.ruby_runs.specs.Step.{with_arrival, delivery_numbers}
 use Rattle.ruby_runs.specs.InvalidExactly.{IsInvalidTry, invalid_at}
 use Rattle.ruby_runs.specs.Account.{times}
-
--- n numbers of a sender, from this count on
-abbrev pub numbers_from : ℕ → ℕ → ℕ → List MsgNo
-numbers_from sender count zero = []
-numbers_from sender count (suc n) = record { sender = sender; count = count } ∷ numbers_from sender (count + 1) n
 
 module _ {C M D : Type 0} (r : Rules C M D) where
   abbrev pub mail_numbers : C → List MsgNo
@@ -50,8 +47,8 @@ module _ {C M D : Type 0} (r : Rules C M D) where
         → count_by f (mail_numbers after) ≡ count_by f (r.number m ∷ []) + count_by f (mail_numbers before)
     pub sent : r.sent after ≡ r.sent before
 
-  -- No mark is lost before its cycle: with one more mark a controller has this one beside its own, and as a cycle begins it
-  -- has its marks from there on.
+  -- What sets and drops marks does no more than that: with one more mark a controller has this one beside its own, and as a
+  -- cycle begins it has its marks from there on. That nothing else loses one before its cycle is in `Keeps`.
   pub record KeepsMarks : Type 0 where
     pub marked :
         (x : C) (mark cycle : ℕ)
@@ -61,10 +58,11 @@ module _ {C M D : Type 0} (r : Rules C M D) where
         → has_mark (r.marks (r.at_cycle x next)) cycle ≡ has_mark (r.marks x) cycle
 
 module _ {C M D : Type 0} (r : Rules C M D) (Fits : ℕ → C → ℕ → Type 0) (Suits : ℕ → M → ℕ → Type 0) (Leads : D → ℕ → ℕ → Type 0) where
-  -- what happens to a controller in a cycle keeps that it fits, and whether it must wake in this cycle
+  -- what happens to a controller in a cycle keeps that it fits, whether it must wake in this cycle, and its marks for later ones
   pub record Keeps (c now : ℕ) (before after : C) : Type 0 where
     pub fits : Fits c after now
     pub awake : has_mark (r.marks after) now ≡ has_mark (r.marks before) now
+    pub later : (cycle : ℕ) → now < cycle → IsTrue (has_mark (r.marks before) cycle) → IsTrue (has_mark (r.marks after) cycle)
 
   abbrev pub AllSuit : ℕ → List (Delivery M) → Type 0
   AllSuit now ds = All (λ (d : Delivery M). Suits d.receiver d.message now) ds
@@ -75,7 +73,8 @@ module _ {C M D : Type 0} (r : Rules C M D) (Fits : ℕ → C → ℕ → Type 0
     pub fits : (c : ℕ) (x : C) → slice_get xs c ≡ Some x → Fits c x now
     pub count : length xs ≡ length r.controllers
 
-  -- Controllers keep fitting, and nothing that happens in a cycle changes whether a controller must wake in it.
+  -- Controllers keep fitting, and nothing that happens in a cycle changes whether a controller must wake in it, or loses a mark
+  -- for a later one.
   pub record IsSound : Type 0 where
     -- the opening
     pub opens : (c : ℕ) (x : C) → slice_get r.controllers c ≡ Some x → Fits c x 0
@@ -100,11 +99,11 @@ module _ {C M D : Type 0} (r : Rules C M D) (Fits : ℕ → C → ℕ → Type 0
     -- the driver's turn
     pub serves :
         (d : D) (xs : List C) (now issued : ℕ) → IsAsked d xs now issued → (c : ℕ) (x : C) → slice_get xs c ≡ Some x
-        → Keeps c now x ((r.drive d xs now issued).controller_after c x)
-    pub asks : (d : D) (xs : List C) (now issued : ℕ) → IsAsked d xs now issued → AllSuit now (r.drive d xs now issued).requests
+        → Keeps c now x ((r.driver_turn d xs now issued).controller_after c x)
+    pub asks : (d : D) (xs : List C) (now issued : ℕ) → IsAsked d xs now issued → AllSuit now (r.driver_turn d xs now issued).requests
     pub goes_on :
         (d : D) (xs : List C) (now issued next : ℕ) → IsAsked d xs now issued → now < next → next ≤ r.cycles
-        → Leads (r.drive d xs now issued).driver (issued + length (r.drive d xs now issued).requests) next
+        → Leads (r.driver_turn d xs now issued).driver (issued + length (r.driver_turn d xs now issued).requests) next
 
   -- No message is lost or made but by sending, issuing and consuming. That no number is in an inbox twice may be assumed: it
   -- follows for each world of a run.
@@ -125,14 +124,14 @@ module _ {C M D : Type 0} (r : Rules C M D) (Fits : ℕ → C → ℕ → Type 0
         → TakesMail r x m (with_arrival r x m)
     pub serves :
         (d : D) (xs : List C) (now issued : ℕ) → IsAsked d xs now issued → (c : ℕ) (x : C) → slice_get xs c ≡ Some x
-        → KeepsMail r x ((r.drive d xs now issued).controller_after c x)
+        → KeepsMail r x ((r.driver_turn d xs now issued).controller_after c x)
     pub asks :
         (d : D) (xs : List C) (now issued : ℕ) → IsAsked d xs now issued
-        → delivery_numbers r (r.drive d xs now issued).requests
-        ≡ numbers_from (length r.controllers) issued (length (r.drive d xs now issued).requests)
+        → delivery_numbers r (r.driver_turn d xs now issued).requests
+        ≡ numbers_from (length r.controllers) issued (length (r.driver_turn d xs now issued).requests)
     pub receivers :
         (d : D) (xs : List C) (now issued : ℕ) → IsAsked d xs now issued
-        → All (λ (e : Delivery M). e.receiver < length r.controllers) (r.drive d xs now issued).requests
+        → All (λ (e : Delivery M). e.receiver < length r.controllers) (r.driver_turn d xs now issued).requests
 
   -- A scan stops as `invalid` exactly where it tried a pair without a transition, and then at that pair.
   pub record ReportsInvalid : Type 0 where

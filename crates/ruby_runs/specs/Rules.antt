@@ -4,15 +4,11 @@
 -- this: the rules of a run say it. That a run is made of such scans is this project's own.
 use Rattle.std.specs.Prelude.{ℕ, Bool, Option, List}
 use Rattle.ruby_value.specs.declared.fault.Finding.{Finding}
+use Rattle.ruby_value.specs.declared.message.Delivery.{Delivery}
 use Rattle.ruby_value.specs.declared.message.MsgNo.{MsgNo}
 use Rattle.run_journal.specs.declared.entry.FireNote.{FireNote}
-use Rattle.run_journal.specs.declared.entry.Sent.{Sent}
+use Rattle.ruby_value.specs.declared.message.Sent.{Sent}
 use Rattle.run_journal.specs.declared.entry.StopAt.{StopAt}
-
--- a message that goes to a controller
-pub record Delivery (M : Type 0) : Type 0 where
-  pub receiver : ℕ
-  pub message : M
 
 -- what the actions of a transition did with messages, in the order of the acts: the five lists of a journal's entry
 pub record Acts : Type 0 where
@@ -46,7 +42,7 @@ pub record Scan (C M : Type 0) : Type 0 where
 -- A driver's turn: the driver after it; what each controller is after the driver took its finished answers and put down its
 -- requests, by the controller's number; the messages of its requests, in the order in which they are issued; what it
 -- found, if anything; and the next cycle at which it must act, if any.
-pub record Drive (C M D : Type 0) : Type 0 where
+pub record DriverTurn (C M D : Type 0) : Type 0 where
   pub driver : D
   pub controller_after : ℕ → C → C
   pub requests : List (Delivery M)
@@ -69,7 +65,7 @@ pub record Rules (C M D : Type 0) : Type 0 where
   -- whether a transition is written for a state and an event of the controller with a number
   pub has_row : ℕ → ℕ → ℕ → Bool
   -- the driver's turn among these controllers at a cycle, where it has issued n requests before
-  pub drive : D → List C → ℕ → ℕ → Drive C M D
+  pub driver_turn : D → List C → ℕ → ℕ → DriverTurn C M D
   -- with one more message in its inbox
   pub with_message : C → M → C
   -- with one more cycle at which it must wake

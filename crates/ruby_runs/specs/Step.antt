@@ -16,7 +16,8 @@ use Rattle.run_journal.specs.declared.event.Event.{Event}
 use Rattle.run_journal.specs.declared.event.Event.TheVariants.{Take, Fire, Done, Release, Turn}
 use Rattle.run_journal.specs.declared.verdict.Verdict.{Verdict}
 use Rattle.run_journal.specs.declared.verdict.Verdict.TheVariants as verdict
-use Rattle.ruby_runs.specs.Rules.{Rules, Acts, Outcome, Full, Fired, Stop, Idle, Delivery, Drive}
+use Rattle.ruby_runs.specs.Rules.{Rules, Acts, Outcome, Full, Fired, Stop, Idle, DriverTurn}
+use Rattle.ruby_value.specs.declared.message.Delivery.{Delivery}
 use Rattle.ruby_runs.specs.World.{Place, World, is_held, is_due, is_free}
 use Rattle.ruby_runs.specs.Verdict.{least_stopped, next_cycle, held_mail, verdict_after}
 
@@ -148,8 +149,8 @@ module _ {C M D : Type 0} (r : Rules C M D) where
   next_world w (Some now) None = record w { now = now; places = map (begun_place now) w.places }
 
   -- the world in which the driver has taken its answers, and its requests have come to their receivers
-  abbrev pub with_drive : World C D → Drive C M D → World C D
-  with_drive w d =
+  abbrev pub with_driver_turn : World C D → DriverTurn C M D → World C D
+  with_driver_turn w d =
       record w {
         places = with_deliveries (changed_from 0 d.controller_after w.places) d.requests;
         driver = d.driver;
@@ -168,7 +169,7 @@ module _ {C M D : Type 0} (r : Rules C M D) where
   verdict_in n w finding = verdict_after w.now r.cycles (next_in w) finding (n + 1) (length (held_mail r w.places))
 
   -- the end of a turn, in the world in which the driver has acted, where the journal has n entries before it
-  abbrev pub after_driver : ℕ → World C D → Drive C M D → Stepped C D
+  abbrev pub after_driver : ℕ → World C D → DriverTurn C M D → Stepped C D
   after_driver n w d =
       let verdict = verdict_in n w d.finding in
       record {
@@ -183,12 +184,12 @@ module _ {C M D : Type 0} (r : Rules C M D) where
       record { world = record w { verdict = Some v }; entry = Some (entry.Turned w.now [] None (Some v)) }
 
   -- what the driver does in a world
-  abbrev pub drive_in : World C D → Drive C M D
-  drive_in w = r.drive w.driver (map (λ (p : Place C). p.controller) w.places) w.now w.issued
+  abbrev pub driver_turn_in : World C D → DriverTurn C M D
+  driver_turn_in w = r.driver_turn w.driver (map (λ (p : Place C). p.controller) w.places) w.now w.issued
 
   abbrev pub turn_by : ℕ → World C D → Option ℕ → Stepped C D
   turn_by n w (Some c) = stopped_by w c
-  turn_by n w None = after_driver n (with_drive w (drive_in w)) (drive_in w)
+  turn_by n w None = after_driver n (with_driver_turn w (driver_turn_in w)) (driver_turn_in w)
 
   abbrev pub turn : ℕ → World C D → Option (Stepped C D)
   turn n w = if list_any (is_busy w.now) w.places then None else Some (turn_by n w (least_stopped r w.places))

@@ -22,8 +22,11 @@ use Rattle.ruby_symbols.specs.Types.{field_named, request}
 abbrev pub table_named : MachineSymbols → List ℕ → Option ℕ
 table_named m text = number_of (λ (t : TableSymbol). bytes_eq t.name text) m.tables
 
+abbrev pub buffer_among : List BufferSymbol → List ℕ → Option ℕ
+buffer_among buffers text = number_of (λ (b : BufferSymbol). bytes_eq b.name text) buffers
+
 abbrev pub buffer_named : MachineSymbols → List ℕ → Option ℕ
-buffer_named m text = number_of (λ (b : BufferSymbol). bytes_eq b.name text) m.buffers
+buffer_named m text = buffer_among m.buffers text
 
 abbrev pub port_named : List PortSymbol → List ℕ → Option ℕ
 port_named ports text = number_of (λ (p : PortSymbol). bytes_eq p.name text) ports
@@ -46,11 +49,17 @@ stands_for m text =
     (option_or (option_map Buffer (buffer_named m text)) (port_or_sequencer m text))))
 
 -- what is called by this name
+abbrev pub function_among : List FunctionSymbol → List ℕ → Option ℕ
+function_among functions text = number_of (λ (f : FunctionSymbol). bytes_eq f.name text) functions
+
 abbrev pub function_named : MachineSymbols → List ℕ → Option ℕ
-function_named m text = number_of (λ (f : FunctionSymbol). bytes_eq f.name text) m.functions
+function_named m text = function_among m.functions text
+
+abbrev pub action_among : List ActionSymbol → List ℕ → Option ℕ
+action_among actions text = number_of (λ (a : ActionSymbol). bytes_eq a.name text) actions
 
 abbrev pub action_named : MachineSymbols → List ℕ → Option ℕ
-action_named m text = number_of (λ (a : ActionSymbol). bytes_eq a.name text) m.actions
+action_named m text = action_among m.actions text
 
 abbrev pub machine_named : Symbols → List ℕ → Option ℕ
 machine_named symbols text = number_of (λ (m : MachineSymbols). bytes_eq m.name text) symbols.machines

@@ -16,8 +16,8 @@ pub use machine::{
     TableSort, TableSymbol, TransitionSymbol,
 };
 pub use names::{
-    Named, action_named, buffer_named, function_named, machine_named, mandatory, stands_for,
-    takes_requests,
+    Named, action_among, action_named, buffer_among, buffer_named, function_among, function_named,
+    machine_named, mandatory, stands_for, takes_requests,
 };
 pub use ruby_base::{NoMemory, Seq, Text};
 pub use states::{

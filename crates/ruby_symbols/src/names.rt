@@ -8,7 +8,7 @@ ghost use Rattle.ruby_symbols.specs.declared.machine.FunctionSymbol.{FunctionSym
 ghost use Rattle.ruby_symbols.specs.declared.machine.MachineSymbols.{MachineSymbols as MachineRecord};
 ghost use Rattle.ruby_symbols.specs.declared.machine.PortSymbol.{PortSymbol as PortRecord};
 ghost use Rattle.ruby_symbols.specs.declared.machine.TableSymbol.{TableSymbol as TableRecord};
-ghost use Rattle.ruby_symbols.specs.Names.{action_named, buffer_named, carries_requests, function_named, has_port_on, is_mandatory, is_on, machine_named, mandatory, port_named, port_or_sequencer, sequencer_named, stands_for, table_named, takes_requests};
+ghost use Rattle.ruby_symbols.specs.Names.{action_among, action_named, buffer_among, buffer_named, carries_requests, function_among, function_named, has_port_on, is_mandatory, is_on, machine_named, mandatory, port_named, port_or_sequencer, sequencer_named, stands_for, table_named, takes_requests};
 
 use crate::machine::{
     ActionSymbol, BufferSymbol, FunctionSymbol, MachineSymbols, PortSymbol, TableSymbol,
@@ -49,11 +49,18 @@ fn buffer_place(buffers: &[BufferSymbol], name: &[u8]) -> Option<usize>
     buffers.iter().position(|b| b.name.as_slice() == name)
 }
 
+/// The number of the first of these buffers of this name.
+pub fn buffer_among(buffers: &[BufferSymbol], name: &[u8]) -> Option<u16>
+    ensures { result ≡ buffer_among buffers.now name.now }
+{
+    short_number(buffer_place(buffers, name))
+}
+
 /// The number of a machine's buffer of this name.
 pub fn buffer_named(m: &MachineSymbols, name: &[u8]) -> Option<u16>
     ensures { result ≡ buffer_named m.now name.now }
 {
-    short_number(buffer_place(&m.buffers, name))
+    buffer_among(&m.buffers, name)
 }
 
 fn port_place(ports: &[PortSymbol], name: &[u8]) -> Option<usize>
@@ -120,11 +127,18 @@ fn function_place(functions: &[FunctionSymbol], name: &[u8]) -> Option<usize>
     functions.iter().position(|f| f.name.as_slice() == name)
 }
 
+/// The number of the first of these functions of this name.
+pub fn function_among(functions: &[FunctionSymbol], name: &[u8]) -> Option<u16>
+    ensures { result ≡ function_among functions.now name.now }
+{
+    short_number(function_place(functions, name))
+}
+
 /// The number of a machine's function of this name, which has a body.
 pub fn function_named(m: &MachineSymbols, name: &[u8]) -> Option<u16>
     ensures { result ≡ function_named m.now name.now }
 {
-    short_number(function_place(&m.functions, name))
+    function_among(&m.functions, name)
 }
 
 fn action_place(actions: &[ActionSymbol], name: &[u8]) -> Option<usize>
@@ -133,11 +147,18 @@ fn action_place(actions: &[ActionSymbol], name: &[u8]) -> Option<usize>
     actions.iter().position(|a| a.name.as_slice() == name)
 }
 
+/// The number of the first of these actions of this name.
+pub fn action_among(actions: &[ActionSymbol], name: &[u8]) -> Option<u16>
+    ensures { result ≡ action_among actions.now name.now }
+{
+    short_number(action_place(actions, name))
+}
+
 /// The number of a machine's action of this name.
 pub fn action_named(m: &MachineSymbols, name: &[u8]) -> Option<u16>
     ensures { result ≡ action_named m.now name.now }
 {
-    short_number(action_place(&m.actions, name))
+    action_among(&m.actions, name)
 }
 
 fn machine_place(machines: &[MachineSymbols], name: &[u8]) -> Option<usize>

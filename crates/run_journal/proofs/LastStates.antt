@@ -9,7 +9,7 @@ use Rattle.std.specs.List.{filter_map, last_or}
 use Rattle.run_journal.specs.declared.entry.Entry.{Entry}
 use Rattle.run_journal.specs.declared.entry.Entry.TheVariants.{Fired, Ended, Turned}
 use Rattle.run_journal.specs.declared.entry.FireNote.{FireNote}
-use Rattle.run_journal.specs.declared.entry.Sent.{Sent}
+use Rattle.ruby_value.specs.declared.message.Sent.{Sent}
 use Rattle.ruby_value.specs.declared.message.MsgNo.{MsgNo}
 use Rattle.run_journal.specs.LastState.{next_state}
 

@@ -1,7 +1,7 @@
 ghost use Rattle.std.specs.Prelude.{◌≡◌, IfOk};
 ghost use Rattle.run_journal.specs.PartOf.{is_of as is_of_controller};
 
-use crate::{Fault, Finding, MsgNo, NoMemory, Seq, Verdict};
+use crate::{Fault, Finding, MsgNo, NoMemory, Sent, Seq, Verdict};
 use std::alloc::Global;
 
 /// What a fired transition was. States and events are their numbers in the controller's machine.
@@ -14,18 +14,6 @@ pub struct FireNote {
     pub event: u16,
     /// The state after.
     pub next: u16,
-}
-
-/// A message copy that a transition sent.
-#[derive(Clone, Copy, Debug, PartialEq, Eq)]
-pub struct Sent {
-    pub number: MsgNo,
-    /// The controller that gets the copy, which is the sender where the buffer is one of its own.
-    pub receiver: u32,
-    /// The number of the buffer within the receiver's machine.
-    pub buffer: u16,
-    /// The cycle from which on the copy is ready, later than the one in which it was sent.
-    pub arrival: u64,
 }
 
 /// Where a scan stopped, as far as it is known: the byte address, and state and event by their numbers in the

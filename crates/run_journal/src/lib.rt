@@ -12,13 +12,13 @@ mod summary;
 mod tallying;
 mod verdict;
 
-pub use entry::{End, Entry, FireNote, Sent, StopAt};
+pub use entry::{End, Entry, FireNote, StopAt};
 pub use event::Event;
 pub use last_states::finals;
 pub use laws::{finals_are_one_list, finals_follow_from_parts};
 pub use parts::part;
 pub use ruby_base::{NoMemory, Seq, Text};
-pub use ruby_value::{Fault, Finding, MsgNo};
+pub use ruby_value::{Fault, Finding, MsgNo, Sent};
 pub use summary::{Account, Final, Tally};
 pub use tallying::{EventKind, tally_of};
 pub use verdict::Verdict;

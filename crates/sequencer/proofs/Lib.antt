@@ -5,3 +5,5 @@ pub mod FitsOwn
 pub mod Lines
 pub mod Oldest
 pub mod OldestLaw
+pub mod Owned
+pub mod SeatsAfter

@@ -3,6 +3,7 @@ pub mod Callbacks
 pub mod Drive
 pub mod Kept
 pub mod Outstanding
+pub mod OwnedSeats
 pub mod Place
 pub mod PlainDriver
 pub mod PlainLaw

@@ -1,14 +1,16 @@
 -- The seats of a driver, by their numbers: for each the number of its controller and, where it has a sequencer, the requests of
 -- that. Beside them stand the requests that were issued at them, in their order: a request that is issued at a seat without a
 -- sequencer stands in none, and no line is ever outstanding there. Seats are this project's own.
-use Rattle.std.specs.Prelude.{◌≢◌, ◌≤◌, ◌++◌, ℕ, Option, None, Some, IfSome, List, [], ◌∷◌, length, slice_get, slice_set}
+use Rattle.std.specs.Prelude.{◌≢◌, ◌≤◌, ◌++◌, ℕ, Option, None, Some, IfSome, List, [], ◌∷◌, length, slice_get, slice_set, refl}
+use Rattle.std.specs.Coded.{Coded, code_by, coded×, coded_ℕ, coded_list, coded_option}
 use Rattle.std.specs.List.{All, AllPairs}
 use Rattle.std.specs.Option.{option_and_then, option_map}
 use Rattle.ruby_value.specs.declared.asked.Answer.{Answer}
 use Rattle.ruby_value.specs.declared.asked.Asked.{Asked}
+use Rattle.sequencer.specs.contracts.issued.Issued as issued
 use Rattle.sequencer.specs.declared.issued.Issued.{Issued}
 use Rattle.sequencer.specs.Reads.{next_after}
-use Rattle.ruby_value.specs.Requests.{FitsRequests, Requests, first_of, request_for, with_request, without_first_answer}
+use Rattle.ruby_value.specs.Requests.{FitsRequests, Requests, first_of, request_for, requests_code, with_request, without_first_answer}
 
 pub record Seat : Type 0 where
   pub controller : ℕ
@@ -17,6 +19,15 @@ pub record Seat : Type 0 where
 pub record Seating : Type 0 where
   pub seats : List Seat
   pub issued : List Issued
+
+-- each is stored as the pair of its two parts
+abbrev pub seat_code : Coded Seat
+seat_code =
+    code_by (ℕ × Option Requests) (coded× coded_ℕ (coded_option requests_code)) (λ s. (s.controller, s.requests)) (λ p. record { controller = p.0; requests = p.1 }) (λ _. refl)
+
+abbrev pub seating_code : Coded Seating
+seating_code =
+    code_by (List Seat × List Issued) (coded× (coded_list seat_code) (coded_list issued.the_row.coded)) (λ s. (s.seats, s.issued)) (λ p. record { seats = p.0; issued = p.1 }) (λ _. refl)
 
 abbrev pub AreApart : Seat → Seat → Type 0
 AreApart a b = a.controller ≢ b.controller

@@ -38,7 +38,7 @@ pub trait Driver: Send + Drop {
         ensures ok { OnOk result (needs self.now now ≤ (S.view seats.new).room) }
         ensures no_less { (S.view seats.old).room ≤ (S.view seats.new).room };
 
-    /// The turn of a cycle, for which room was made, at seats that fit. It takes no memory.
+    /// The turn of a cycle, for which room was made, at seats that fit. They fit for the next turn too. It takes no memory.
     fn turn<S: Seats>(&mut self, now: u64, seats: &mut S) -> DriverEnd
         requires seats { FitSeats (least self.old) (S.view seats.old).kept.seats }
         requires cycle { now ≤ 10 ^ 12 }
@@ -46,6 +46,7 @@ pub trait Driver: Send + Drop {
         ensures driver { self.new ≡ (drive self.old (S.view seats.old).kept.seats now).driver }
         ensures seats { (S.view seats.new).kept ≡ after_drive (S.view seats.old).kept
             (drive self.old (S.view seats.old).kept.seats now) }
+        ensures fit { FitSeats (least self.new) (S.view seats.new).kept.seats }
         ensures next { result.next ≡ (drive self.old (S.view seats.old).kept.seats now).next }
         ensures finding { result.finding
             ≡ (drive self.old (S.view seats.old).kept.seats now).finding };

@@ -1,6 +1,8 @@
-ghost use Rattle.std.specs.Prelude.{◌≡◌};
+ghost use Rattle.std.specs.Prelude.{◌≡◌, ◌≤◌};
+ghost use Rattle.sequencer.specs.Drive.{after_drive};
 ghost use Rattle.sequencer.specs.PlainDriver.{plain_drive, plain_load, plain_needs};
 ghost use Rattle.sequencer.specs.PlainLaw.{plain_lawful, plain_lasting};
+ghost use Rattle.sequencer.specs.Seats.{FitSeats};
 
 use crate::{Ask, Asked, Driver, DriverEnd, NoMemory, Seats};
 use std::marker::Model;
@@ -26,6 +28,18 @@ impl PlainDriver {
         ensures { result ≡ requests }
     {
         PlainDriver { requests }
+    }
+
+    // Issues the load of a cycle, where it has one.
+    fn act<S: Seats>(&self, now: u64, seats: &mut S)
+        requires seats { FitSeats 1 (S.view seats.old).kept.seats }
+        requires reserved { plain_needs self.now now ≤ (S.view seats.old).room }
+        ensures { (S.view seats.new).kept ≡ after_drive (S.view seats.old).kept
+            (plain_drive self.now (S.view seats.old).kept.seats now) }
+    {
+        if now < self.requests {
+            let _issued = seats.issue(0, load_at(now));
+        }
     }
 }
 
@@ -64,9 +78,7 @@ impl Driver for PlainDriver {
     }
 
     fn turn<S: Seats>(&mut self, now: u64, seats: &mut S) -> DriverEnd {
-        if now < self.requests {
-            let _issued = seats.issue(0, load_at(now));
-        }
+        self.act(now, seats);
         let next = match now.checked_add(1) {
             Some(next) if next < self.requests => Some(next),
             _ => None,

@@ -99,7 +99,7 @@ impl Sequencer {
     }
 
     /// Issues a request, whose bytes are within a line below 2^58. `Outstanding` comes exactly where the line has an outstanding
-    /// request, and `NoMemory` only where it has none and there is no room; after either all is as before.
+    /// request, and `NoMemory` only where it has none and there is no room; after either all is as before, and no room is used up.
     pub fn issue(&mut self, a: Asked) -> Result<(), IssueFault>
         requires { IsRequest a }
         ensures ok { OnOk result (self.new.kept ≡ with_request self.old.kept a) }
@@ -108,6 +108,7 @@ impl Sequencer {
             ↔ IsSome (request_for self.old.kept a.line) }
         ensures in_room { 0 < self.old.room → result ≢ Err IssueFault.NoMemory }
         ensures room { self.old.room ≤ self.new.room + 1 }
+        ensures refused_room { OnErr result (self.old.room ≤ self.new.room) }
     {
         if self.request(a.line).is_some() {
             return Err(IssueFault::Outstanding);

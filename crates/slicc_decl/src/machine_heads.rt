@@ -172,7 +172,10 @@ pub fn parameter_list(
         match parameter(alloc, room, left) {
             Ok((next, after)) => match items.push(next) {
                 Ok(()) => left = after,
-                Err(_) => return Err(Fault::NoMemory),
+                Err(failed) => {
+                    drop(failed);
+                    return Err(Fault::NoMemory);
+                }
             },
             Err(fault) => return Err(fault),
         }

@@ -27,7 +27,10 @@ fn symbols(alloc: Global, room: u32, tokens: &[Token]) -> Result<(Vec<Symbol>, &
         match ended_name(alloc, room, Sign::Semicolon, left) {
             Ok((name, pairs, after)) => match items.push(Symbol { name, pairs }) {
                 Ok(()) => left = after,
-                Err(_) => return Err(Fault::NoMemory),
+                Err(failed) => {
+                    drop(failed);
+                    return Err(Fault::NoMemory);
+                }
             },
             Err(fault) => return Err(fault),
         }
@@ -134,7 +137,10 @@ fn state_members(
         match state(alloc, room, left) {
             Ok((next, after)) => match items.push(next) {
                 Ok(()) => left = after,
-                Err(_) => return Err(Fault::NoMemory),
+                Err(failed) => {
+                    drop(failed);
+                    return Err(Fault::NoMemory);
+                }
             },
             Err(fault) => return Err(fault),
         }

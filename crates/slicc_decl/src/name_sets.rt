@@ -37,7 +37,10 @@ fn closed_names(alloc: Global, room: u32, tokens: &[Token]) -> Result<(Vec<Name>
     let mut left = match name(alloc, room, tokens) {
         Ok((first, behind)) => match items.push(first) {
             Ok(()) => behind,
-            Err(_) => return Err(Fault::NoMemory),
+            Err(failed) => {
+                drop(failed);
+                return Err(Fault::NoMemory);
+            }
         },
         Err(fault) => return Err(fault),
     };
@@ -45,7 +48,10 @@ fn closed_names(alloc: Global, room: u32, tokens: &[Token]) -> Result<(Vec<Name>
         match next_name(alloc, room, left) {
             Ok((next, after)) => match items.push(next) {
                 Ok(()) => left = after,
-                Err(_) => return Err(Fault::NoMemory),
+                Err(failed) => {
+                    drop(failed);
+                    return Err(Fault::NoMemory);
+                }
             },
             Err(fault) => return Err(fault),
         }

@@ -81,7 +81,10 @@ fn parameter_end(
                     },
                     left,
                 )),
-                Err(fault) => Err(fault),
+                Err(fault) => {
+                    drop(literal);
+                    Err(fault)
+                }
             },
             Err(fault) => Err(fault),
         },

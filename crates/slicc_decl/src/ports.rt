@@ -90,7 +90,10 @@ fn ended_head(alloc: Global, room: u32, tokens: &[Token]) -> Result<(PortHead, &
     match port_head(alloc, room, tokens) {
         Ok((head, behind)) => match sign(room, Sign::Semicolon, behind) {
             Ok(left) => Ok((head, left)),
-            Err(fault) => Err(fault),
+            Err(fault) => {
+                drop(head);
+                Err(fault)
+            }
         },
         Err(fault) => Err(fault),
     }

@@ -121,7 +121,10 @@ fn several_formals(alloc: Global, room: u32, tokens: &[Token]) -> Result<(Formal
     let mut left = match formal(alloc, room, tokens) {
         Ok((first, behind)) => match items.push(first) {
             Ok(()) => behind,
-            Err(_) => return Err(Fault::NoMemory),
+            Err(failed) => {
+                drop(failed);
+                return Err(Fault::NoMemory);
+            }
         },
         Err(fault) => return Err(fault),
     };
@@ -129,7 +132,10 @@ fn several_formals(alloc: Global, room: u32, tokens: &[Token]) -> Result<(Formal
         match next_formal(alloc, room, left) {
             Ok((next, after)) => match items.push(next) {
                 Ok(()) => left = after,
-                Err(_) => return Err(Fault::NoMemory),
+                Err(failed) => {
+                    drop(failed);
+                    return Err(Fault::NoMemory);
+                }
             },
             Err(fault) => return Err(fault),
         }

@@ -48,7 +48,10 @@ fn further_pairs<'t>(
         match next_pair(alloc, room, left) {
             Ok((next, after)) => match items.push(next) {
                 Ok(()) => left = after,
-                Err(_) => return Err(Fault::NoMemory),
+                Err(failed) => {
+                    drop(failed);
+                    return Err(Fault::NoMemory);
+                }
             },
             Err(fault) => return Err(fault),
         }
@@ -173,7 +176,10 @@ fn states_and_comma(alloc: Global, room: u32, tokens: &[Token]) -> Result<(Names
     match names(alloc, room, tokens) {
         Ok((states, behind)) => match sign(room, Sign::Comma, behind) {
             Ok(left) => Ok((states, left)),
-            Err(fault) => Err(fault),
+            Err(fault) => {
+                drop(states);
+                Err(fault)
+            }
         },
         Err(fault) => Err(fault),
     }
@@ -210,9 +216,16 @@ fn transition_inside(
                     },
                     left,
                 )),
-                Err(fault) => Err(fault),
+                Err(fault) => {
+                    drop(states);
+                    drop(events);
+                    Err(fault)
+                }
             },
-            Err(fault) => Err(fault),
+            Err(fault) => {
+                drop(states);
+                Err(fault)
+            }
         },
         Err(fault) => Err(fault),
     }
@@ -231,7 +244,10 @@ fn closed_head(
     match transition_inside(alloc, room, tokens) {
         Ok((head, behind)) => match sign(room, Sign::CloseParenthesis, behind) {
             Ok(left) => Ok((head, left)),
-            Err(fault) => Err(fault),
+            Err(fault) => {
+                drop(head);
+                Err(fault)
+            }
         },
         Err(fault) => Err(fault),
     }
@@ -265,7 +281,10 @@ fn actions(alloc: Global, room: u32, tokens: &[Token]) -> Result<(Vec<Name>, &[T
         match ended_by(alloc, room, Sign::Semicolon, left) {
             Ok((next, after)) => match items.push(next) {
                 Ok(()) => left = after,
-                Err(_) => return Err(Fault::NoMemory),
+                Err(failed) => {
+                    drop(failed);
+                    return Err(Fault::NoMemory);
+                }
             },
             Err(fault) => return Err(fault),
         }
@@ -325,7 +344,10 @@ pub fn transition(
                         left,
                     ))
                 }
-                Err(fault) => Err(fault),
+                Err(fault) => {
+                    drop(head);
+                    Err(fault)
+                }
             },
             Err(fault) => Err(fault),
         },

@@ -18,36 +18,36 @@ struct Limit {
     line: u32,
 }
 
-const MEMBERS: Limit = Limit {
-    before: "machine(M, 'm') : { state_declaration(State) { A, AccessPermission:Busy; } enumeration(Event) { Go; } }\n\
+/// Members of an enumeration, enumerations, with the four built-in ones, one of events and one of states, and structures, of which
+/// external ones don't count.
+const LIMITS: &[Limit] = &[
+    Limit {
+        before: "machine(M, 'm') : { state_declaration(State) { A, AccessPermission:Busy; } enumeration(Event) { Go; } }\n\
              enumeration(K) {\n",
-    opening: "a",
-    closing: ";\n",
-    behind: "}",
-    most: 65_535,
-    line: 65_538,
-};
-
-/// Enumerations, with the four built-in ones, one of events and one of states.
-const ENUMERATIONS: Limit = Limit {
-    before: "machine(M, 'm') : { state_declaration(State) { A, AccessPermission:Busy; } enumeration(Event) { Go; } }\n",
-    opening: "enumeration(K",
-    closing: ") { }\n",
-    behind: "",
-    most: 16_378,
-    line: 16_380,
-};
-
-/// Structures, of which external ones don't count.
-const STRUCTURES: Limit = Limit {
-    before: "machine(M, 'm') : { state_declaration(State) { A, AccessPermission:Busy; } enumeration(Event) { Go; } }\n\
+        opening: "a",
+        closing: ";\n",
+        behind: "}",
+        most: 65_535,
+        line: 65_538,
+    },
+    Limit {
+        before: "machine(M, 'm') : { state_declaration(State) { A, AccessPermission:Busy; } enumeration(Event) { Go; } }\n",
+        opening: "enumeration(K",
+        closing: ") { }\n",
+        behind: "",
+        most: 16_378,
+        line: 16_380,
+    },
+    Limit {
+        before: "machine(M, 'm') : { state_declaration(State) { A, AccessPermission:Busy; } enumeration(Event) { Go; } }\n\
              structure(CacheMemory, external='yes') { }\n",
-    opening: "structure(S",
-    closing: ") { }\n",
-    behind: "",
-    most: 16_384,
-    line: 16_387,
-};
+        opening: "structure(S",
+        closing: ") { }\n",
+        behind: "",
+        most: 16_384,
+        line: 16_387,
+    },
+];
 
 fn many(alloc: Global, limit: &Limit, count: u32) -> Result<String, NoMemory> {
     let mut text = String::new(alloc);
@@ -71,16 +71,24 @@ fn place_of(refused: &Refused) -> (u32, u32) {
     }
 }
 
-/// Whether the protocol of this text is let through; or else where there are too many of a sort.
-fn judged(alloc: Global, text: &str) -> Result<Option<(u32, u32)>, NoMemory> {
-    let mut library = library(alloc, text)?;
-    let file = name(alloc, "p.sm")?;
-    match front(alloc, &mut library, &file) {
+/// Nothing where a protocol is let through; or else where there are too many of a sort.
+fn too_many(told: &Front) -> Result<Option<(u32, u32)>, NoMemory> {
+    match told {
         Front::Plan(_) => Ok(None),
-        Front::Refused(refused) => Ok(Some(place_of(&refused))),
+        Front::Refused(refused) => Ok(Some(place_of(refused))),
         Front::NoMemory => Err(NoMemory),
         Front::Absent(_) | Front::TooLarge(_) | Front::ReadFault(_) => Ok(Some((0, 0))),
     }
+}
+
+/// The same of the protocol of this text.
+fn judged(alloc: Global, text: &str) -> Result<Option<(u32, u32)>, NoMemory> {
+    let mut library = library(alloc, text)?;
+    let file = name(alloc, "p.sm")?;
+    let told = front(alloc, &mut library, &file);
+    let judged = too_many(&told);
+    drop(told);
+    judged
 }
 
 fn judged_of_many(
@@ -100,19 +108,9 @@ fn is_most(alloc: Global, limit: &Limit) -> Result<bool, NoMemory> {
 }
 
 #[test]
-fn as_many_members_as_there_may_be(rt: HostRuntime) -> Result<(), Fail> {
-    assert!(rt; is_most(rt.alloc(), &MEMBERS)?);
-    Ok(())
-}
-
-#[test]
-fn as_many_enumerations_as_there_may_be(rt: HostRuntime) -> Result<(), Fail> {
-    assert!(rt; is_most(rt.alloc(), &ENUMERATIONS)?);
-    Ok(())
-}
-
-#[test]
-fn as_many_structures_as_there_may_be(rt: HostRuntime) -> Result<(), Fail> {
-    assert!(rt; is_most(rt.alloc(), &STRUCTURES)?);
+fn as_many_of_a_sort_as_there_may_be(rt: HostRuntime) -> Result<(), Fail> {
+    for limit in LIMITS {
+        assert!(rt; is_most(rt.alloc(), limit)?, "{}", limit.opening);
+    }
     Ok(())
 }

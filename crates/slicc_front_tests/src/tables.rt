@@ -1,9 +1,9 @@
 //! Names by their numbers, rows of tables and lines that transitions need.
 use crate::reading::tree_of;
-use machine_table::build;
+use machine_table::{Tables, build};
 use ruby_base::Text;
 use slicc_ast::tree::Tree;
-use slicc_flow::flow_of_trees;
+use slicc_flow::{Flow, flow_of_trees};
 use slicc_names::collect;
 use slicc_plan::Row;
 use std::alloc::Global;
@@ -97,54 +97,74 @@ fn is_row(row: Option<&Row>, expected: Option<[u32; 4]>) -> bool {
     }
 }
 
-/// Which of the rows isn't answered.
-fn unlike_row(alloc: Global, trees: &[Tree]) -> Option<usize> {
-    match build(alloc, trees) {
-        Ok(tables) => ROWS
-            .iter()
-            .position(|row| !is_row(tables.row(0, row.0, row.1), row.2)),
-        Err(_) => Some(100),
+/// Which row of some tables isn't as it should be.
+fn wrong_row(tables: &Tables) -> Option<usize> {
+    for (place, row) in ROWS.iter().enumerate() {
+        if !is_row(tables.row(0, row.0, row.1), row.2) {
+            return Some(place);
+        }
+    }
+    None
+}
+
+/// Which need of some transitions isn't as it should be.
+fn wrong_need(flow: &Flow) -> Option<usize> {
+    for (place, line) in LINES.iter().enumerate() {
+        if flow.needs(line.0, line.1, line.2) != line.3 {
+            return Some(place);
+        }
+    }
+    None
+}
+
+/// Which name of some trees has another number.
+fn wrong_number(alloc: Global, trees: &[Tree]) -> Option<usize> {
+    for (place, name) in NAMES.iter().enumerate() {
+        if !is_number(alloc, trees, name) {
+            return Some(place);
+        }
+    }
+    None
+}
+
+/// Whether the rows of the text's tables are as they should be.
+fn has_rows(alloc: Global, trees: &[Tree]) -> bool {
+    match &build(alloc, trees) {
+        Ok(tables) => wrong_row(tables).is_none(),
+        Err(_) => false,
     }
 }
 
-/// Which of the transitions' needs aren't answered.
-fn unlike_need(alloc: Global, trees: &[Tree]) -> Option<usize> {
-    match flow_of_trees(alloc, trees) {
-        Ok(flow) => LINES
-            .iter()
-            .position(|line| flow.needs(line.0, line.1, line.2) != line.3),
-        Err(_) => Some(100),
+/// Whether the needs of the text's transitions are as they should be.
+fn has_needs(alloc: Global, trees: &[Tree]) -> bool {
+    match &flow_of_trees(alloc, trees) {
+        Ok(flow) => wrong_need(flow).is_none(),
+        Err(_) => false,
     }
 }
 
-/// Which name's number, or which row after the names, isn't answered.
-fn unlike_table(alloc: Global) -> Option<usize> {
-    let Some(tree) = tree_of(alloc, 0, LAMP.as_bytes()) else {
-        return Some(101);
-    };
-    let trees = [tree];
-    match NAMES
-        .iter()
-        .position(|name| !is_number(alloc, &trees, name))
-    {
-        Some(place) => Some(place + 1000),
-        None => unlike_row(alloc, &trees),
+/// Whether the names and the rows of the first text are as they should be.
+fn are_tables_so(alloc: Global) -> bool {
+    match tree_of(alloc, 0, LAMP.as_bytes()) {
+        Some(tree) => {
+            let trees = [tree];
+            wrong_number(alloc, &trees).is_none() && has_rows(alloc, &trees)
+        }
+        None => false,
+    }
+}
+
+/// Whether the needs of the second are.
+fn are_needs_so(alloc: Global) -> bool {
+    match tree_of(alloc, 0, NEEDS.as_bytes()) {
+        Some(tree) => has_needs(alloc, &[tree]),
+        None => false,
     }
 }
 
 #[test]
-fn names_and_rows_are_those_of_the_text(rt: HostRuntime) -> Result<(), Fail> {
-    assert_eq!(rt; unlike_table(rt.alloc()), None);
-    Ok(())
-}
-
-#[test]
-fn needs_are_those_of_the_text(rt: HostRuntime) -> Result<(), Fail> {
-    let alloc = rt.alloc();
-    let found = match tree_of(alloc, 0, NEEDS.as_bytes()) {
-        Some(tree) => unlike_need(alloc, &[tree]),
-        None => Some(101),
-    };
-    assert_eq!(rt; found, None);
+fn names_rows_and_needs_are_those_of_the_text(rt: HostRuntime) -> Result<(), Fail> {
+    assert!(rt; are_tables_so(rt.alloc()));
+    assert!(rt; are_needs_so(rt.alloc()));
     Ok(())
 }

@@ -99,7 +99,8 @@ fn plan_of(alloc: Global, text: &str) -> Result<Option<Plan>, NoMemory> {
     match front(alloc, &mut library, &file) {
         Front::Plan(plan) => Ok(Some(plan)),
         Front::NoMemory => Err(NoMemory),
-        Front::Refused(_) | Front::Absent(_) | Front::TooLarge(_) | Front::ReadFault(_) => {
+        other => {
+            drop(other);
             Ok(None)
         }
     }

@@ -8,8 +8,10 @@ use Rattle.std.proofs.lemmas.List.Sums.{sum_by-cons}
 use Rattle.ruby_value.specs.declared.message.MsgNo.{MsgNo}
 use Rattle.ruby_value.specs.NumberBefore.{same_number}
 use Rattle.run_journal.specs.declared.entry.FireNote.{FireNote}
-use Rattle.ruby_runs.specs.Premises.{CarriesMail, IsOnce, MovesMail, mail_numbers, numbers_from}
-use Rattle.ruby_runs.specs.Rules.{Acts, Delivery, Mailed, Fired}
+use Rattle.ruby_runs.specs.Premises.{CarriesMail, IsOnce, MovesMail, mail_numbers}
+use Rattle.ruby_value.specs.NumbersFrom.{numbers_from}
+use Rattle.ruby_runs.specs.Rules.{Acts, Mailed, Fired}
+use Rattle.ruby_value.specs.declared.message.Delivery.{Delivery}
 use Rattle.ruby_runs.specs.Step.{delivery_numbers}
 use Rattle.slicc_meaning.specs.declared.controller.Acted.{Acted}
 use Rattle.slicc_meaning.specs.declared.controller.Controller.{Controller}

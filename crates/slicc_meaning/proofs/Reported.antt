@@ -23,7 +23,7 @@ use Rattle.slicc_meaning.specs.declared.setting.Setting.{Setting}
 use Rattle.slicc_meaning.specs.Rows.{first_row}
 use Rattle.slicc_meaning.specs.Rules.{rules, scan_of, has_row_of}
 use Rattle.slicc_meaning.specs.Scan.{after_tries, next_port, run_port, scan_ports, scan}
-use Rattle.slicc_meaning.specs.States.{line_of, state_at}
+use Rattle.slicc_meaning.specs.States.{line_address_of, state_at}
 use Rattle.slicc_meaning.specs.Statements.{dequeue, run_action, act, run_actions, front_of}
 use Rattle.slicc_meaning.specs.Topology.{plan_for}
 use Rattle.slicc_meaning.specs.Try.{settled, fire_first, untriggered, peek_front, if_ready}
@@ -106,7 +106,7 @@ module _ (m : MachinePlan) (now : ℕ) where
       let here : at ≡ record { address = None; state = None; event = None; fault = Front } = cc is in
       absurd (cc (ap (λ (a : StopAt). a.fault) here, invalid)))
   peek_front-reports t c (Some front) =
-      let line = line_of front.line_address in
+      let line = line_address_of front.line_address in
       let state = state_at m.default c.states line in
       pair-reports (record { address = line; state = state; event = t.event }) c (first_row m state t.event) refl
 

@@ -5,7 +5,8 @@ use Rattle.std.proofs.lemmas.Bool.{cond_both}
 use Rattle.ruby_value.specs.declared.fault.Fault.{Fault}
 use Rattle.ruby_value.specs.declared.message.MsgNo.{MsgNo}
 use Rattle.run_journal.specs.declared.entry.FireNote.{FireNote}
-use Rattle.ruby_runs.specs.Rules.{Acts, Delivery, Outcome, Full, Fired, Stop, Idle, Tried, Scan}
+use Rattle.ruby_runs.specs.Rules.{Acts, Outcome, Full, Fired, Stop, Idle, Tried, Scan}
+use Rattle.ruby_value.specs.declared.message.Delivery.{Delivery}
 use Rattle.slicc_meaning.specs.declared.controller.Acted.{Acted}
 use Rattle.slicc_meaning.specs.declared.controller.Controller.{Controller}
 use Rattle.slicc_meaning.specs.declared.controller.Message.{Message}
@@ -18,7 +19,7 @@ use Rattle.slicc_meaning.specs.declared.plan.WrittenTransition.{WrittenTransitio
 use Rattle.slicc_meaning.specs.Front.{without_message}
 use Rattle.slicc_meaning.specs.Rows.{first_row}
 use Rattle.slicc_meaning.specs.Scan.{next_port, run_port, scan_ports, scan}
-use Rattle.slicc_meaning.specs.States.{line_of, state_at, with_state}
+use Rattle.slicc_meaning.specs.States.{line_address_of, state_at, with_state}
 use Rattle.slicc_meaning.specs.Statements.{dequeue, run_action, act, run_actions, front_of}
 use Rattle.slicc_meaning.specs.Try.{consuming, settled, fire_first, untriggered, peek_front, if_ready}
 use Rattle.slicc_meaning.proofs.Folds.{fold-keeps}
@@ -68,7 +69,7 @@ module _ (m : MachinePlan) (x : Controller) (now : ℕ) where
   peek_front-leaves : (t : Trigger) (front : Option Message) → Leaves (peek_front m t x now front).outcome
   peek_front-leaves t None = tt
   peek_front-leaves t (Some front) =
-      let line = line_of front.line_address in
+      let line = line_address_of front.line_address in
       let state = state_at m.default x.states line in
       fire_first-leaves line state t.event (first_row m state t.event)
 

@@ -1,6 +1,6 @@
 -- The controllers of the small form keep their lists ascending, and nothing that happens in a cycle changes whether one must
 -- wake in it; messages arrive later than they are sent.
-use Rattle.std.proofs.Common.{◌≡◌, ◌<◌, ◌≤◌, ◌+◌, length, ℕ, zero, suc, Option, None, Some, List, [], ◌∷◌, All, nat_lt, get_or, replicate, slice_get, sum, refl, ap, sym, ◌∙◌, subst, ⊎_elim, inr, arith}
+use Rattle.std.proofs.Common.{◌≡◌, ◌<◌, ◌≤◌, ◌+◌, IsTrue, length, ℕ, zero, suc, Option, None, Some, List, [], ◌∷◌, All, nat_lt, get_or, replicate, slice_get, sum, refl, ap, sym, ◌∙◌, subst, ⊎_elim, inr, arith}
 use Rattle.std.proofs.lemmas.Bool.{cond_both}
 use Rattle.std.proofs.lemmas.List.Elements.{All-nil, All-cons, All-head, All-tail, All-append, All-replicate}
 use Rattle.std.proofs.lemmas.Option.{same_Some, slice_get-get_or}
@@ -10,7 +10,8 @@ use Rattle.run_journal.specs.declared.event.Event.{Event}
 use Rattle.ruby_value.specs.declared.message.MsgNo.{MsgNo}
 use Rattle.ruby_value.specs.Ascending.{has_mark, with_mark}
 use Rattle.ruby_runs.specs.Premises.{IsSound, Keeps, AllSuit}
-use Rattle.ruby_runs.specs.Rules.{Acts, Delivery, Fired, Idle}
+use Rattle.ruby_runs.specs.Rules.{Acts, Fired, Idle}
+use Rattle.ruby_value.specs.declared.message.Delivery.{Delivery}
 use Rattle.ruby_runs.specs.Run.{IsRun}
 use Rattle.ruby_runs.specs.World.{World}
 use Rattle.ruby_runs.proofs.Fitting.{all-fit}
@@ -76,7 +77,11 @@ module _ (s : Setting) where
       let marks_then : acted.marks ≡ x.marks = actions-keep (λ d. d.marks ≡ x.marks) (λ d number same. same) m actions x now refl in
       let ordered_after : IsOrdered after = subst IsOrdered (sym by.sets) (set-ordered acted ordered_then note.address note.next) in
       let marks_after : after.marks ≡ x.marks = ap (λ (d : Controller). d.marks) by.sets ∙ marks_then in (
-        record { fits = fired-ordered after ordered_after; awake = ap (λ marks. has_mark marks now) marks_after },
+        record {
+          fits = fired-ordered after ordered_after;
+          awake = ap (λ marks. has_mark marks now) marks_after;
+          later = λ cycle above has. subst (λ (marks : List ℕ). IsTrue (has_mark marks cycle)) (sym marks_after) has;
+        },
         subst (λ ds. AllSuit (rules s) Fits Suits Leads now ds) (sym by.alone) (All-nil (λ (d : Delivery Message). now < d.message.arrival)),
       )
 
@@ -123,13 +128,25 @@ module _ (s : Setting) where
         fires = λ c now x ordered note acts copies after is. fires-by c now (plan_for s.plan s.topology c) x ordered note acts copies after is;
         idles = λ c now x ordered after is.
             let same : after ≡ x = idle-is now (plan_for s.plan s.topology c) x after is in
-            record { fits = subst IsOrdered (sym same) ordered; awake = ap (λ (d : Controller). has_mark d.marks now) same };
-        fills = λ c now x ordered full. record { fits = marked-ordered x ordered (now + 1); awake = later-mark x.marks (now + 1) now (omega arith) };
-        stops = λ c now x ordered at is. record { fits = stopped-ordered x ordered at; awake = refl };
+            record {
+              fits = subst IsOrdered (sym same) ordered;
+              awake = ap (λ (d : Controller). has_mark d.marks now) same;
+              later = λ cycle above has. subst (λ (d : Controller). IsTrue (has_mark d.marks cycle)) (sym same) has;
+            };
+        fills = λ c now x ordered full. record {
+          fits = marked-ordered x ordered (now + 1);
+          awake = later-mark x.marks (now + 1) now (omega arith);
+          later = λ cycle above has. (with_mark-has x.marks (now + 1) cycle).1 (inr has);
+        };
+        stops = λ c now x ordered at is. record { fits = stopped-ordered x ordered at; awake = refl; later = λ cycle above has. has };
         arrives = λ c now x m ordered later.
-            record { fits = marked-ordered _ (taken-ordered x ordered m) m.arrival; awake = later-mark x.marks m.arrival now later };
+            record {
+              fits = marked-ordered _ (taken-ordered x ordered m) m.arrival;
+              awake = later-mark x.marks m.arrival now later;
+              later = λ cycle above has. (with_mark-has x.marks m.arrival cycle).1 (inr has);
+            };
         begins = λ c now next x ordered later within. begun-ordered x ordered next;
-        serves = λ d xs now issued asked c x there. record { fits = asked.fits c x there; awake = refl };
+        serves = λ d xs now issued asked c x there. record { fits = asked.fits c x there; awake = refl; later = λ cycle above has. has };
         asks = λ d xs now issued asked. requests-suit d now issued;
         goes_on = λ d xs now issued next asked later within. omega (arith, asked.leads, requests-few d now issued);
       }

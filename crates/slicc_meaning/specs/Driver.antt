@@ -6,7 +6,8 @@
 -- own.
 use Rattle.std.specs.Prelude.{ℕ, false, Option, None, Some, List, [], ◌∷◌, ◌+◌, nat_lt, sum, slice_get, if◌then◌else◌}
 use Rattle.ruby_value.specs.declared.message.MsgNo.{MsgNo}
-use Rattle.ruby_runs.specs.Rules.{Delivery, Drive}
+use Rattle.ruby_value.specs.declared.message.Delivery.{Delivery}
+use Rattle.ruby_runs.specs.Rules.{DriverTurn}
 use Rattle.slicc_meaning.specs.declared.controller.Controller.{Controller}
 use Rattle.slicc_meaning.specs.declared.controller.Message.{Message}
 use Rattle.slicc_meaning.specs.declared.setting.PlainDriver.{PlainDriver}
@@ -43,8 +44,8 @@ plain_requests t d now n =
 abbrev pub next_turn : PlainDriver → ℕ → Option ℕ
 next_turn d now = if nat_lt (now + 1) d.requests then Some (now + 1) else None
 
-abbrev pub plain_drive : Topology → PlainDriver → ℕ → ℕ → Drive Controller Message PlainDriver
-plain_drive t d now n =
+abbrev pub plain_turn : Topology → PlainDriver → ℕ → ℕ → DriverTurn Controller Message PlainDriver
+plain_turn t d now n =
     record {
       driver = d;
       controller_after = λ c x. x;

@@ -9,7 +9,7 @@ use Rattle.slicc_meaning.specs.declared.plan.MachinePlan.{MachinePlan}
 use Rattle.slicc_meaning.specs.declared.setting.PlainDriver.{PlainDriver}
 use Rattle.slicc_meaning.specs.declared.setting.Setting.{Setting}
 use Rattle.slicc_meaning.specs.Controller.{opening_controller, with_message, with_mark, with_one_fired, with_stop, at_cycle, mailed}
-use Rattle.slicc_meaning.specs.Driver.{plain_drive}
+use Rattle.slicc_meaning.specs.Driver.{plain_turn}
 use Rattle.slicc_meaning.specs.Rows.{first_row}
 use Rattle.slicc_meaning.specs.Scan.{scan}
 use Rattle.slicc_meaning.specs.Topology.{plan_for}
@@ -37,7 +37,7 @@ rules s =
       cycles = s.cycles;
       scan = λ c x now. scan_of (plan_for s.plan s.topology c) x now s.limit;
       has_row = λ c state event. has_row_of (plan_for s.plan s.topology c) state event;
-      drive = λ d xs now issued. plain_drive s.topology d now issued;
+      driver_turn = λ d xs now issued. plain_turn s.topology d now issued;
       with_message = with_message;
       with_mark = with_mark;
       with_one_fired = with_one_fired;

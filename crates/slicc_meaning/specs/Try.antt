@@ -16,7 +16,7 @@ use Rattle.slicc_meaning.specs.declared.plan.WrittenTransition.{WrittenTransitio
 use Rattle.slicc_meaning.specs.declared.plan.If.{If}
 use Rattle.slicc_meaning.specs.declared.plan.Peek.{Peek}
 use Rattle.slicc_meaning.specs.declared.plan.Trigger.{Trigger}
-use Rattle.slicc_meaning.specs.States.{line_of, state_at, with_state}
+use Rattle.slicc_meaning.specs.States.{line_address_of, state_at, with_state}
 use Rattle.slicc_meaning.specs.Rows.{first_row}
 use Rattle.slicc_meaning.specs.Statements.{front_of, run_actions}
 
@@ -53,7 +53,7 @@ untriggered outcome = record { outcome = outcome; tried = [] }
 -- `trigger` brings the address down to its line, and takes the state from the built-in map
 abbrev pub try_event : MachinePlan → ℕ → ℕ → Controller → ℕ → Scan Controller Message
 try_event m event address c now =
-    let line = line_of address in
+    let line = line_address_of address in
     let state = state_at m.default c.states line in
     record {
       outcome = fire_first m line state event c now (first_row m state event);

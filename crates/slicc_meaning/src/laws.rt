@@ -15,7 +15,7 @@ ghost use Rattle.slicc_meaning.specs.declared.setting.Setting.{Setting as Settin
 ghost use Rattle.slicc_meaning.specs.Front.{IsFront, front, with_message, without_message};
 ghost use Rattle.slicc_meaning.specs.IsOrdered.{IsWorldOrdered};
 ghost use Rattle.slicc_meaning.specs.Rules.{rules};
-ghost use Rattle.slicc_meaning.specs.States.{line_of, state_at, with_state};
+ghost use Rattle.slicc_meaning.specs.States.{line_address_of, state_at, with_state};
 ghost use Rattle.slicc_meaning.specs.Topology.{HasSeats, machine_of, plain_of as plain_of_plan};
 
 /// The front of a buffer at a cycle is a ready message of the inbox before which no other ready message of it comes, and
@@ -48,6 +48,6 @@ pub fn lists_change_at_one_key()
 /// Examples that no run of the program takes, worked out by hand: the lines of byte addresses, and the machines of controllers
 /// 0 to 2 where machines 0, 1 and 2 have one, none and two.
 pub fn examples()
-    ensures lines { map line_of (0 ∷ 63 ∷ 64 ∷ 127 ∷ 4160 ∷ 18446744073709551615 ∷ []) ≡ 0 ∷ 0 ∷ 64 ∷ 64 ∷ 4160 ∷ 18446744073709551552 ∷ [] }
+    ensures lines { map line_address_of (0 ∷ 63 ∷ 64 ∷ 127 ∷ 4160 ∷ 18446744073709551615 ∷ []) ≡ 0 ∷ 0 ∷ 64 ∷ 64 ∷ 4160 ∷ 18446744073709551552 ∷ [] }
     ensures machines { map (machine_of (1 ∷ 0 ∷ 2 ∷ [])) (0 ∷ 1 ∷ 2 ∷ []) ≡ 0 ∷ 2 ∷ 2 ∷ [] }
 {}

@@ -34,10 +34,10 @@ pub use run_journal::{
     Account, End, Entry, Event, Final, FireNote, Sent, StopAt, Tally, Verdict, finals, tally_of,
 };
 pub use run_laws::{
-    accounts_for_each_message, invalid_comes_exactly, next_cycle_is_the_least,
+    accounts_for_each_message, invalid_comes_exactly, next_cycle_is_the_least, no_mark_is_lost,
     one_worker_makes_one_run, turns_end_or_go_on, wakes_once,
 };
 pub use scanning::scan;
 pub use setting::{PlainDriver, Seat, Setting, Topology};
-pub use states::line_of;
+pub use states::line_address_of;
 pub use topology::{machine_of, plain_of};

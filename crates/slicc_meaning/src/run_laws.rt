@@ -1,12 +1,13 @@
 // What holds of every run of a setting of the small form, from the laws of runs over any controllers. These functions do
 // nothing: their contracts are the laws.
-ghost use Rattle.std.specs.Prelude.{◌≡◌, ◌+◌, ℕ, List, Option, None, Some};
+ghost use Rattle.std.specs.Prelude.{◌≡◌, ◌+◌, ℕ, List, Option, None, Some, length};
 ghost use Rattle.run_journal.specs.declared.entry.Entry.{Entry as EntryRecord};
 ghost use Rattle.run_journal.specs.declared.event.Event.{Event as EventRecord};
 ghost use Rattle.run_journal.specs.declared.event.Event.TheVariants.{Turn};
 ghost use Rattle.ruby_runs.specs.Account.{IsAccounted, account};
 ghost use Rattle.ruby_runs.specs.Alone.{IsAlone};
 ghost use Rattle.ruby_runs.specs.InvalidExactly.{InvalidExactly};
+ghost use Rattle.ruby_runs.specs.MarksStay.{MarksStay};
 ghost use Rattle.ruby_runs.specs.NextCycle.{IsNextCycle};
 ghost use Rattle.ruby_runs.specs.Outcome.{IsOutcome, WakesAsMarked};
 ghost use Rattle.ruby_runs.specs.Run.{HasEnded, IsRun};
@@ -48,6 +49,11 @@ pub fn one_worker_makes_one_run()
 /// above this cycle there is none.
 pub fn next_cycle_is_the_least()
     ensures { (s : SettingRecord) (now : ℕ) (next : Option ℕ) (places : List (Place ControllerRecord)) → IsNextCycle (rules s) now next places (next_cycle (rules s) now next places) }
+{}
+
+/// No event of a run loses a mark that a controller has for a later cycle.
+pub fn no_mark_is_lost()
+    ensures { (s : SettingRecord) (history : List EventRecord) (e : EventRecord) (w : World ControllerRecord PlainDriverRecord) (journal : List EntryRecord) (st : Stepped ControllerRecord PlainDriverRecord) → IsRun (rules s) history w journal → step (rules s) (length journal) w e ≡ Some st → MarksStay (rules s) w st.world }
 {}
 
 /// A turn ends the run with its least-numbered stopped controller, or, where none has stopped, with the first verdict that

@@ -1,17 +1,17 @@
 // The built-in map from addresses to states.
 ghost use Rattle.std.specs.Prelude.{◌≡◌, ◌/◌, ◌*◌, IfOk, Option, Some, filter, nat_lt};
-ghost use Rattle.slicc_meaning.specs.States.{line_of as line_of_address, state_at as state_at_of, with_state as with_state_of};
+ghost use Rattle.slicc_meaning.specs.States.{line_address_of as line_address_is, state_at as state_at_of, with_state as with_state_of};
 
 use crate::StateAt;
 use ruby_base::{NoMemory, Seq};
-use ruby_value::inserted;
+use ruby_value::{inserted, line_of};
 use std::alloc::Global;
 
 /// The address of the line that has the byte address.
-pub fn line_of(address: u64) -> u64
-    ensures { result ≡ line_of_address address }
+pub fn line_address_of(address: u64) -> u64
+    ensures { result ≡ line_address_is address }
 {
-    address / 64 * 64
+    line_of(address) * 64
 }
 
 /// The state of an address.

@@ -6,7 +6,7 @@ ghost use Rattle.slicc_meaning.specs.Try.{stop_at as stop_at_of, settled as sett
 
 use crate::rows::first_row;
 use crate::statements::{front_of, run_actions};
-use crate::states::{line_of, state_at, with_state};
+use crate::states::{line_address_of, state_at, with_state};
 use crate::{
     Acted, Controller, Fault, FireNote, If, MachinePlan, NoMemory, Peek, Scanned, StopAt,
     WrittenTransition,
@@ -86,7 +86,7 @@ fn try_event(
 ) -> Result<Scanned, NoMemory>
     ensures { IfOk result (λ after. outcome_of after ≡ (try_event_of m.now event address c now).outcome) }
 {
-    let address = line_of(address);
+    let address = line_address_of(address);
     let state = state_at(m.default, c.states.as_slice(), address);
     let pair = Pair {
         address,

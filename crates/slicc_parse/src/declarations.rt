@@ -189,7 +189,10 @@ fn closed_declarations(
         match declaration(alloc, room, left) {
             Ok((next, after)) => match items.push(next) {
                 Ok(()) => left = after,
-                Err(_) => return Err(Fault::NoMemory),
+                Err(failed) => {
+                    drop(failed);
+                    return Err(Fault::NoMemory);
+                }
             },
             Err(fault) => return Err(fault),
         }

@@ -80,7 +80,10 @@ fn protocol_and_items(
     match optional_protocol(alloc, room, tokens) {
         Ok((protocol, behind)) => match several_items(alloc, room, behind) {
             Ok((items, left)) => Ok((protocol, items, left)),
-            Err(fault) => Err(fault),
+            Err(fault) => {
+                drop(protocol);
+                Err(fault)
+            }
         },
         Err(fault) => Err(fault),
     }
@@ -113,7 +116,11 @@ fn file(alloc: Global, room: u32, tokens: &[Token]) -> Result<(Tree, &[Token]), 
                     left,
                 ))
             }
-            Err(fault) => Err(fault),
+            Err(fault) => {
+                drop(protocol);
+                drop(items);
+                Err(fault)
+            }
         },
         Err(fault) => Err(fault),
     }

@@ -44,7 +44,10 @@ pub fn in_port(alloc: Global, room: u32, tokens: &[Token]) -> Result<(InPort, &[
                         left,
                     ))
                 }
-                Err(fault) => Err(fault),
+                Err(fault) => {
+                    drop(head);
+                    Err(fault)
+                }
             },
             Err(fault) => Err(fault),
         },

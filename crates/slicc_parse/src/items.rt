@@ -96,7 +96,10 @@ pub fn several_items(
     let mut left = match item(alloc, room, tokens) {
         Ok((first, behind)) => match items.push(first) {
             Ok(()) => behind,
-            Err(_) => return Err(Fault::NoMemory),
+            Err(failed) => {
+                drop(failed);
+                return Err(Fault::NoMemory);
+            }
         },
         Err(fault) => return Err(fault),
     };
@@ -104,7 +107,10 @@ pub fn several_items(
         match item(alloc, room, left) {
             Ok((next, after)) => match items.push(next) {
                 Ok(()) => left = after,
-                Err(_) => return Err(Fault::NoMemory),
+                Err(failed) => {
+                    drop(failed);
+                    return Err(Fault::NoMemory);
+                }
             },
             Err(fault) => return Err(fault),
         }

@@ -72,7 +72,10 @@ pub fn machine(alloc: Global, room: u32, tokens: &[Token]) -> Result<(Machine, &
                         left,
                     ))
                 }
-                Err(fault) => Err(fault),
+                Err(fault) => {
+                    drop(head);
+                    Err(fault)
+                }
             },
             Err(fault) => Err(fault),
         },

@@ -1,12 +1,12 @@
 mod Accepted
 pub mod Firsts
 mod MachinesFound
-mod NoReferences
+pub mod NoReferences
 pub mod OneAnswer
 mod Phases
-mod Receivers
-mod Room
-mod SetupFields
-mod SetupNetworks
+pub mod Receivers
+pub mod Room
+pub mod SetupFields
+pub mod SetupNetworks
 mod SetupParts
 mod Subjects

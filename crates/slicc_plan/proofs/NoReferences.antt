@@ -11,37 +11,41 @@ use Rattle.ruby_value.specs.declared.setup.TableSetup.{TableSetup}
 use Rattle.ruby_value.specs.declared.setup.TableSize.{TableSize}
 use Rattle.ruby_value.specs.declared.value.Value.{Value}
 use Rattle.ruby_value.specs.IsReference.{is_reference}
+use Rattle.ruby_symbols.specs.declared.machine.TableSort.{TableSort}
+use Rattle.ruby_symbols.specs.declared.types.FieldSymbol.{FieldSymbol}
 use Rattle.slicc_ast.specs.declared.tree.declaration.Pairs.{Pairs}
 use Rattle.slicc_ast.specs.declared.tree.declaration.Structure.{Structure}
 use Rattle.slicc_ast.specs.declared.tree.item.Tree.{Tree}
 use Rattle.slicc_ast.specs.declared.tree.machine.Machine.{Machine}
-use Rattle.slicc_ast.specs.declared.tree.machine.Parameter.{Parameter}
+use Rattle.slicc_ast.specs.declared.tree.machine.Literal.{Literal}
 use Rattle.slicc_plan.specs.declared.built_in.BuiltInType.{BuiltInType}
 use Rattle.slicc_plan.specs.declared.built_in.BuiltInType.TheVariants.{Int, Cycles, Tick, Bool as Boolean, Address, MachineId, MachineType, NetDest, DataBlock, AccessPermission, RequestType, MessageSize, Request, AbstractEntry, Void, Cache, Directory, TbeTable, Sequencer, Buffer}
 use Rattle.slicc_plan.specs.Buffers.{BufferIn, buffer_in}
 use Rattle.slicc_plan.specs.BuiltIn.{NamedType, is_same_type, request_fields}
-use Rattle.slicc_plan.specs.Declarations.{Declaration, Scope, within, machine_declarations}
+use Rattle.slicc_plan.specs.Declarations.{Declaration, machine, enumeration, structure, states, parameter, object, out_port, in_port, action, function, symbol, state, member as member_declaration, formal, local, Scope, within, machine_declarations}
 use Rattle.slicc_plan.specs.FieldTypes.{field_type}
 use Rattle.slicc_plan.specs.InitialFields.{field_kind, field_kinds, message_kinds, request_kinds, structure_fields}
+use Rattle.slicc_plan.specs.MachineValues.{value_in, value_of_kind, value_of_type, values_of}
 use Rattle.slicc_plan.specs.MessageTypes.{message_type}
-use Rattle.slicc_plan.specs.Setups.{TableSort, ValueParameter, attributes_of, buffer_by, kinds_on, known_parameter, line_structure, parameter_of, parameter_table, range_values, setup_in, table_of_lines, table_size, tables_from, tables_of, value_parameters}
+use Rattle.slicc_plan.specs.Setups.{attributes_of, buffer_by, kinds_on, parameter_table, range_values, setup_in, table_of_lines, table_size, tables_from}
+use Rattle.slicc_plan.specs.Tables.{line_structure, tables_of}
 use Rattle.slicc_plan.specs.TypeNumbers.{built_in_kind, declared_number, default_member, kind_or_bool, plain_kind}
 use Rattle.slicc_plan.specs.Types.{KnownType, built_in, enumerated, structured, type_in}
 
 abbrev IsPlain : Kind → Type 0
 IsPlain k = is_reference k ≡ false
 
-all_flat : {X Y : Type 0} (P : Y → Type 0) (f : X → List Y) → ((x : X) → All P (f x)) → (xs : List X) → All P (flat_map f xs)
+pub all_flat : {X Y : Type 0} (P : Y → Type 0) (f : X → List Y) → ((x : X) → All P (f x)) → (xs : List X) → All P (flat_map f xs)
 all_flat P f h [] = All-nil P
 all_flat P f h (x ∷ xs) = All-append P (f x) (flat_map f xs) (h x) (all_flat P f h xs)
 
-all_mapped : {X Y : Type 0} (P : Y → Type 0) (f : X → Y) → ((x : X) → P (f x)) → (xs : List X) → All P (map f xs)
+pub all_mapped : {X Y : Type 0} (P : Y → Type 0) (f : X → Y) → ((x : X) → P (f x)) → (xs : List X) → All P (map f xs)
 all_mapped P f h [] = All-nil P
 all_mapped P f h (x ∷ xs) = All-cons P (f x) (map f xs) (h x) (all_mapped P f h xs)
 
 -- kinds
 
-built_in_plain : (b : BuiltInType) → IsPlain (kind_or_bool (built_in_kind b))
+pub built_in_plain : (b : BuiltInType) → IsPlain (kind_or_bool (built_in_kind b))
 built_in_plain Int = refl
 built_in_plain Cycles = refl
 built_in_plain Tick = refl
@@ -73,7 +77,7 @@ kind_plain trees (enumerated scope text members) =
     member_plain (default_member trees (enumerated scope text members)) (declared_number trees (enumerated scope text members))
 kind_plain trees (structured scope s) = refl
 
-known_plain : (trees : List Tree) (t : Option KnownType) → IsPlain (kind_or_bool (option_and_then (plain_kind trees) t))
+pub known_plain : (trees : List Tree) (t : Option KnownType) → IsPlain (kind_or_bool (option_and_then (plain_kind trees) t))
 known_plain trees None = refl
 known_plain trees (Some t) = kind_plain trees t
 
@@ -117,8 +121,8 @@ buffers_plain trees number sizes m =
 abbrev LinesPlain : TableSetup → Type 0
 LinesPlain s = All IsPlain s.kinds
 
-abbrev ParameterPlain : ValueParameter → Type 0
-ParameterPlain p = IsPlain p.kind
+abbrev ValuePlain : FieldSymbol → Type 0
+ValuePlain f = IsPlain f.kind
 
 lines_plain : (trees : List Tree) (m : Machine) (places : TableSize) (s : Option Structure) → LinesPlain (table_of_lines trees m places s)
 lines_plain trees m places None = All-nil IsPlain
@@ -129,21 +133,36 @@ tables_plain trees m sizes number [] = All-nil LinesPlain
 tables_plain trees m sizes number (t ∷ ts) =
     All-cons LinesPlain _ _ (lines_plain trees m (table_size sizes number t) (line_structure m t)) (tables_plain trees m sizes (number + 1) ts)
 
-parameter_plain : (p : Parameter) (t : Option KnownType) (k : Option Kind) → IsPlain (kind_or_bool k) → All ParameterPlain (parameter_of p t k)
-parameter_plain p t None h = All-nil ParameterPlain
-parameter_plain p t (Some k) h = All-cons ParameterPlain _ [] h (All-nil ParameterPlain)
+value_plain : (text : List ℕ) (t : Option KnownType) (l : Option Literal) (k : Option Kind) → IsPlain (kind_or_bool k) → All ValuePlain (value_of_kind text t l k)
+value_plain text t l None h = All-nil ValuePlain
+value_plain text t l (Some k) h = All-cons ValuePlain _ [] h (All-nil ValuePlain)
 
-known_parameter_plain : (trees : List Tree) (p : Parameter) (t : Option KnownType) → All ParameterPlain (known_parameter trees p t)
-known_parameter_plain trees p None = All-nil ParameterPlain
-known_parameter_plain trees p (Some t) = parameter_plain p (Some t) (plain_kind trees t) (kind_plain trees t)
+known_value_plain : (trees : List Tree) (text : List ℕ) (t : Option KnownType) (l : Option Literal) → All ValuePlain (value_of_type trees text t l)
+known_value_plain trees text t l = value_plain text t l (option_and_then (plain_kind trees) t) (known_plain trees t)
 
-parameters_plain : (trees : List Tree) (m : Machine) → All ParameterPlain (value_parameters trees m)
-parameters_plain trees m =
-    all_flat ParameterPlain (λ (p : Parameter). known_parameter trees p (type_in trees (within m) p.kind.text)) (λ p. known_parameter_plain trees p (type_in trees (within m) p.kind.text)) m.parameters
+declared_plain : (trees : List Tree) (m : Machine) (d : Declaration) → All ValuePlain (value_in trees m d)
+declared_plain trees m (parameter p) = known_value_plain trees p.name.text (type_in trees (within m) p.kind.text) p.literal
+declared_plain trees m (object o) = known_value_plain trees o.name.text (type_in trees (within m) o.kind.text) None
+declared_plain trees m (machine d) = All-nil ValuePlain
+declared_plain trees m (enumeration d) = All-nil ValuePlain
+declared_plain trees m (structure d) = All-nil ValuePlain
+declared_plain trees m (states d) = All-nil ValuePlain
+declared_plain trees m (out_port d) = All-nil ValuePlain
+declared_plain trees m (in_port d) = All-nil ValuePlain
+declared_plain trees m (action d) = All-nil ValuePlain
+declared_plain trees m (function d) = All-nil ValuePlain
+declared_plain trees m (symbol d) = All-nil ValuePlain
+declared_plain trees m (state d) = All-nil ValuePlain
+declared_plain trees m (member_declaration d) = All-nil ValuePlain
+declared_plain trees m (formal d) = All-nil ValuePlain
+declared_plain trees m (local kind called span) = All-nil ValuePlain
+
+pub values_plain : (trees : List Tree) (m : Machine) → All (λ (f : FieldSymbol). is_reference f.kind ≡ false) (values_of trees m)
+values_plain trees m = all_flat ValuePlain (value_in trees m) (declared_plain trees m) (machine_declarations m)
 
 parameter_table_plain : (trees : List Tree) (number : ℕ) (m : Machine) (sizes : Sizes) → LinesPlain (parameter_table trees number m sizes)
 parameter_table_plain trees number m sizes =
-    All-append IsPlain (map (λ (p : ValueParameter). p.kind) (value_parameters trees m)) (map (λ (v : Value). kind.Int) (range_values sizes)) (All-map IsPlain (λ (p : ValueParameter). p.kind) (value_parameters trees m) (parameters_plain trees m)) (all_mapped IsPlain (λ (v : Value). kind.Int) (λ v. refl) (range_values sizes))
+    All-append IsPlain (map (λ (f : FieldSymbol). f.kind) (values_of trees m)) (map (λ (v : Value). kind.Int) (range_values sizes)) (All-map IsPlain (λ (f : FieldSymbol). f.kind) (values_of trees m) (values_plain trees m)) (all_mapped IsPlain (λ (v : Value). kind.Int) (λ v. refl) (range_values sizes))
 
 pub all_tables_plain : (trees : List Tree) (number : ℕ) (sizes : Sizes) (m : Machine) → All (λ (s : TableSetup). All (λ (k : Kind). is_reference k ≡ false) s.kinds) (setup_in trees number sizes m).tables
 all_tables_plain trees number sizes m =

@@ -7,6 +7,8 @@ use Rattle.slicc_ast.specs.Bytes.{is_between}
 use Rattle.ruby_value.specs.declared.setup.Sizes.{Sizes}
 use Rattle.ruby_value.specs.declared.setup.TableSetup.{TableSetup}
 use Rattle.ruby_value.specs.declared.setup.TableSize.{TableSize}
+use Rattle.ruby_symbols.specs.declared.machine.TableSort.{TableSort}
+use Rattle.ruby_symbols.specs.declared.machine.TableSort.TheVariants as sort
 use Rattle.slicc_ast.specs.declared.tree.declaration.Pairs.{Pairs}
 use Rattle.slicc_ast.specs.declared.tree.declaration.Structure.{Structure}
 use Rattle.slicc_ast.specs.declared.tree.item.Tree.{Tree}
@@ -19,7 +21,8 @@ use Rattle.slicc_plan.specs.Declarations.{Declaration, machine, enumeration, str
 use Rattle.slicc_plan.specs.FieldTypes.{refused_field_types}
 use Rattle.slicc_plan.specs.Limits.{limits_passed}
 use Rattle.slicc_plan.specs.Prototypes.{unknown_built_ins}
-use Rattle.slicc_plan.specs.Setups.{AreSizesOf, HasRoom, TableSort, cache, directory, tbes, cache_size, line_structure, parameter_table, setup_in, table_in, table_of_lines, table_size, table_sort, tables_from, tables_of, tbe_size, written_entries}
+use Rattle.slicc_plan.specs.Setups.{AreSizesOf, HasRoom, cache_size, parameter_table, setup_in, table_of_lines, table_size, tables_from, tbe_size}
+use Rattle.slicc_plan.specs.Tables.{line_structure, table_in, table_sort, tables_of, written_entries}
 use Rattle.slicc_plan.specs.TwiceDeclared.{names_twice_declared}
 use Rattle.slicc_plan.specs.Types.{KnownType, is_built_in, type_in}
 use Rattle.slicc_plan.specs.UnknownTypes.{unknown_types}
@@ -58,7 +61,7 @@ first_passes p [] a e at = cc
 first_passes p (b ∷ all) a e at =
     let same : b ≡ a = cc in subst (λ c. p c ≡ true) same (passing p b all (p b) refl e)
 
-abbrev InLimits : ℕ → Type 0
+abbrev pub InLimits : ℕ → Type 0
 InLimits n = (1 ≤ n) × (n ≤ 256)
 
 lower : (low high n : ℕ) → is_between low high n ≡ true → low ≤ n
@@ -83,16 +86,16 @@ entries_within pairs e =
 
 -- what sort a table is
 
-abbrev SortInLimits : TableSort → Type 0
-SortInLimits cache = Unit {0}
-SortInLimits directory = Unit {0}
-SortInLimits (tbes written) = InLimits written
+abbrev pub SortInLimits : TableSort → Type 0
+SortInLimits sort.Cache = Unit {0}
+SortInLimits sort.Directory = Unit {0}
+SortInLimits (sort.Tbe written) = InLimits written
 
-abbrev OptionInLimits : Option TableSort → Type 0
+abbrev pub OptionInLimits : Option TableSort → Type 0
 OptionInLimits None = Unit {0}
 OptionInLimits (Some t) = SortInLimits t
 
-sort_by : (is_cache is_directory is_tbe : Bool) (pairs : Pairs) → cond is_tbe (bad_entries pairs) [] ≡ [] → OptionInLimits (cond is_cache (Some cache) (cond is_directory (Some directory) (cond is_tbe (Some (tbes (written_entries pairs))) None)))
+sort_by : (is_cache is_directory is_tbe : Bool) (pairs : Pairs) → cond is_tbe (bad_entries pairs) [] ≡ [] → OptionInLimits (cond is_cache (Some sort.Cache) (cond is_directory (Some sort.Directory) (cond is_tbe (Some (sort.Tbe (written_entries pairs))) None)))
 sort_by true d t pairs e = tt
 sort_by false true t pairs e = tt
 sort_by false false true pairs e = entries_within pairs e
@@ -102,7 +105,7 @@ sort_within : (t : Option KnownType) (pairs : Pairs) → bad_object_attributes t
 sort_within t pairs e =
     sort_by (is_built_in Cache t) (is_built_in Directory t) (is_built_in TbeTable t) pairs (right_none (cond (is_built_in Buffer t) (bad_buffer_attributes pairs) []) (cond (is_built_in TbeTable t) (bad_entries pairs) []) e)
 
-declared_within : (trees : List Tree) (m : Machine) (d : Declaration) → bad_values_of trees (within m) d ≡ [] → OptionInLimits (table_in trees m d)
+pub declared_within : (trees : List Tree) (m : Machine) (d : Declaration) → bad_values_of trees (within m) d ≡ [] → OptionInLimits (table_in trees m d)
 declared_within trees m (parameter p) e =
     sort_within (type_in trees (within m) p.kind.text) p.pairs (right_none (bad_literal (type_in trees (within m) p.kind.text) p.literal) (bad_object_attributes (type_in trees (within m) p.kind.text) p.pairs) e)
 declared_within trees m (object o) e = sort_within (type_in trees (within m) o.kind.text) o.pairs e
@@ -139,7 +142,7 @@ pub values_kept : (trees : List Tree) (number : ℕ) (m : Machine) → IsAccepte
 values_kept trees number m h at =
     none_at (bad_values_in trees) (wide_scopes trees) (suc number) (within m) (left_none (flat_map (bad_values_in trees) (wide_scopes trees)) (bad_field_defaults trees) (accepted_values trees h)) (mapped_at within (machines_of trees) number m at)
 
-tables_within : (trees : List Tree) (number : ℕ) (m : Machine) → IsAccepted trees → slice_get (machines_of trees) number ≡ Some m → All SortInLimits (tables_of trees m)
+pub tables_within : (trees : List Tree) (number : ℕ) (m : Machine) → IsAccepted trees → slice_get (machines_of trees) number ≡ Some m → All SortInLimits (tables_of trees m)
 tables_within trees number m h at =
     sorts_within trees m (machine_declarations m) (values_kept trees number m h at)
 
@@ -165,9 +168,9 @@ tbe_room sizes (Some (n, entries)) number written w h e =
     found_holds (λ (u : ℕ × ℕ). HasRoom (tbe_size 16 (Some u))) (λ (u : ℕ × ℕ). u.0 == number) sizes (n, entries) h e
 
 size_room : (trees : List Tree) (sizes : Sizes) (number : ℕ) (t : TableSort) → AreSizesOf trees sizes → SortInLimits t → HasRoom (table_size sizes number t)
-size_room trees sizes number cache s h = cache_room sizes.caches _ number s.caches refl
-size_room trees sizes number directory s h = tt
-size_room trees sizes number (tbes written) s h = tbe_room sizes.tbes _ number written h s.tbes refl
+size_room trees sizes number sort.Cache s h = cache_room sizes.caches _ number s.caches refl
+size_room trees sizes number sort.Directory s h = tt
+size_room trees sizes number (sort.Tbe written) s h = tbe_room sizes.tbes _ number written h s.tbes refl
 
 abbrev Roomy : TableSetup → Type 0
 Roomy s = HasRoom s.size

@@ -1,7 +1,7 @@
 -- The fields of a machine's tables begin as their kinds are, and none of them nor of its messages is a reference.
 use Rattle.std.proofs.Common.{◌≡◌, ◌++◌, ◌+◌, ◌&&◌, ◌==◌, ℕ, Bool, true, false, Option, None, Some, IsTrue, List, [], ◌∷◌, All, map, flat_map, refl, arith, rules}
-use Rattle.std.specs.Prelude.{ℤ, pos, codes, find}
-use Rattle.std.proofs.lemmas.List.Elements.{All-cons, All-nil, All-push}
+use Rattle.std.specs.Prelude.{ℤ, pos, codes, find, option_and_then}
+use Rattle.std.proofs.lemmas.List.Elements.{All-head, All-tail, All-cons, All-nil, All-push}
 use Rattle.ruby_value.specs.declared.kind.Kind.{Kind}
 use Rattle.ruby_value.specs.declared.kind.Kind.TheVariants as kind
 use Rattle.ruby_value.specs.declared.setup.Sizes.{Sizes}
@@ -12,6 +12,8 @@ use Rattle.ruby_value.specs.declared.value.Value.TheVariants as value
 use Rattle.ruby_value.specs.DefaultValue.{default_value}
 use Rattle.ruby_value.specs.HasKind.{has_kind}
 use Rattle.ruby_value.specs.HasKinds.{has_kinds}
+use Rattle.ruby_symbols.specs.declared.machine.TableSort.{TableSort}
+use Rattle.ruby_symbols.specs.declared.types.FieldSymbol.{FieldSymbol}
 use Rattle.slicc_ast.specs.declared.tree.declaration.PairValue.{PairValue}
 use Rattle.slicc_ast.specs.declared.tree.declaration.Structure.{Structure}
 use Rattle.slicc_ast.specs.declared.tree.item.Tree.{Tree}
@@ -19,11 +21,16 @@ use Rattle.slicc_ast.specs.declared.tree.machine.Literal.{Literal}
 use Rattle.slicc_ast.specs.declared.tree.machine.Literal.TheVariants.{Number, Minus, Quoted, True, False}
 use Rattle.slicc_ast.specs.declared.tree.machine.Machine.{Machine}
 use Rattle.slicc_plan.specs.Attributes.{Attribute, first_attribute}
-use Rattle.slicc_plan.specs.Declarations.{within}
+use Rattle.slicc_plan.specs.Declarations.{Declaration, machine, enumeration, structure, states, parameter, object, out_port, in_port, action, function, symbol, state, member as member_declaration, formal, local, within, machine_declarations}
 use Rattle.slicc_plan.specs.FieldTypes.{FieldIn, field_type}
 use Rattle.slicc_plan.specs.InitialFields.{field_kind, initial_of, initial_value, structure_fields, value_by, value_written}
-use Rattle.slicc_plan.specs.Setups.{TableSort, ValueParameter, line_structure, literal_value, parameter_table, range_values, set_value, setup_in, table_of_lines, table_size, tables_from, tables_of, value_parameters, values_from, written_value}
-use Rattle.slicc_plan.specs.Types.{KnownType}
+use Rattle.slicc_plan.specs.MachineValues.{literal_value, value_in, value_of_kind, value_of_type, values_of, written_value}
+use Rattle.slicc_plan.specs.Setups.{parameter_table, range_values, set_value, setup_in, table_of_lines, table_size, tables_from, values_from}
+use Rattle.slicc_plan.specs.Tables.{line_structure, tables_of}
+use Rattle.slicc_plan.specs.TypeNumbers.{plain_kind}
+use Rattle.slicc_plan.specs.Types.{KnownType, is_built_in, type_in}
+use Rattle.slicc_plan.proofs.NoReferences.{all_flat}
+use Rattle.slicc_plan.specs.declared.built_in.BuiltInType.TheVariants.{Cycles}
 
 -- kinds of values
 
@@ -76,7 +83,7 @@ lines_have : (trees : List Tree) (m : Machine) (places : TableSize) (s : Option 
 lines_have trees m places None = refl
 lines_have trees m places (Some s) = fields_have trees (structure_fields (within m) s)
 
--- parameters
+-- values
 
 literal_has : (k : Kind) (l : Literal) → has_kind k (literal_value k l) ≡ true
 literal_has kind.Bool (Number n span) = refl
@@ -97,18 +104,18 @@ literal_has kind.Block l = refl
 literal_has (kind.Entry s) l = refl
 literal_has (kind.Tbe s) l = refl
 
-parameter_has : (k : Kind) (counts_cycles : Bool) (l : Option Literal) → has_kind k (written_value k counts_cycles l) ≡ true
-parameter_has k b (Some l) = literal_has k l
-parameter_has kind.Int true None = refl
-parameter_has kind.Int false None = refl
-parameter_has kind.Bool b None = refl
-parameter_has (kind.Enum number member) b None = same_number number
-parameter_has kind.Addr b None = refl
-parameter_has kind.Machine b None = refl
-parameter_has kind.Dest b None = refl
-parameter_has kind.Block b None = refl
-parameter_has (kind.Entry s) b None = refl
-parameter_has (kind.Tbe s) b None = refl
+value_has : (k : Kind) (counts_cycles : Bool) (l : Option Literal) → has_kind k (written_value k counts_cycles l) ≡ true
+value_has k b (Some l) = literal_has k l
+value_has kind.Int true None = refl
+value_has kind.Int false None = refl
+value_has kind.Bool b None = refl
+value_has (kind.Enum number member) b None = same_number number
+value_has kind.Addr b None = refl
+value_has kind.Machine b None = refl
+value_has kind.Dest b None = refl
+value_has kind.Block b None = refl
+value_has (kind.Entry s) b None = refl
+value_has (kind.Tbe s) b None = refl
 
 set_has : (k : Kind) (v : Value) (set : Option (ℕ × ℤ)) → has_kind k v ≡ true → has_kind k (set_value k v set) ≡ true
 set_has kind.Int v (Some (number, n)) h = refl
@@ -122,10 +129,38 @@ set_has kind.Block v set h = h
 set_has (kind.Entry s) v set h = h
 set_has (kind.Tbe s) v set h = h
 
-values_have : (sizes : Sizes) (number : ℕ) (ps : List ValueParameter) → has_kinds (map (λ (p : ValueParameter). p.kind) ps) (values_from sizes number ps) ≡ true
-values_have sizes number [] = refl
-values_have sizes number (p ∷ ps) =
-    both _ _ (set_has p.kind (written_value p.kind p.counts_cycles p.literal) (find (λ (s : ℕ × ℤ). s.0 == number) sizes.parameters) (parameter_has p.kind p.counts_cycles p.literal)) (values_have sizes (number + 1) ps)
+abbrev pub BeginsRight : FieldSymbol → Type 0
+BeginsRight f = has_kind f.kind f.initial ≡ true
+
+value_begins : (text : List ℕ) (t : Option KnownType) (l : Option Literal) (k : Option Kind) → All BeginsRight (value_of_kind text t l k)
+value_begins text t l None = All-nil BeginsRight
+value_begins text t l (Some k) =
+    All-cons BeginsRight _ [] (value_has k (is_built_in Cycles t) l) (All-nil BeginsRight)
+
+declared_begins : (trees : List Tree) (m : Machine) (d : Declaration) → All BeginsRight (value_in trees m d)
+declared_begins trees m (parameter p) = value_begins p.name.text (type_in trees (within m) p.kind.text) p.literal (option_and_then (plain_kind trees) (type_in trees (within m) p.kind.text))
+declared_begins trees m (object o) = value_begins o.name.text (type_in trees (within m) o.kind.text) None (option_and_then (plain_kind trees) (type_in trees (within m) o.kind.text))
+declared_begins trees m (machine d) = All-nil BeginsRight
+declared_begins trees m (enumeration d) = All-nil BeginsRight
+declared_begins trees m (structure d) = All-nil BeginsRight
+declared_begins trees m (states d) = All-nil BeginsRight
+declared_begins trees m (out_port d) = All-nil BeginsRight
+declared_begins trees m (in_port d) = All-nil BeginsRight
+declared_begins trees m (action d) = All-nil BeginsRight
+declared_begins trees m (function d) = All-nil BeginsRight
+declared_begins trees m (symbol d) = All-nil BeginsRight
+declared_begins trees m (state d) = All-nil BeginsRight
+declared_begins trees m (member_declaration d) = All-nil BeginsRight
+declared_begins trees m (formal d) = All-nil BeginsRight
+declared_begins trees m (local kind called span) = All-nil BeginsRight
+
+pub values_begin : (trees : List Tree) (m : Machine) → All (λ (f : FieldSymbol). has_kind f.kind f.initial ≡ true) (values_of trees m)
+values_begin trees m = all_flat BeginsRight (value_in trees m) (declared_begins trees m) (machine_declarations m)
+
+values_have : (sizes : Sizes) (number : ℕ) (fs : List FieldSymbol) → All BeginsRight fs → has_kinds (map (λ (f : FieldSymbol). f.kind) fs) (values_from sizes number fs) ≡ true
+values_have sizes number [] h = refl
+values_have sizes number (f ∷ fs) h =
+    both _ _ (set_has f.kind f.initial (find (λ (s : ℕ × ℤ). s.0 == number) sizes.parameters) (All-head BeginsRight f fs h)) (values_have sizes (number + 1) fs (All-tail BeginsRight f fs h))
 
 numbers_have : (rs : List (ℕ × ℕ)) → has_kinds (map (λ (v : Value). kind.Int) (flat_map (λ (r : ℕ × ℕ). value.Int (pos r.0) ∷ value.Int (pos r.1) ∷ []) rs)) (flat_map (λ (r : ℕ × ℕ). value.Int (pos r.0) ∷ value.Int (pos r.1) ∷ []) rs) ≡ true
 numbers_have [] = refl
@@ -143,7 +178,7 @@ append_have (j ∷ ks) ls (v ∷ vs) ws h k = both_of (has_kind j v) (has_kinds 
 
 parameters_have : (trees : List Tree) (number : ℕ) (m : Machine) (sizes : Sizes) → has_kinds (parameter_table trees number m sizes).kinds (parameter_table trees number m sizes).initial ≡ true
 parameters_have trees number m sizes =
-    append_have (map (λ (p : ValueParameter). p.kind) (value_parameters trees m)) (map (λ (v : Value). kind.Int) (range_values sizes)) (values_from sizes 0 (value_parameters trees m)) (range_values sizes) (values_have sizes 0 (value_parameters trees m)) (numbers_have sizes.machines)
+    append_have (map (λ (f : FieldSymbol). f.kind) (values_of trees m)) (map (λ (v : Value). kind.Int) (range_values sizes)) (values_from sizes 0 (values_of trees m)) (range_values sizes) (values_have sizes 0 (values_of trees m) (values_begin trees m)) (numbers_have sizes.machines)
 
 -- tables
 

@@ -15,7 +15,8 @@ use Rattle.slicc_plan.specs.Attributes.{attributes, has_attribute}
 use Rattle.slicc_plan.specs.Buffers.{BufferIn, Place, own, to_network, from_network, buffer_in, buffer_of, virtual_network}
 use Rattle.slicc_plan.specs.Declarations.{Declaration, machine, enumeration, structure, states, parameter, object, out_port, in_port, action, function, symbol, state, member, formal, local, within, machine_declarations, machines_of}
 use Rattle.slicc_plan.specs.MessageTypes.{message_type, type_at}
-use Rattle.slicc_plan.specs.Setups.{HasTypeOf, attributes_of, buffer_by, buffer_place, is_ordered, kinds_on, network_of, setup_in}
+use Rattle.slicc_plan.specs.Setups.{HasTypeOf, attributes_of, buffer_by, buffer_place, is_ordered, kinds_on, setup_in}
+use Rattle.ruby_value.specs.NetworkOf.{network_of}
 use Rattle.slicc_plan.specs.Types.{KnownType, is_built_in, type_in}
 use Rattle.slicc_plan.specs.Values.{bad_attributes, bad_buffer_attributes, bad_entries, bad_literal, bad_object_attributes, bad_values_of, is_either, is_number_within}
 use Rattle.slicc_plan.proofs.Room.{first_within, left_none, right_none, values_kept}
@@ -45,12 +46,12 @@ buffers_typed trees number sizes m = all_typed trees number m (machine_declarati
 abbrev OnNetwork : BufferSetup → Type 0
 OnNetwork b = IfSome (network_of b.place) (λ n. n ≤ 15)
 
-abbrev PlaceInLimits : Place → Type 0
+abbrev pub PlaceInLimits : Place → Type 0
 PlaceInLimits own = Unit {0}
 PlaceInLimits (to_network n) = n ≤ 15
 PlaceInLimits (from_network n) = n ≤ 15
 
-abbrev BufferInLimits : Option BufferIn → Type 0
+abbrev pub BufferInLimits : Option BufferIn → Type 0
 BufferInLimits None = Unit {0}
 BufferInLimits (Some b) = PlaceInLimits b.place
 
@@ -73,7 +74,7 @@ object_within : (t : Option KnownType) (name : Name) (pairs : Pairs) (span : Spa
 object_within t name pairs span e =
     buffer_within (is_built_in Buffer t) name pairs span (left_none (cond (is_built_in Buffer t) (bad_buffer_attributes pairs) []) (cond (is_built_in TbeTable t) (bad_entries pairs) []) e)
 
-declared_within : (trees : List Tree) (m : Machine) (d : Declaration) → bad_values_of trees (within m) d ≡ [] → BufferInLimits (buffer_in trees m d)
+pub declared_within : (trees : List Tree) (m : Machine) (d : Declaration) → bad_values_of trees (within m) d ≡ [] → BufferInLimits (buffer_in trees m d)
 declared_within trees m (parameter p) e =
     object_within (type_in trees (within m) p.kind.text) p.name p.pairs p.span (right_none (bad_literal (type_in trees (within m) p.kind.text) p.literal) (bad_object_attributes (type_in trees (within m) p.kind.text) p.pairs) e)
 declared_within trees m (object o) e =

@@ -3,13 +3,16 @@ use Rattle.std.proofs.Common.{◌≡◌, ◌++◌, ◌+◌, ◌≤◌, ◌==◌,
 use Rattle.ruby_value.specs.declared.setup.Sizes.{Sizes}
 use Rattle.ruby_value.specs.declared.setup.TableSetup.{TableSetup}
 use Rattle.ruby_value.specs.declared.setup.TableSize.{TableSize}
+use Rattle.ruby_symbols.specs.declared.machine.TableSort.{TableSort}
+use Rattle.ruby_symbols.specs.declared.machine.TableSort.TheVariants as sort
 use Rattle.slicc_ast.specs.declared.tree.declaration.Structure.{Structure}
 use Rattle.slicc_ast.specs.declared.tree.declaration.Pairs.{Pairs}
 use Rattle.slicc_ast.specs.declared.tree.item.Tree.{Tree}
 use Rattle.slicc_ast.specs.declared.tree.machine.Machine.{Machine}
 use Rattle.slicc_plan.specs.Buffers.{BufferIn, buffer_in, buffers_of, listed}
 use Rattle.slicc_plan.specs.Declarations.{Declaration, machine_declarations}
-use Rattle.slicc_plan.specs.Setups.{TableSort, cache, directory, tbes, attributes_of, buffer_by, cache_size, is_parameters, line_structure, parameter_table, setup_in, table_of_lines, table_size, tables_from, tables_of, tbe_size}
+use Rattle.slicc_plan.specs.Setups.{attributes_of, buffer_by, cache_size, is_parameters, parameter_table, setup_in, table_of_lines, table_size, tables_from, tbe_size}
+use Rattle.slicc_plan.specs.Tables.{line_structure, tables_of}
 
 tables_as_many : (trees : List Tree) (m : Machine) (sizes : Sizes) (number : ℕ) (ts : List TableSort) → length (tables_from trees m sizes number ts) ≡ length ts
 tables_as_many trees m sizes number [] = refl
@@ -49,9 +52,9 @@ tbe_is_none written None = refl
 tbe_is_none written (Some t) = refl
 
 size_is_none : (sizes : Sizes) (number : ℕ) (t : TableSort) → is_parameters (table_size sizes number t) ≡ false
-size_is_none sizes number cache = cache_is_none _
-size_is_none sizes number directory = refl
-size_is_none sizes number (tbes written) = tbe_is_none written _
+size_is_none sizes number sort.Cache = cache_is_none _
+size_is_none sizes number sort.Directory = refl
+size_is_none sizes number (sort.Tbe written) = tbe_is_none written _
 
 same_step : (table total : ℕ) → (table + 1 == total) ≡ (suc table + 1 == suc total)
 same_step table total = grind arith

@@ -21,6 +21,7 @@ pub mod JudgedStatements
 pub mod Limits
 pub mod MachineAmong
 pub mod MachineParts
+pub mod MachineValues
 pub mod Machines
 pub mod Meanings
 pub mod MessageTypes
@@ -32,7 +33,11 @@ pub mod Returns
 pub mod Scopes
 pub mod Setups
 pub mod StateFunctions
+pub mod SymbolsOf
+pub mod SymbolsOfMachines
+pub mod SymbolsOfTypes
 pub mod TableNeeds
+pub mod Tables
 pub mod TransitionNames
 pub mod TwiceDeclared
 pub mod TwoTransitions

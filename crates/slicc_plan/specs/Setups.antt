@@ -157,11 +157,6 @@ HasTypeOf trees b = has_type b.place
         (b.kinds ≡ kinds_on trees (network_type trees network)) × (receivers ≡ receivers_field trees (network_type trees network))
     has_type (place.From network) = b.kinds ≡ kinds_on trees (network_type trees network)
 
-abbrev pub network_of : BufferPlace → Option ℕ
-network_of place.Local = None
-network_of (place.To network receivers) = Some network
-network_of (place.From network) = Some network
-
 abbrev pub buffer_by : List Tree → ℕ → Option Pairs → Option BufferIn → List BufferSetup
 buffer_by trees number pairs None = []
 buffer_by trees number pairs (Some b) =

@@ -153,13 +153,13 @@ abbrev pub is_its : Machine → Scope → Structure → Option Structure → Boo
 is_its m scope s None = false
 is_its m scope s (Some own) = is_same_known (structured scope s) (structured (within m) own)
 
-abbrev pub reference_kind : List Tree → Machine → Scope → Structure → ℕ → Option Kind
-reference_kind trees m scope s number =
+abbrev pub reference_kind : Machine → Scope → Structure → ℕ → Option Kind
+reference_kind m scope s number =
     cond (is_its m scope s (tbe_structure m)) (Some (kind.Tbe number))
     (cond (is_its m scope s (entry_structure m) || is_its m scope s (directory_structure m)) (Some (kind.Entry number)) None)
 
 abbrev pub value_kind : List Tree → Machine → KnownType → Option Kind
 value_kind trees m (structured scope s) =
-    option_and_then (reference_kind trees m scope s) (structure_number trees (structured scope s))
+    option_and_then (reference_kind m scope s) (structure_number trees (structured scope s))
 value_kind trees m (built_in b) = built_in_kind b
 value_kind trees m (enumerated scope text members) = plain_kind trees (enumerated scope text members)

@@ -3,10 +3,12 @@ ghost use Rattle.std.specs.Option.{option_copied};
 ghost use Rattle.slicc_plan.specs.AllRules.{IsAccepted, shapes_of};
 ghost use Rattle.slicc_plan.specs.Counts.{counts_of};
 ghost use Rattle.slicc_plan.specs.Declarations.{machines_of};
+ghost use Rattle.slicc_plan.specs.SymbolsOf.{symbols_of};
 
 use crate::machine::machine_at;
 use crate::{Counts, NoMemory};
 use ruby_base::Seq;
+use ruby_symbols::Symbols;
 use slicc_ast::tree::{Machine, Tree};
 use slicc_same::same;
 use std::alloc::Global;
@@ -14,11 +16,12 @@ use std::marker::Model;
 use std::sync::Arc;
 
 /// A protocol that keeps all rules. It keeps the trees of its files in the order of reading, and a contract sees it as them: all
-/// else in it, as its machines with their states, events, ports and transitions, is read off them. How many of each there are is
-/// counted once. Copies share the trees.
+/// else in it is read off them. Its symbols, that is its types and machines with their states, buffers, ports, functions and
+/// transitions, are made once, and counted once. Copies share trees and symbols.
 #[derive(Drop)]
 pub struct Plan {
     trees: Arc<Seq<Tree>, Global>,
+    symbols: Arc<Symbols, Global>,
     counts: Counts,
 }
 
@@ -28,6 +31,7 @@ impl Model for Plan {
     ghost use Rattle.std.specs.Prelude.{◌≡◌};
     ghost use Rattle.slicc_plan.specs.AllRules.{IsAccepted};
     ghost use Rattle.slicc_plan.specs.Counts.{counts_of};
+    ghost use Rattle.slicc_plan.specs.SymbolsOf.{symbols_of};
     ghost use Rattle.std.specs.Coded.{coded_list};
     ghost use Rattle.slicc_ast.specs.contracts.tree.item.Tree as tree;
 
@@ -37,18 +41,25 @@ impl Model for Plan {
 
     ghost view = { λ p. p.trees.value };
 
-    ghost invariant = { λ p. IsAccepted p.trees.value × (p.counts ≡ counts_of p.trees.value) };
+    ghost invariant = { λ p. IsAccepted p.trees.value × (p.symbols.value ≡ symbols_of p.trees.value) × (p.counts ≡ counts_of p.trees.value) };
 }
 
 impl Plan {
-    /// The plan of trees that keep all rules, in which there is as much as these counts say.
-    pub fn of(alloc: Global, trees: Seq<Tree>, counts: Counts) -> Result<Plan, NoMemory>
+    /// The plan of trees that keep all rules, whose symbols these are, and in which there is as much as these counts say.
+    pub fn of(
+        alloc: Global,
+        trees: Seq<Tree>,
+        symbols: Arc<Symbols, Global>,
+        counts: Counts,
+    ) -> Result<Plan, NoMemory>
         requires accepted { IsAccepted trees }
+        requires symbols { symbols.value ≡ symbols_of trees }
         requires counts { counts ≡ counts_of trees }
         ensures { IfOk result (λ plan. plan ≡ trees) }
     {
         Ok(Plan {
             trees: Arc::new(alloc, trees)?,
+            symbols,
             counts,
         })
     }
@@ -61,6 +72,13 @@ impl Plan {
         self.trees.as_slice()
     }
 
+    /// What the protocol declares, and what its names stand for. It takes no memory.
+    pub fn symbols(&self) -> &Symbols
+        ensures { result.now ≡ symbols_of self.now }
+    {
+        &self.symbols
+    }
+
     /// The machine of this number, which counts from 0 in the order of reading and of the text, or `None` where there are
     /// fewer.
     pub fn machine(&self, number: u16) -> Option<&Machine>
@@ -70,12 +88,13 @@ impl Plan {
     }
 }
 
-/// One more plan of the same protocol, which shares its trees.
+/// One more plan of the same protocol, which shares its trees and symbols.
 pub fn copy_plan(plan: &Plan) -> Result<Plan, NoMemory>
     ensures { IfOk result (λ copy. copy ≡ plan.now) }
 {
     Ok(Plan {
         trees: Arc::try_clone(&plan.trees)?,
+        symbols: Arc::try_clone(&plan.symbols)?,
         counts: plan.counts,
     })
 }

@@ -11,7 +11,9 @@ ghost use Rattle.slicc_ast.specs.declared.tree.machine.Machine.{Machine as Machi
 ghost use Rattle.slicc_plan.specs.AllRules.{IsAccepted};
 ghost use Rattle.slicc_plan.specs.Buffers.{buffers_of};
 ghost use Rattle.slicc_plan.specs.Declarations.{machines_of};
-ghost use Rattle.slicc_plan.specs.Setups.{AreSizesOf, HasRoom, HasTypeOf, NamesReceivers, is_parameters, network_of, setup_in, tables_of};
+ghost use Rattle.slicc_plan.specs.Setups.{AreSizesOf, HasRoom, HasTypeOf, NamesReceivers, is_parameters, setup_in};
+ghost use Rattle.ruby_value.specs.NetworkOf.{network_of};
+ghost use Rattle.slicc_plan.specs.Tables.{tables_of};
 
 /// A machine has its tables and that of its parameters, and its buffers.
 pub fn setup_has_its_parts()
@@ -27,7 +29,7 @@ pub fn initial_fields_have_their_kinds()
         → All (λ (s : TableSetup). IsTrue (has_kinds s.kinds s.initial)) (setup_in trees number sizes m).tables }
 {}
 
-/// No field of a line, no parameter and no field of a message is a reference.
+/// No field of a line, no value of a machine and no field of a message is a reference.
 pub fn no_field_is_a_reference()
     ensures tables { (trees : List TreeRecord) (number : ℕ) (sizes : Sizes) (m : MachineRecord)
         → All (λ (s : TableSetup). All (λ (k : Kind). is_reference k ≡ false) s.kinds) (setup_in trees number sizes m).tables }
@@ -50,7 +52,7 @@ pub fn tables_have_room()
         → All (λ (s : TableSetup). HasRoom s.size) (setup_in trees number sizes m).tables }
 {}
 
-/// The table of the parameters is a machine's last one, and no other is of that sort.
+/// The table of its values is a machine's last one, and no other is of that sort.
 pub fn parameters_are_last()
     ensures { (trees : List TreeRecord) (number : ℕ) (sizes : Sizes) (m : MachineRecord) (table : ℕ)
         → IfSome (slice_get (setup_in trees number sizes m).tables table)

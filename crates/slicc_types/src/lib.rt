@@ -8,5 +8,5 @@ mod resolving;
 
 pub use body_rules::broken_bodies;
 pub use machines::broken_machines;
-pub use resolving::{resolve, told};
+pub use resolving::{Kept, resolve, told};
 pub use slicc_names::broken_declarations;

@@ -3,16 +3,19 @@ ghost use Rattle.std.specs.Prelude.{◌≡◌, [], IfOk, MatchResult};
 ghost use Rattle.slicc_plan.specs.AllRules.{IsPlanOf};
 ghost use Rattle.slicc_plan.specs.BrokenBodies.{broken_bodies};
 ghost use Rattle.slicc_plan.specs.BrokenDeclarations.{broken_declarations};
-ghost use Rattle.slicc_types.specs.Judged.{IsCounted, IsJudged};
+ghost use Rattle.slicc_types.specs.Judged.{IsCounted, IsJudged, IsKept, IsResolved};
 
 use crate::machines::broken_machines;
 use body_rules::broken_bodies;
 use declared_types::Scopes;
+use protocol_symbols::protocol_symbols;
 use ruby_base::{NoMemory, Seq};
+use ruby_symbols::Symbols;
 use slicc_ast::tree::Tree;
 use slicc_names::{broken_declarations, refusal};
 use slicc_plan::{Broken, Counts, Plan, Refusal};
 use std::alloc::Global;
+use std::sync::Arc;
 
 // What is told where no rule of declarations or of bodies is broken.
 fn told_of_machines(alloc: Global, scopes: &Scopes<'_>) -> Result<Result<Counts, Broken>, NoMemory>
@@ -48,30 +51,53 @@ fn told_of(alloc: Global, scopes: &Scopes<'_>) -> Result<Result<Counts, Broken>,
     }
 }
 
-/// How much the protocol with these trees has, where it keeps all rules; else the one that is told of those that it breaks.
-pub fn told(alloc: Global, trees: &[Tree]) -> Result<Result<Counts, Broken>, NoMemory>
-    ensures { IfOk result (IsJudged trees.now) }
-{
-    let scopes = Scopes::new(alloc, trees)?;
-    told_of(alloc, &scopes)
+/// What a plan keeps beside the trees of its protocol.
+#[derive(Drop)]
+pub struct Kept {
+    pub symbols: Arc<Symbols, Global>,
+    pub counts: Counts,
 }
 
-// How much the protocol with these trees has, where it keeps all rules, or its refusal.
-fn accept(alloc: Global, trees: &[Tree]) -> Result<Counts, Refusal>
-    ensures { MatchResult result (IsCounted trees.now) (λ r. IsPlanOf trees.now (Err r)) }
+fn with_symbols(alloc: Global, scopes: Scopes<'_>, counts: Counts) -> Result<Kept, NoMemory>
+    requires { IsCounted scopes.entry.trees.now counts }
+    ensures { IfOk result (IsKept scopes.entry.trees.now) }
+{
+    let symbols = protocol_symbols(alloc, scopes)?;
+    Ok(Kept {
+        symbols: Arc::new(alloc, symbols)?,
+        counts,
+    })
+}
+
+/// What the plan of the protocol with these trees keeps, where it keeps all rules; else the one that is told of those that it
+/// breaks.
+pub fn told(alloc: Global, trees: &[Tree]) -> Result<Result<Kept, Broken>, NoMemory>
+    ensures { IfOk result (IsResolved trees.now) }
+{
+    let scopes = Scopes::new(alloc, trees)?;
+    let judged = told_of(alloc, &scopes)?;
+    match judged {
+        Err(b) => Ok(Err(b)),
+        Ok(counts) => Ok(Ok(with_symbols(alloc, scopes, counts)?)),
+    }
+}
+
+// The same, where it breaks rules as a refusal.
+fn accept(alloc: Global, trees: &[Tree]) -> Result<Kept, Refusal>
+    ensures { MatchResult result (IsKept trees.now) (λ r. IsPlanOf trees.now (Err r)) }
 {
     match told(alloc, trees) {
-        Ok(Ok(counts)) => Ok(counts),
+        Ok(Ok(kept)) => Ok(kept),
         Ok(Err(b)) => Err(refusal(b)),
         Err(NoMemory) => Err(Refusal::NoMemory),
     }
 }
 
-fn plan_of(alloc: Global, trees: Seq<Tree>, counts: Counts) -> Result<Plan, Refusal>
-    requires { IsCounted trees counts }
+fn plan_of(alloc: Global, trees: Seq<Tree>, kept: Kept) -> Result<Plan, Refusal>
+    requires { IsKept trees kept }
     ensures { IsPlanOf trees result }
 {
-    match Plan::of(alloc, trees, counts) {
+    match Plan::of(alloc, trees, kept.symbols, kept.counts) {
         Ok(plan) => Ok(plan),
         Err(NoMemory) => Err(Refusal::NoMemory),
     }
@@ -82,6 +108,6 @@ fn plan_of(alloc: Global, trees: Seq<Tree>, counts: Counts) -> Result<Plan, Refu
 pub fn resolve(alloc: Global, trees: Seq<Tree>) -> Result<Plan, Refusal>
     ensures { IsPlanOf trees result }
 {
-    let counts = accept(alloc, trees.as_slice())?;
-    plan_of(alloc, trees, counts)
+    let kept = accept(alloc, trees.as_slice())?;
+    plan_of(alloc, trees, kept)
 }

@@ -1,6 +1,6 @@
 -- The two lamps meet what the laws of runs need.
-use Rattle.std.proofs.Common.{◌≡◌, ◌<◌, ◌+◌, ◌||◌, ◌∙◌, ◌==◌, ◌≤◌, not, nat_lt, ℕ, zero, suc, Bool, true, false, Some, List, [], ◌∷◌, ◌++◌, All, Contains, length, slice_get, count_by, nat_le, cond, refl, sym, ap, subst, arith}
-use Rattle.std.proofs.lemmas.Bool.{ne_eqb, cond_both}
+use Rattle.std.proofs.Common.{◌≡◌, eqb, IsTrue, ◌<◌, ◌+◌, ◌||◌, ◌∙◌, ◌==◌, ◌≤◌, not, nat_lt, ℕ, zero, suc, Bool, true, false, Some, List, [], ◌∷◌, ◌++◌, All, Contains, length, slice_get, count_by, nat_le, cond, refl, sym, ap, subst, arith}
+use Rattle.std.proofs.lemmas.Bool.{ne_eqb, cond_both, or_right}
 use Rattle.std.proofs.lemmas.Bool.Decides.{nat_tests}
 use Rattle.std.proofs.lemmas.Option.{same_Some}
 use Rattle.std.proofs.lemmas.List.Elements.{All-nil, All-cons, All-contains}
@@ -9,9 +9,11 @@ use Rattle.ruby_value.specs.Ascending.{has_mark, marks_from}
 use Rattle.ruby_value.specs.declared.message.MsgNo.{MsgNo}
 use Rattle.run_journal.specs.declared.entry.FireNote.{FireNote}
 use Rattle.run_journal.specs.declared.entry.StopAt.{StopAt}
-use Rattle.ruby_runs.specs.Rules.{Acts, Outcome, Full, Fired, Stop, Idle, Delivery, Scan, Tried}
+use Rattle.ruby_runs.specs.Rules.{Acts, Outcome, Full, Fired, Stop, Idle, Scan, Tried}
+use Rattle.ruby_value.specs.declared.message.Delivery.{Delivery}
 use Rattle.ruby_runs.specs.InvalidExactly.{invalid_at}
-use Rattle.ruby_runs.specs.Premises.{Keeps, KeepsMarks, KeepsMail, MovesMail, AllSuit, mail_numbers, IsSound, CarriesMail, ReportsInvalid, numbers_from}
+use Rattle.ruby_runs.specs.Premises.{Keeps, KeepsMarks, KeepsMail, MovesMail, AllSuit, mail_numbers, IsSound, CarriesMail, ReportsInvalid}
+use Rattle.ruby_value.specs.NumbersFrom.{numbers_from}
 use Rattle.ruby_runs.specs.Step.{delivery_numbers}
 use Rattle.two_lamps.specs.Lamps.{Lamp, Ping, lamps, dark, ping, lit_by, other, pair, scan_inbox, FitsLamp, SuitsLamp, LeadsLamps}
 
@@ -62,9 +64,13 @@ module _ (c now : ℕ) (x : Lamp) (P : Scan Lamp Ping → Type 0) (scans : Scans
 later : (mark now : ℕ) (marks : List ℕ) → now < mark → has_mark (mark ∷ marks) now ≡ has_mark marks now
 later mark now marks above = ap (λ (b : Bool). b || has_mark marks now) (ne_eqb mark now (λ same. omega (arith, same)))
 
+-- nor is one lost by another one
+beside : (mark cycle : ℕ) (marks : List ℕ) → IsTrue (has_mark marks cycle) → IsTrue (has_mark (mark ∷ marks) cycle)
+beside mark cycle marks has = or_right (eqb mark cycle) (has_mark marks cycle) has
+
 keeps : (c now : ℕ) (x after : Lamp) → FitsLamp c after now → has_mark after.marks now ≡ has_mark x.marks now
-    → Keeps lamps FitsLamp SuitsLamp LeadsLamps c now x after
-keeps c now x after fits awake = record { fits = fits; awake = awake }
+    → ((cycle : ℕ) → now < cycle → IsTrue (has_mark x.marks cycle) → IsTrue (has_mark after.marks cycle)) → Keeps lamps FitsLamp SuitsLamp LeadsLamps c now x after
+keeps c now x after fits awake later = record { fits = fits; awake = awake; later = later }
 
 abbrev Fires : ℕ → ℕ → Lamp → Outcome Lamp Ping → Type 0
 Fires c now x =
@@ -78,7 +84,7 @@ fires c now x fits =
       idles = tt;
       lights = λ m rest first is_dark.
           let none : x.sent ≡ 0 = fits ∙ is_dark in
-          (keeps c now x _ (omega (arith, none)) refl, All-cons (λ d. now < d.message.arrival) _ [] (omega arith) (All-nil (λ d. now < d.message.arrival)));
+          (keeps c now x _ (omega (arith, none)) refl (λ cycle above has. has), All-cons (λ d. now < d.message.arrival) _ [] (omega arith) (All-nil (λ d. now < d.message.arrival)));
       fails = λ s. tt;
     })
 
@@ -93,11 +99,11 @@ opens P holds (suc zero) x is = subst P (same_Some dark x is) holds
 opens P holds (suc (suc c)) x is = absurd (cc is)
 
 requests : (P : Delivery Ping → Type 0) (d : Bool) (xs : List Lamp) (now issued : ℕ)
-    → P (record { receiver = 0; message = ping 2 issued now }) → All P (lamps.drive d xs now issued).requests
+    → P (record { receiver = 0; message = ping 2 issued now }) → All P (lamps.driver_turn d xs now issued).requests
 requests P true xs now issued holds = All-nil P
 requests P false xs now issued holds = All-cons P _ [] holds (All-nil P)
 
-goes_on : (d : Bool) (xs : List Lamp) (now issued : ℕ) → LeadsLamps d issued now → issued + length (lamps.drive d xs now issued).requests ≡ 1
+goes_on : (d : Bool) (xs : List Lamp) (now issued : ℕ) → LeadsLamps d issued now → issued + length (lamps.driver_turn d xs now issued).requests ≡ 1
 goes_on true xs now issued leads = omega (arith, leads)
 goes_on false xs now issued leads = omega (arith, leads)
 
@@ -108,12 +114,12 @@ sound =
       starts = refl;
       fires = λ c now x fits note acts copies after is. subst (Fires c now x) is (fires c now x fits);
       idles = λ c now x fits after is.
-          subst (OfIdle (Keeps lamps FitsLamp SuitsLamp LeadsLamps c now x)) is (idles c now x (Keeps lamps FitsLamp SuitsLamp LeadsLamps c now x) (keeps c now x x fits refl));
-      fills = λ c now x fits full. keeps c now x _ fits (later (now + 1) now x.marks (omega arith));
-      stops = λ c now x fits at is. keeps c now x _ fits refl;
-      arrives = λ c now x m fits suits. keeps c now x _ fits (later m.arrival now x.marks suits);
+          subst (OfIdle (Keeps lamps FitsLamp SuitsLamp LeadsLamps c now x)) is (idles c now x (Keeps lamps FitsLamp SuitsLamp LeadsLamps c now x) (keeps c now x x fits refl (λ cycle above has. has)));
+      fills = λ c now x fits full. keeps c now x _ fits (later (now + 1) now x.marks (omega arith)) (λ cycle above has. beside (now + 1) cycle x.marks has);
+      stops = λ c now x fits at is. keeps c now x _ fits refl (λ cycle above has. has);
+      arrives = λ c now x m fits suits. keeps c now x _ fits (later m.arrival now x.marks suits) (λ cycle above has. beside m.arrival cycle x.marks has);
       begins = λ c now next x fits lt within. fits;
-      serves = λ d xs now issued asked c x there. keeps c now x x (asked.fits c x there) refl;
+      serves = λ d xs now issued asked c x there. keeps c now x x (asked.fits c x there) refl (λ cycle above has. has);
       asks = λ d xs now issued asked. requests (λ e. now < e.message.arrival) d xs now issued (omega arith);
       goes_on = λ d xs now issued next asked lt within. goes_on d xs now issued asked.leads;
     }
@@ -167,7 +173,7 @@ moves c now x =
     })
 
 request_numbers : (d : Bool) (xs : List Lamp) (now issued : ℕ)
-    → delivery_numbers lamps (lamps.drive d xs now issued).requests ≡ numbers_from 2 issued (length (lamps.drive d xs now issued).requests)
+    → delivery_numbers lamps (lamps.driver_turn d xs now issued).requests ≡ numbers_from 2 issued (length (lamps.driver_turn d xs now issued).requests)
 request_numbers true xs now issued = refl
 request_numbers false xs now issued = refl
 

@@ -8,7 +8,7 @@ use Rattle.ruby_value.specs.declared.message.MsgNo.{MsgNo}
 use Rattle.run_journal.specs.declared.entry.End.TheVariants as end
 use Rattle.run_journal.specs.declared.entry.Entry.{Entry}
 use Rattle.run_journal.specs.declared.entry.Entry.TheVariants.{Ended}
-use Rattle.run_journal.specs.declared.entry.Sent.{Sent}
+use Rattle.ruby_value.specs.declared.message.Sent.{Sent}
 use Rattle.run_journal.specs.declared.event.Event.{Event}
 use Rattle.run_journal.specs.declared.event.Event.TheVariants.{Take, Fire, Done, Turn}
 use Rattle.run_journal.specs.declared.verdict.Verdict.TheVariants as verdict
@@ -72,7 +72,7 @@ lamps =
       cycles = 10;
       scan = λ c x now. if x.fired then record { outcome = Full; tried = [] } else scan_inbox c now x x.inbox;
       has_row = λ c state event. state == 0;
-      drive = λ d xs now issued.
+      driver_turn = λ d xs now issued.
           record {
             driver = true;
             controller_after = λ c x. x;

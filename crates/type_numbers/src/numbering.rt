@@ -9,7 +9,7 @@ use crate::declarations::declared;
 use declared_types::{Declared, Scope, Scopes, is_external};
 use machine_table::machines;
 use ruby_base::{NoMemory, Seq};
-use slicc_ast::tree::{Decl, Machine, Tree};
+use slicc_ast::tree::{Decl, Machine};
 use std::alloc::Global;
 
 /// The sorts of types that are numbered. State declarations are enumerations too.
@@ -149,15 +149,14 @@ fn types_of_sort<'a>(
     Ok(list)
 }
 
-/// The types of the protocol with these trees.
-pub fn number_types<'a>(alloc: Global, trees: &'a [Tree]) -> Result<TypeNumbers<'a>, NoMemory>
-    ensures trees { IfOk result (λ types. trees_of types ≡ trees.now) }
+/// The types of the protocol of these scopes.
+pub fn number_types<'a>(alloc: Global, scopes: Scopes<'a>) -> Result<TypeNumbers<'a>, NoMemory>
+    ensures trees { IfOk result (λ types. trees_of types ≡ scopes.entry.trees.now) }
     ensures numbered { IfOk result (λ types. AreNumbered types) }
 {
-    let scopes = Scopes::new(alloc, trees)?;
     let enumerations = types_of_sort(alloc, &scopes, TypeSort::Enumeration)?;
     let structures = types_of_sort(alloc, &scopes, TypeSort::Structure)?;
-    let machines = machines(alloc, trees)?;
+    let machines = machines(alloc, scopes.trees)?;
     Ok(TypeNumbers {
         scopes,
         machines,

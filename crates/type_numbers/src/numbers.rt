@@ -1,7 +1,7 @@
 //! The numbers of declared types.
 ghost use Rattle.std.specs.Prelude.{◌≡◌, IfOk, find, map, position};
 ghost use Rattle.std.specs.Option.{option_map};
-ghost use Rattle.slicc_plan.specs.TypeNumbers.{declared_number, declares, parameters_number, structure_number};
+ghost use Rattle.slicc_plan.specs.TypeNumbers.{declared_number, declares, parameters_number, request_number, structure_number};
 ghost use Rattle.slicc_plan.specs.Types.{structured};
 ghost use Rattle.declared_types.specs.Lent.{scope_of, type_of};
 ghost use Rattle.type_numbers.specs.declared.numbering.Scoped.{Scoped as ScopedLent};
@@ -13,6 +13,7 @@ use declared_types::{KnownType, Scope, declared_type};
 use machine_table::kept_number;
 use ruby_base::NoMemory;
 use slicc_ast::tree::Structure;
+use slicc_plan::BuiltInType;
 
 fn declares(t: KnownType<'_>, d: &Scoped<'_>) -> bool
     ensures { result ≡ declares (type_of t.entry) (scoped_of d.now) }
@@ -82,6 +83,28 @@ pub fn structure_number(
     ensures { IfOk result (λ number. number ≡ structure_number (trees_of types.now) (structured (scope_of scope.entry) s.now)) }
 {
     kept(place_among(&types.structures, KnownType::Structure(scope, s)))
+}
+
+fn request_number(types: &TypeNumbers<'_>, b: BuiltInType) -> Result<Option<u16>, NoMemory>
+    requires { AreNumbered types.now }
+    ensures { IfOk result (λ number. number ≡ request_number (trees_of types.now) b) }
+{
+    match b {
+        BuiltInType::Request => kept(Some(types.structures.len())),
+        _ => Ok(None),
+    }
+}
+
+/// The number of the structure that a type is, where it is one.
+pub fn type_number<'a>(types: &TypeNumbers<'a>, t: KnownType<'a>) -> Result<Option<u16>, NoMemory>
+    requires { AreNumbered types.now }
+    ensures { IfOk result (λ number. number ≡ structure_number (trees_of types.now) (type_of t.entry)) }
+{
+    match t {
+        KnownType::BuiltIn(b) => request_number(types, b),
+        KnownType::Enumeration(..) | KnownType::States(..) => Ok(None),
+        KnownType::Structure(scope, s) => structure_number(types, scope, s),
+    }
 }
 
 /// The number of what the parameters of the machine of this number are kept in.

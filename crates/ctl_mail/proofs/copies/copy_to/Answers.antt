@@ -1,5 +1,6 @@
 use Rattle.std.proofs.Common.{◌≡◌, ◌<◌, ◌+◌, ◌*◌, ℕ, true, false, Option, unwrap_or, sym, subst, ap, ◌∙◌, arith}
-use Rattle.ctl_face.specs.Acts.{Copy}
+use Rattle.ruby_value.specs.declared.message.Delivery.{Delivery}
+use Rattle.ruby_value.specs.declared.message.Message.{Message}
 use Rattle.ctl_face.specs.LocalView.{Actor}
 use Rattle.ctl_face.specs.Lasts.{last_at, lasts_on}
 use Rattle.ctl_face.specs.Routing.{is_ordered, path_to, receiving_buffer}
@@ -22,7 +23,7 @@ returns-then-ordered-clause-after c =
     let me = c.args.me in
     let drawn = c.is_some-drawn.result in
     let arrival = c.network_arrival-arrival.result in
-    let kept : Copy = copy_at me old.counts.sent c.args.receiver c.unwrap_or-buffer.result arrival c.args.fields in
+    let kept : Delivery Message = copy_at me old.counts.sent c.args.receiver c.unwrap_or-buffer.result arrival c.args.fields in
     let sent : old.counts.sent ≡ mail.sent = ap (λ (k : SendCounts). k.sent) c.requires.changes.1.counts in
     let actor : Actor = actor_of me c.args.seed c.args.routes.now in
     let to = unwrap_or (receiving_buffer c.args.routes.now c.args.receiver c.args.network) 0 in
@@ -32,7 +33,7 @@ returns-then-ordered-clause-after c =
     c.network_arrival-arrival.ensures
     ∙ arrival-as c.is_ordered-ordered.result (is_ordered c.args.routes.now c.args.network) (old.cycle + c.args.latency) c.path_to.result (path_to c.args.routes.now me c.args.receiver) c.next_jitter-jitter.result (jitter_at actor mail.drawn) last
     c.is_ordered-ordered.ensures c.path_to.ensures (c.next_jitter-jitter.ensures.value ∙ ap (jitter_at actor) (ap (λ (k : SendCounts). k.drawn) c.requires.changes.1.counts)) in
-    let wanted : Copy = copy_at me mail.sent c.args.receiver to at c.args.fields in
+    let wanted : Delivery Message = copy_at me mail.sent c.args.receiver to at c.args.fields in
     let same : kept ≡ wanted =
     copy-as me old.counts.sent mail.sent c.args.receiver c.unwrap_or-buffer.result to arrival at c.args.fields sent
     (c.unwrap_or-buffer.ensures ∙ ap (λ (o : Option ℕ). unwrap_or o 0) c.receiving_buffer.ensures) arrives in
@@ -52,7 +53,7 @@ returns-then-ordered-clause-changes c =
     let me = c.args.me in
     let drawn = c.is_some-drawn.result in
     let arrival = c.network_arrival-arrival.result in
-    let kept : Copy = copy_at me old.counts.sent c.args.receiver c.unwrap_or-buffer.result arrival c.args.fields in
+    let kept : Delivery Message = copy_at me old.counts.sent c.args.receiver c.unwrap_or-buffer.result arrival c.args.fields in
     let sent : old.counts.sent ≡ mail.sent = ap (λ (k : SendCounts). k.sent) c.requires.changes.1.counts in
     let number : kept.message.number ≡ record { sender = me; count = mail.sent } = λ i. record { sender = me; count = sent i } in
     let last = last_at (lasts_on mail.network_last c.args.network) c.args.receiver in
@@ -74,7 +75,7 @@ returns-then-ordered-clause-may c =
     let me = c.args.me in
     let drawn = c.is_some-drawn.result in
     let arrival = c.network_arrival-arrival.result in
-    let kept : Copy = copy_at me old.counts.sent c.args.receiver c.unwrap_or-buffer.result arrival c.args.fields in
+    let kept : Delivery Message = copy_at me old.counts.sent c.args.receiver c.unwrap_or-buffer.result arrival c.args.fields in
     let sent : old.counts.sent ≡ mail.sent = ap (λ (k : SendCounts). k.sent) c.requires.changes.1.counts in
     let number : kept.message.number ≡ record { sender = me; count = mail.sent } = λ i. record { sender = me; count = sent i } in
     let final : told_by c.keep_act.new.self ≡ told_with_act (NetworkLast c.args.network c.args.receiver arrival) (told_with_copy me drawn kept old) =
@@ -97,7 +98,7 @@ returns-else-ordered-clause-after c =
     let me = c.args.me in
     let drawn = c.is_some-drawn.result in
     let arrival = c.network_arrival-arrival.result in
-    let kept : Copy = copy_at me old.counts.sent c.args.receiver c.unwrap_or-buffer.result arrival c.args.fields in
+    let kept : Delivery Message = copy_at me old.counts.sent c.args.receiver c.unwrap_or-buffer.result arrival c.args.fields in
     let sent : old.counts.sent ≡ mail.sent = ap (λ (k : SendCounts). k.sent) c.requires.changes.1.counts in
     let actor : Actor = actor_of me c.args.seed c.args.routes.now in
     let to = unwrap_or (receiving_buffer c.args.routes.now c.args.receiver c.args.network) 0 in
@@ -107,7 +108,7 @@ returns-else-ordered-clause-after c =
     c.network_arrival-arrival.ensures
     ∙ arrival-as c.is_ordered-ordered.result (is_ordered c.args.routes.now c.args.network) (old.cycle + c.args.latency) c.path_to.result (path_to c.args.routes.now me c.args.receiver) c.next_jitter-jitter.result (jitter_at actor mail.drawn) last
     c.is_ordered-ordered.ensures c.path_to.ensures (c.next_jitter-jitter.ensures.value ∙ ap (jitter_at actor) (ap (λ (k : SendCounts). k.drawn) c.requires.changes.1.counts)) in
-    let wanted : Copy = copy_at me mail.sent c.args.receiver to at c.args.fields in
+    let wanted : Delivery Message = copy_at me mail.sent c.args.receiver to at c.args.fields in
     let same : kept ≡ wanted =
     copy-as me old.counts.sent mail.sent c.args.receiver c.unwrap_or-buffer.result to arrival at c.args.fields sent
     (c.unwrap_or-buffer.ensures ∙ ap (λ (o : Option ℕ). unwrap_or o 0) c.receiving_buffer.ensures) arrives in
@@ -125,7 +126,7 @@ returns-else-ordered-clause-changes c =
     let me = c.args.me in
     let drawn = c.is_some-drawn.result in
     let arrival = c.network_arrival-arrival.result in
-    let kept : Copy = copy_at me old.counts.sent c.args.receiver c.unwrap_or-buffer.result arrival c.args.fields in
+    let kept : Delivery Message = copy_at me old.counts.sent c.args.receiver c.unwrap_or-buffer.result arrival c.args.fields in
     let sent : old.counts.sent ≡ mail.sent = ap (λ (k : SendCounts). k.sent) c.requires.changes.1.counts in
     let number : kept.message.number ≡ record { sender = me; count = mail.sent } = λ i. record { sender = me; count = sent i } in
     let last = last_at (lasts_on mail.network_last c.args.network) c.args.receiver in
@@ -144,7 +145,7 @@ returns-else-ordered-clause-may c =
     let me = c.args.me in
     let drawn = c.is_some-drawn.result in
     let arrival = c.network_arrival-arrival.result in
-    let kept : Copy = copy_at me old.counts.sent c.args.receiver c.unwrap_or-buffer.result arrival c.args.fields in
+    let kept : Delivery Message = copy_at me old.counts.sent c.args.receiver c.unwrap_or-buffer.result arrival c.args.fields in
     let sent : old.counts.sent ≡ mail.sent = ap (λ (k : SendCounts). k.sent) c.requires.changes.1.counts in
     let number : kept.message.number ≡ record { sender = me; count = mail.sent } = λ i. record { sender = me; count = sent i } in
     λ more may.

@@ -1,5 +1,6 @@
 use Rattle.std.proofs.Common.{◌≡◌, ◌<◌, ◌+◌, true, false, refl, sym, subst, ap, ◌∙◌, arith}
-use Rattle.ctl_face.specs.Acts.{Copy}
+use Rattle.ruby_value.specs.declared.message.Delivery.{Delivery}
+use Rattle.ruby_value.specs.declared.message.Message.{Message}
 use Rattle.ctl_face.specs.Lasts.{last_at}
 use Rattle.ctl_face.specs.Send.{local_arrival}
 use Rattle.ctl_mail.specs.declared.act.MailAct.TheVariants.{LocalLast}
@@ -18,10 +19,10 @@ returns-then-ordered-clause-after c =
     let mail = changed_mail first old in
     let me = c.args.me in
     let arrival = c.local_arrival-arrival.result in
-    let kept : Copy = copy_at me old.counts.sent me c.args.buffer arrival c.args.fields in
+    let kept : Delivery Message = copy_at me old.counts.sent me c.args.buffer arrival c.args.fields in
     let sent : old.counts.sent ≡ mail.sent = ap (λ (k : SendCounts). k.sent) c.requires.changes.1.counts in
     let at = local_arrival c.args.ordered mail c.args.buffer c.args.latency old.cycle in
-    let wanted : Copy = copy_at me mail.sent me c.args.buffer at c.args.fields in
+    let wanted : Delivery Message = copy_at me mail.sent me c.args.buffer at c.args.fields in
     let same : kept ≡ wanted = copy-as me old.counts.sent mail.sent me c.args.buffer c.args.buffer arrival at c.args.fields sent refl c.local_arrival-arrival.ensures in
     let final : told_by c.keep_act.new.self ≡ told_with_act (LocalLast c.args.buffer arrival) (told_with_copy me false kept old) =
     c.keep_act.ensures.after ∙ ap (told_with_act (LocalLast c.args.buffer arrival)) c.keep_copy.ensures.after in
@@ -35,7 +36,7 @@ returns-then-ordered-clause-changes c =
     let mail = changed_mail first old in
     let me = c.args.me in
     let arrival = c.local_arrival-arrival.result in
-    let kept : Copy = copy_at me old.counts.sent me c.args.buffer arrival c.args.fields in
+    let kept : Delivery Message = copy_at me old.counts.sent me c.args.buffer arrival c.args.fields in
     let sent : old.counts.sent ≡ mail.sent = ap (λ (k : SendCounts). k.sent) c.requires.changes.1.counts in
     let number : kept.message.number ≡ record { sender = me; count = mail.sent } = λ i. record { sender = me; count = sent i } in
     let last = last_at mail.local_last c.args.buffer in
@@ -56,10 +57,10 @@ returns-else-ordered-clause-after c =
     let mail = changed_mail first old in
     let me = c.args.me in
     let arrival = c.local_arrival-arrival.result in
-    let kept : Copy = copy_at me old.counts.sent me c.args.buffer arrival c.args.fields in
+    let kept : Delivery Message = copy_at me old.counts.sent me c.args.buffer arrival c.args.fields in
     let sent : old.counts.sent ≡ mail.sent = ap (λ (k : SendCounts). k.sent) c.requires.changes.1.counts in
     let at = local_arrival c.args.ordered mail c.args.buffer c.args.latency old.cycle in
-    let wanted : Copy = copy_at me mail.sent me c.args.buffer at c.args.fields in
+    let wanted : Delivery Message = copy_at me mail.sent me c.args.buffer at c.args.fields in
     let same : kept ≡ wanted = copy-as me old.counts.sent mail.sent me c.args.buffer c.args.buffer arrival at c.args.fields sent refl c.local_arrival-arrival.ensures in
     λ seed routes. ap (changed_view first) c.keep_copy.ensures.after ∙ (view-local-unordered first me old c.args.buffer kept ∙ local-as first me old false c.args.ordered c.args.buffer kept wanted (sym c.if-ordered.false) same)
 
@@ -71,7 +72,7 @@ returns-else-ordered-clause-changes c =
     let mail = changed_mail first old in
     let me = c.args.me in
     let arrival = c.local_arrival-arrival.result in
-    let kept : Copy = copy_at me old.counts.sent me c.args.buffer arrival c.args.fields in
+    let kept : Delivery Message = copy_at me old.counts.sent me c.args.buffer arrival c.args.fields in
     let sent : old.counts.sent ≡ mail.sent = ap (λ (k : SendCounts). k.sent) c.requires.changes.1.counts in
     let number : kept.message.number ≡ record { sender = me; count = mail.sent } = λ i. record { sender = me; count = sent i } in
     let last = last_at mail.local_last c.args.buffer in

@@ -1,7 +1,6 @@
 use Rattle.std.proofs.Common.{◌≡◌, ◌++◌, map, take}
-use Rattle.slicc_plan.specs.Setups.{ValueParameter}
-use Rattle.machine_setup.specs.Seen.{parameter_seen}
+use Rattle.ruby_symbols.specs.declared.types.FieldSymbol.{FieldSymbol}
 use Rattle.machine_setup.proofs.parameter_table.add_kinds.Given as goal
 
-abbrev pub invariant-loop-p : goal.invariant-loop-p
-invariant-loop-p l = l.kinds ≡ l.initial.kinds ++ map (λ (p : ValueParameter). p.kind) (map parameter_seen (take l.p-index l.parameters))
+abbrev pub invariant-loop-f : goal.invariant-loop-f
+invariant-loop-f l = l.kinds ≡ l.initial.kinds ++ map (λ (f : FieldSymbol). f.kind) (take l.f-index l.fields)

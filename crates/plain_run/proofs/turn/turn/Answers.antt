@@ -1,7 +1,7 @@
 use Rattle.std.proofs.Common.{◌∙◌, ap, sym, refl, List, Some}
 use Rattle.std.proofs.lemmas.Result.{MatchResult-weaker}
 use Rattle.ruby_value.specs.declared.message.MsgNo.{MsgNo}
-use Rattle.ruby_runs.specs.Step.{Stepped, drive_in, after_driver}
+use Rattle.ruby_runs.specs.Step.{Stepped, driver_turn_in, after_driver}
 use Rattle.ruby_runs.specs.Verdict.{least_stopped}
 use Rattle.ruby_runs.specs.World.{World, Place}
 use Rattle.slicc_meaning.specs.declared.controller.Controller.{Controller}
@@ -27,7 +27,7 @@ pub returns : goal.returns
 returns c =
     let s = c.args.setting.now in
     let w = c.args.world.now in
-    let d = drive_in (rules s) w in
+    let d = driver_turn_in (rules s) w in
     let least =
     sym c.in_default.is ∙ c.least_stopped.ensures s
     ∙ ap (λ (ps : List (Place Controller)). least_stopped (rules s) ps) c.as_slice.ensures.value

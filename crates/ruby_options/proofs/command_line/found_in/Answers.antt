@@ -1,4 +1,4 @@
-use Rattle.std.proofs.Common.{◌≡◌, ◌∙◌, inr, map, refl}
+use Rattle.std.proofs.Common.{◌∙◌, inr, map, refl}
 use Rattle.clap.specs.Simple.{app_of}
 use Rattle.ruby_options.proofs.Parsed.{refused, rows, taken}
 use Rattle.ruby_options.proofs.command_line.found_in.Goals as goal

@@ -1,4 +1,4 @@
-use Rattle.std.proofs.Common.{◌∙◌, Bor, List, map, ℕ}
+use Rattle.std.proofs.Common.{◌∙◌, Bor, List, ℕ}
 use Rattle.clap.specs.Matches.{found_of}
 use Rattle.clap.proofs.WalkLemmas.{first_value-rows}
 use Rattle.ruby_options.specs.declared.tables.TheConstants.{COMMAND}

@@ -1,10 +1,12 @@
 use Rattle.std.proofs.Common.{◌∙◌, ap, sym}
 use Rattle.slicc_plan.specs.Counts.{counts_of}
+use Rattle.slicc_plan.specs.SymbolsOf.{symbols_of}
 use Rattle.slicc_plan.proofs.Accepted.{accepted_along}
 use Rattle.slicc_plan.proofs.plan.copy_plan.Goals as goal
 
 pub invariant_of-result : goal.invariant_of-result
 invariant_of-result c = (
   accepted_along _ _ c.in_ok-try_clone.ensures c.plan.invariant.0,
-  c.plan.invariant.1 ∙ sym (ap counts_of c.in_ok-try_clone.ensures),
+  c.in_ok-try_clone-2.ensures ∙ c.plan.invariant.1 ∙ sym (ap symbols_of c.in_ok-try_clone.ensures),
+  c.plan.invariant.2 ∙ sym (ap counts_of c.in_ok-try_clone.ensures),
 )

@@ -1,7 +1,7 @@
 use Rattle.std.proofs.Common.{ℕ, ◌≤◌, List, length, subst, sym}
 use Rattle.std.specs.List.{All}
 use Rattle.sequencer.specs.Seats.{FitsSeat, Seat}
-use Rattle.random_tester.specs.SeatsAfter.{fit-after, length-kept}
+use Rattle.sequencer.proofs.SeatsAfter.{fit-after, length-kept}
 use Rattle.random_tester.specs.Turn.{finished_from, took}
 use Rattle.random_tester.proofs.tester.Tester.find.Goals as goal
 

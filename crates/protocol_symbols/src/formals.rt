@@ -1,0 +1,88 @@
+//! The formals of functions.
+ghost use Rattle.std.specs.Prelude.{◌≡◌, IfOk, map};
+ghost use Rattle.std.specs.Option.{option_map};
+ghost use Rattle.slicc_ast.specs.declared.tree.name.Name.{Name as NameRecord};
+ghost use Rattle.slicc_plan.specs.Declarations.{machine_declarations};
+ghost use Rattle.slicc_plan.specs.SymbolsOfMachines.{formal_symbol, kind_in};
+ghost use Rattle.slicc_plan.specs.TypeNumbers.{kind_or_bool};
+ghost use Rattle.declared_types.specs.Lent.{declarations_of};
+ghost use Rattle.type_numbers.specs.Numbered.{AreNumbered, trees_of};
+
+use crate::lines::value_kind;
+use declared_types::{Declared, Scope};
+use ruby_base::{NoMemory, Seq, Text};
+use ruby_symbols::FormalSymbol;
+use ruby_value::Kind;
+use slicc_ast::tree::{Formal, Machine, Name, TypeName};
+use std::alloc::Global;
+use type_numbers::{TypeNumbers, type_in};
+
+/// The kind of the values of the type of this name in a machine that declares this, where it has values there.
+pub fn kind_in<'a>(
+    types: &TypeNumbers<'a>,
+    m: &'a Machine,
+    declarations: &[Declared<'a>],
+    kind: &TypeName,
+) -> Result<Option<Kind>, NoMemory>
+    requires types { AreNumbered types.now }
+    requires declarations { declarations_of declarations.now ≡ machine_declarations m.now }
+    ensures { IfOk result (λ k. k ≡ kind_in (trees_of types.now) m.now kind.now) }
+{
+    let t = type_in(&types.scopes, Scope::Within(m), &kind.text);
+    value_kind(types, m, declarations, t)
+}
+
+fn kind_or_bool(kind: Option<Kind>) -> Kind
+    ensures { result ≡ kind_or_bool kind }
+{
+    match kind {
+        None => Kind::Bool,
+        Some(kind) => kind,
+    }
+}
+
+fn name_of(alloc: Global, name: &Option<Name>) -> Result<Option<Text>, NoMemory>
+    ensures { IfOk result (λ text. text ≡ option_map (λ (n : NameRecord). n.text) name.now) }
+{
+    match name {
+        None => Ok(None),
+        Some(name) => Ok(Some(Text::copied(alloc, &name.text)?)),
+    }
+}
+
+fn formal_symbol<'a>(
+    alloc: Global,
+    types: &TypeNumbers<'a>,
+    m: &'a Machine,
+    declarations: &[Declared<'a>],
+    f: &Formal,
+) -> Result<FormalSymbol, NoMemory>
+    requires types { AreNumbered types.now }
+    requires declarations { declarations_of declarations.now ≡ machine_declarations m.now }
+    ensures { IfOk result (λ s. s ≡ formal_symbol (trees_of types.now) m.now f.now) }
+{
+    let kind = kind_in(types, m, declarations, &f.kind)?;
+    Ok(FormalSymbol {
+        name: name_of(alloc, &f.name)?,
+        kind: kind_or_bool(kind),
+    })
+}
+
+/// The formals of a function of a machine that declares this.
+pub fn formal_symbols<'a>(
+    alloc: Global,
+    types: &TypeNumbers<'a>,
+    m: &'a Machine,
+    declarations: &[Declared<'a>],
+    formals: &[Formal],
+) -> Result<Seq<FormalSymbol>, NoMemory>
+    requires types { AreNumbered types.now }
+    requires declarations { declarations_of declarations.now ≡ machine_declarations m.now }
+    ensures { IfOk result (λ list. list ≡ map (formal_symbol (trees_of types.now) m.now) formals.now) }
+{
+    let mut list = Seq::new(alloc);
+    for f in formals {
+        list.push(formal_symbol(alloc, types, m, declarations, f)?)?;
+    }
+    Ok(list)
+}

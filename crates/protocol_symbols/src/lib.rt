@@ -1,0 +1,23 @@
+//! The symbols of a protocol, made once from its trees: what it declares, as plain names and numbers.
+#![tactic(auto)]
+
+mod buffers;
+mod enumerations;
+mod formals;
+mod functions;
+mod lines;
+mod machine;
+mod ports;
+mod protocol;
+mod references;
+mod sequencers;
+mod states;
+mod structures;
+mod tables;
+mod transitions;
+mod values;
+
+pub use protocol::protocol_symbols;
+pub use ruby_base::NoMemory;
+pub use tables::table_in;
+pub use values::values_of;

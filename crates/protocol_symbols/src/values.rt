@@ -1,0 +1,197 @@
+//! The parameters and objects of a machine that are values.
+ghost use Rattle.std.specs.Prelude.{◌≡◌, ◌++◌, IfOk, None, OnOk, flat_map, neg_ℤ, option_and_then};
+ghost use Rattle.std.specs.Option.{option_copied, option_map};
+ghost use Rattle.ruby_value.specs.declared.value.Value.TheVariants as value;
+ghost use Rattle.slicc_plan.specs.Declarations.{machine_declarations};
+ghost use Rattle.slicc_plan.specs.MachineValues.{literal_value, value_in, value_of_kind, value_of_type, values_of, written_value};
+ghost use Rattle.slicc_plan.specs.TypeNumbers.{plain_kind};
+ghost use Rattle.declared_types.specs.Lent.{declaration_of, declarations_of, type_of};
+ghost use Rattle.type_numbers.specs.Numbered.{AreNumbered, trees_of};
+
+use crate::structures::field_with;
+use declaration_rules::is_built_in;
+use declared_types::{Declared, KnownType, Scope};
+use ruby_base::{NoMemory, Seq};
+use ruby_symbols::FieldSymbol;
+use ruby_value::{Kind, Value, default_of};
+use slicc_ast::tree::{Literal, Machine};
+use slicc_plan::BuiltInType;
+use std::alloc::Global;
+use type_numbers::{TypeNumbers, plain_kind, type_in};
+
+fn negated(n: i64) -> Result<Value, NoMemory>
+    ensures { IfOk result (λ v. v ≡ value.Int (neg_ℤ n)) }
+{
+    match n.checked_neg() {
+        None => Err(NoMemory),
+        Some(i) => Ok(Value::Int(i)),
+    }
+}
+
+fn literal_value(alloc: Global, k: Kind, literal: &Literal) -> Result<Value, NoMemory>
+    ensures { IfOk result (λ v. v ≡ literal_value k literal.now) }
+{
+    match k {
+        Kind::Int => match literal {
+            Literal::Number(n, _) => Ok(Value::Int(*n)),
+            Literal::Minus(n, _) => negated(*n),
+            Literal::Quoted(..) | Literal::True(_) | Literal::False(_) => Ok(Value::Int(0)),
+        },
+        Kind::Bool => match literal {
+            Literal::True(_) => Ok(Value::Bool(true)),
+            Literal::Quoted(text, _) => { Ok(Value::Bool(text.as_slice() == b"True".as_slice())) }
+            Literal::Number(..) | Literal::Minus(..) | Literal::False(_) => {
+                Ok(Value::Bool(false))
+            }
+        },
+        Kind::Enum(..)
+        | Kind::Addr
+        | Kind::Machine
+        | Kind::Dest
+        | Kind::Block
+        | Kind::Entry(_)
+        | Kind::Tbe(_) => default_of(alloc, &k),
+    }
+}
+
+fn unwritten_value(alloc: Global, k: Kind, counts_cycles: bool) -> Result<Value, NoMemory>
+    ensures { IfOk result (λ v. v ≡ written_value k counts_cycles None) }
+{
+    match k {
+        Kind::Int => {
+            if counts_cycles {
+                Ok(Value::Int(1))
+            } else {
+                Ok(Value::Int(0))
+            }
+        }
+        Kind::Bool
+        | Kind::Enum(..)
+        | Kind::Addr
+        | Kind::Machine
+        | Kind::Dest
+        | Kind::Block
+        | Kind::Entry(_)
+        | Kind::Tbe(_) => default_of(alloc, &k),
+    }
+}
+
+fn written_value(
+    alloc: Global,
+    k: Kind,
+    counts_cycles: bool,
+    literal: Option<&Literal>,
+) -> Result<Value, NoMemory>
+    ensures { IfOk result (λ v. v ≡ written_value k counts_cycles (option_copied literal.entry)) }
+{
+    match literal {
+        Some(literal) => literal_value(alloc, k, literal),
+        None => unwritten_value(alloc, k, counts_cycles),
+    }
+}
+
+fn add_of_kind(
+    alloc: Global,
+    list: &mut Seq<FieldSymbol>,
+    name: &[u8],
+    t: Option<KnownType<'_>>,
+    literal: Option<&Literal>,
+    kind: Option<Kind>,
+) -> Result<(), NoMemory>
+    ensures { OnOk result (list.new ≡ list.old ++ value_of_kind name.now (option_map type_of t.entry) (option_copied literal.entry) kind) }
+{
+    let Some(kind) = kind else {
+        return Ok(());
+    };
+    let initial = written_value(alloc, kind, is_built_in(BuiltInType::Cycles, t), literal)?;
+    list.push(field_with(alloc, name, kind, initial)?)
+}
+
+fn kind_of<'a>(types: &TypeNumbers<'a>, t: Option<KnownType<'a>>) -> Result<Option<Kind>, NoMemory>
+    requires { AreNumbered types.now }
+    ensures { IfOk result (λ k. k ≡ option_and_then (plain_kind (trees_of types.now)) (option_map type_of t.entry)) }
+{
+    match t {
+        None => Ok(None),
+        Some(t) => plain_kind(types, t),
+    }
+}
+
+fn add_of_type<'a>(
+    alloc: Global,
+    list: &mut Seq<FieldSymbol>,
+    types: &TypeNumbers<'a>,
+    name: &[u8],
+    t: Option<KnownType<'a>>,
+    literal: Option<&Literal>,
+) -> Result<(), NoMemory>
+    requires { AreNumbered types.now }
+    ensures { OnOk result (list.new ≡ list.old ++ value_of_type (trees_of types.now) name.now (option_map type_of t.entry) (option_copied literal.entry)) }
+{
+    let kind = kind_of(types, t)?;
+    add_of_kind(alloc, list, name, t, literal, kind)
+}
+
+fn add_value<'a>(
+    alloc: Global,
+    list: &mut Seq<FieldSymbol>,
+    types: &TypeNumbers<'a>,
+    m: &'a Machine,
+    d: Declared<'a>,
+) -> Result<(), NoMemory>
+    requires { AreNumbered types.now }
+    ensures { OnOk result (list.new ≡ list.old ++ value_in (trees_of types.now) m.now (declaration_of d.entry)) }
+{
+    match d {
+        Declared::Parameter(p) => add_of_type(
+            alloc,
+            list,
+            types,
+            &p.name.text,
+            type_in(&types.scopes, Scope::Within(m), &p.kind.text),
+            p.literal.as_ref(),
+        ),
+        Declared::Object(o) => add_of_type(
+            alloc,
+            list,
+            types,
+            &o.name.text,
+            type_in(&types.scopes, Scope::Within(m), &o.kind.text),
+            None,
+        ),
+        _ => Ok(()),
+    }
+}
+
+// Adds the values among what a machine declares.
+fn add_values<'a>(
+    alloc: Global,
+    list: &mut Seq<FieldSymbol>,
+    types: &TypeNumbers<'a>,
+    m: &'a Machine,
+    declarations: &[Declared<'a>],
+) -> Result<(), NoMemory>
+    requires { AreNumbered types.now }
+    ensures { OnOk result (list.new ≡ list.old ++ flat_map (value_in (trees_of types.now) m.now) (declarations_of declarations.now)) }
+{
+    for d in declarations {
+        add_value(alloc, list, types, m, *d)?;
+    }
+    Ok(())
+}
+
+/// The values of a machine that declares this, by the numbers of their fields.
+pub fn values_of<'a>(
+    alloc: Global,
+    types: &TypeNumbers<'a>,
+    m: &'a Machine,
+    declarations: &[Declared<'a>],
+) -> Result<Seq<FieldSymbol>, NoMemory>
+    requires types { AreNumbered types.now }
+    requires declarations { declarations_of declarations.now ≡ machine_declarations m.now }
+    ensures { IfOk result (λ list. list ≡ values_of (trees_of types.now) m.now) }
+{
+    let mut list = Seq::new(alloc);
+    add_values(alloc, &mut list, types, m, declarations)?;
+    Ok(list)
+}

@@ -1,0 +1,9 @@
+pub mod Digits
+pub mod Ends
+pub mod Names
+pub mod Ranges
+pub mod Rows
+pub mod Searches
+pub mod Steps
+pub mod Texts
+pub mod Totals

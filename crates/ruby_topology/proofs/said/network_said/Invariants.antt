@@ -1,0 +1,6 @@
+use Rattle.std.proofs.Common.{◌≡◌, drop}
+use Rattle.ruby_topology.specs.Said.{first_some, network_in, network_said}
+use Rattle.ruby_topology.proofs.said.network_said.Given as goal
+
+abbrev pub invariant-loop-s : goal.invariant-loop-s
+invariant-loop-s l = first_some (network_in) (drop l.s-index l.said) ≡ network_said l.said

@@ -1,0 +1,10 @@
+pub mod Faults
+pub mod Forms
+pub mod Lines
+pub mod Members
+pub mod Paths
+pub mod Said
+pub mod Search
+pub mod Text
+pub mod Topology
+pub mod Within

@@ -1,0 +1,22 @@
+//! Topologies: the file that says how many controllers each machine has, which network joins them, and how large their
+//! tables are.
+#![tactic(auto)]
+
+mod counts;
+mod forms;
+mod lines;
+mod members;
+mod paths;
+mod routes;
+mod rules;
+mod said;
+mod search;
+mod statement;
+mod text;
+mod topology;
+
+pub use ctl_face::Routes;
+pub use ruby_base::{NoMemory, Seq, Text};
+pub use ruby_value::Sizes;
+pub use rules::TopoFault;
+pub use topology::{Seat, Topology, plain, read_topology};

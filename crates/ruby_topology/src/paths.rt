@@ -1,0 +1,149 @@
+//! Paths between controllers.
+ghost use Rattle.std.specs.Prelude.{◌≡◌, ◌<◌, ◌≤◌, ℕ, All, IfOk, MatchOption, length, map};
+ghost use Rattle.std.specs.List.{range_with_len};
+ghost use Rattle.ruby_topology.specs.declared.statement.Link.{Link as LinkRecord};
+ghost use Rattle.ruby_topology.specs.declared.statement.Network.TheVariants.{Links};
+ghost use Rattle.ruby_topology.specs.Paths.{AreRows, HasIsland, IsIsland, IsRow, distance, path_by, steps_between};
+ghost use Rattle.ruby_topology.specs.Search.{IsBetween, SumsOf};
+ghost use Rattle.ruby_topology.specs.Within.{IsNetworkWithin};
+
+use crate::search::{Mark, search, sum_at};
+use crate::statement::{Link, Network};
+use ruby_base::{NoMemory, Seq};
+use std::alloc::Global;
+
+fn distance(a: u64, b: u64) -> u64
+    ensures { result ≡ distance a b }
+{
+    if a < b { b - a } else { a - b }
+}
+
+// The steps between two controllers in a mesh.
+fn steps_between(rows: u64, columns: u64, a: u64, b: u64) -> u64
+    requires rows_from { 1 ≤ rows }
+    requires rows_to { rows ≤ 64 }
+    requires columns_from { 1 ≤ columns }
+    requires columns_to { columns ≤ 64 }
+    ensures value { result ≡ steps_between rows columns a b }
+    ensures bound { result ≤ 8192 }
+{
+    let nodes = rows * columns;
+    let p = a % nodes;
+    let q = b % nodes;
+    let up = distance(p / columns, q / columns);
+    let across = distance(p % columns, q % columns);
+    up + across
+}
+
+// The path between two controllers where no links are listed.
+fn path_by(network: Network, a: u64, b: u64) -> u64
+    requires { IsNetworkWithin network }
+    ensures { result ≡ path_by network a b }
+{
+    match network {
+        Network::PointToPoint(length) => { if a == b { 0 } else { length } }
+        Network::Crossbar(length) => { if a == b { 0 } else { 2 * length } }
+        Network::Mesh {
+            rows,
+            columns,
+            length,
+        } => length * steps_between(rows, columns, a, b),
+        Network::Links => 0,
+    }
+}
+
+/// The paths from one controller where no links are listed.
+pub fn computed_row(
+    alloc: Global,
+    network: Network,
+    total: usize,
+    from: usize,
+) -> Result<Seq<u64>, NoMemory>
+    requires { IsNetworkWithin network }
+    ensures { IfOk result (λ row. row ≡ map (path_by network from) (range_with_len 0 total)) }
+{
+    let mut row = Seq::new(alloc);
+    for to in 0..total {
+        row.push(path_by(network, from as u64, to as u64))?;
+    }
+    Ok(row)
+}
+
+// The sums that a search found, where it found all.
+fn sums(alloc: Global, marks: &[Mark]) -> Result<Option<Seq<u64>>, NoMemory>
+    ensures { IfOk result (SumsOf marks.now) }
+{
+    let mut row = Seq::new(alloc);
+    for mark in marks {
+        match sum_at(*mark) {
+            None => return Ok(None),
+            Some(sum) => row.push(sum)?,
+        }
+    }
+    Ok(Some(row))
+}
+
+fn link_row(
+    alloc: Global,
+    links: &[Link],
+    total: usize,
+    from: usize,
+) -> Result<Option<Seq<u64>>, NoMemory>
+    requires from { from < total }
+    requires few { total ≤ 64 }
+    requires between { All (IsBetween total) links.now }
+    requires steps { All (λ (l : LinkRecord). l.length ≤ 1000) links.now }
+    ensures { IfOk result (λ o. MatchOption o (IsIsland Links links.now total from) (IsRow Links links.now total from)) }
+{
+    let marks = search(alloc, links, total, from)?;
+    let row = sums(alloc, marks.as_slice());
+    drop(marks);
+    row
+}
+
+// The paths from one controller to all, or none where some has no path.
+fn row(
+    alloc: Global,
+    network: Network,
+    links: &[Link],
+    total: usize,
+    from: usize,
+) -> Result<Option<Seq<u64>>, NoMemory>
+    requires network { IsNetworkWithin network }
+    requires from { from < total }
+    requires few { total ≤ 64 }
+    requires between { All (IsBetween total) links.now }
+    requires steps { All (λ (l : LinkRecord). l.length ≤ 1000) links.now }
+    ensures { IfOk result (λ o. MatchOption o (IsIsland network links.now total from) (IsRow network links.now total from)) }
+{
+    match network {
+        Network::Links => link_row(alloc, links, total, from),
+        _ => {
+            let row = computed_row(alloc, network, total, from)?;
+            Ok(Some(row))
+        }
+    }
+}
+
+/// The paths by sender and then receiver, or none where two controllers have no path.
+pub fn rows(
+    alloc: Global,
+    network: Network,
+    links: &[Link],
+    total: usize,
+) -> Result<Option<Seq<Seq<u64>>>, NoMemory>
+    requires network { IsNetworkWithin network }
+    requires few { total ≤ 64 }
+    requires between { All (IsBetween total) links.now }
+    requires steps { All (λ (l : LinkRecord). l.length ≤ 1000) links.now }
+    ensures { IfOk result (λ o. MatchOption o (HasIsland network links.now total) (AreRows network links.now total)) }
+{
+    let mut rows = Seq::new(alloc);
+    for from in 0..total {
+        match row(alloc, network, links, total, from)? {
+            None => return Ok(None),
+            Some(row) => rows.push(row)?,
+        }
+    }
+    Ok(Some(rows))
+}

@@ -1,0 +1,7 @@
+use Rattle.std.specs.List.{AllWithin}
+use Rattle.sequencer.specs.OwnedSeats.{seat_of}
+use Rattle.sequencer.specs.Seats.{FitsSeat}
+use Rattle.sequencer.proofs.owned_seats.each_fits.Given as goal
+
+abbrev pub invariant-loop-seat : goal.invariant-loop-seat
+invariant-loop-seat l = AllWithin (λ s. FitsSeat (seat_of s)) l.seats 0 l.seat-index

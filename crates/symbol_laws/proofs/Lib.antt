@@ -1,0 +1,5 @@
+mod Counted
+mod Machines
+mod Networks
+mod Received
+mod Rooms

@@ -1,0 +1,10 @@
+//! What is known of the symbols of every accepted protocol: its lists are short, its tables have room, and its virtual networks
+//! are numbered, carry one type of messages each, and are received from once at most by a machine.
+#![tactic(auto)]
+
+mod laws;
+
+pub use laws::{
+    lists_have_numbers, networks_are_numbered, networks_are_received_once,
+    networks_carry_one_message, tables_have_entries,
+};
