@@ -1,6 +1,6 @@
 -- The numbers of the built-in calls, by what they are called on, their name and how many arguments they are written with. The
 -- numbers are those of the table of built-in calls in its order, one for each count of arguments. The names are gem5's SLICC's.
-use Rattle.std.specs.Prelude.{ℕ, ◌==◌, ◌||◌, Bool, true, false, cond, Option, None, Some, List, codes}
+use Rattle.std.specs.Prelude.{ℕ, ◌==◌, ◌||◌, Bool, cond, Option, None, Some, List, codes}
 use Rattle.std.specs.Str.{bytes_eq}
 use Rattle.ruby_symbols.specs.declared.machine.TableSort.{TableSort}
 use Rattle.ruby_symbols.specs.declared.machine.TableSort.TheVariants as sort

@@ -1,7 +1,7 @@
 -- Calls, once their arguments are evaluated. A name that is called is that of a function of the machine, if it has one, and else of
 -- a built-in call; nothing hides a call that has a receiver. A receiver that is a value is the first argument. The `new` of an
 -- `allocate` is an argument that the call doesn't look at.
-use Rattle.std.specs.Prelude.{ℕ, ◌==◌, ◌&&◌, ◌++◌, Bool, Option, None, Some, List, [], ◌∷◌, codes, cond, find, is_some, length, nat_lt, slice_get, unwrap_or, if◌then◌else◌}
+use Rattle.std.specs.Prelude.{ℕ, ◌==◌, ◌++◌, Bool, Option, None, Some, List, [], ◌∷◌, codes, cond, find, is_some, length, nat_lt, slice_get, unwrap_or, if◌then◌else◌}
 use Rattle.std.specs.Option.{option_map}
 use Rattle.std.specs.Str.{bytes_eq}
 use Rattle.ruby_value.specs.declared.value.Ref.{Ref}
@@ -9,7 +9,6 @@ use Rattle.ruby_value.specs.declared.value.Value.{Value}
 use Rattle.ruby_value.specs.declared.value.Value.TheVariants as value
 use Rattle.ruby_symbols.specs.declared.machine.MachineSymbols.{MachineSymbols}
 use Rattle.ruby_symbols.specs.declared.machine.TableSymbol.{TableSymbol}
-use Rattle.ruby_symbols.specs.declared.symbols.Symbols.{Symbols}
 use Rattle.ruby_symbols.specs.declared.types.EnumerationSymbol.{EnumerationSymbol}
 use Rattle.ruby_symbols.specs.Names.{function_named}
 use Rattle.acts.specs.declared.body_fault.BodyFault.TheVariants as own

@@ -1,7 +1,7 @@
 -- What an expression gives in a body. Operands, receivers and arguments are evaluated from left to right, and an operator of a row
 -- with all on its left. A call that changes its receiver, and one that changes the references of a transition, are told where
 -- statements are: they answer nothing, so that no accepted protocol has one inside of another expression.
-use Rattle.std.specs.Prelude.{ℕ, Bool, true, false, not, Option, None, Some, List, [], ◌∷◌, ◌++◌, is_none, is_some}
+use Rattle.std.specs.Prelude.{ℕ, true, false, not, Option, None, Some, List, [], ◌∷◌, ◌++◌, is_none, is_some}
 use Rattle.std.specs.Option.{option_or}
 use Rattle.slicc_ast.specs.declared.tree.expression.Operand.{Operand}
 use Rattle.slicc_ast.specs.declared.tree.expression.Operator.{Operator}

@@ -1,6 +1,6 @@
 -- What a body has of its own: names, the innermost first, and in an action the line that its transition is about. A name that is
 -- bound twice is the inner one's. A block's names are gone after it.
-use Rattle.std.specs.Prelude.{ℕ, ◌-◌, Bool, Option, None, Some, List, [], ◌∷◌, codes, cond, drop, find, is_some, length, position, slice_set}
+use Rattle.std.specs.Prelude.{ℕ, ◌-◌, Bool, Option, None, Some, List, ◌∷◌, codes, cond, drop, find, is_some, length, position, slice_set}
 use Rattle.std.specs.Option.{option_map}
 use Rattle.std.specs.Str.{bytes_eq}
 use Rattle.ruby_value.specs.declared.value.Ref.{Ref}

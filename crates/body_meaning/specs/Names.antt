@@ -3,7 +3,7 @@
 -- after the machine's others; one whose values are references is a reference to nothing, since nothing is ever written to it.
 -- `machineID` and `recycle_latency` are there in each body. What is none of these is the fault `reference`, and no accepted
 -- protocol has such a name.
-use Rattle.std.specs.Prelude.{ℕ, pos, Bool, Option, None, Some, List, codes, length, map, option_and_then, slice_get}
+use Rattle.std.specs.Prelude.{ℕ, pos, Option, None, Some, List, codes, length, map, option_and_then, slice_get}
 use Rattle.std.specs.Option.{option_map}
 use Rattle.std.specs.Str.{bytes_eq}
 use Rattle.ruby_value.specs.declared.value.Ref.{Ref}

@@ -1,6 +1,6 @@
 -- Places, which are assigned: a local, a field of a message that is being made, and a field of a line. A place is found once, and
 -- then read and written as often as needed. What isn't one is the fault `reference`, and no accepted protocol assigns to it.
-use Rattle.std.specs.Prelude.{ℕ, ◌-◌, Option, None, Some, List, [], ◌∷◌, length, option_and_then, slice_get, slice_set, take}
+use Rattle.std.specs.Prelude.{ℕ, ◌-◌, Option, None, Some, List, [], ◌∷◌, length, slice_get, slice_set, take}
 use Rattle.std.specs.Option.{option_map}
 use Rattle.slicc_ast.specs.declared.tree.expression.Suffix.{Suffix, Field}
 use Rattle.slicc_ast.specs.declared.tree.expression.Expr.{Expr, Variable, items-the_row-Suffix}

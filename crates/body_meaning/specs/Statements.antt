@@ -3,8 +3,7 @@
 -- a `writeCallback`, finds that place once: first the receiver, then the arguments, then the write. `return` and `trigger` end the
 -- body, also from inside of blocks; out of an `enqueue` they send nothing. The latency of an `enqueue` is evaluated after its
 -- block, and doesn't see the message. `check_allocate` is looked at before the actions of a transition, and does nothing itself.
-use Rattle.std.specs.Prelude.{ℕ, pos, ℤ, ◌+◌, Bool, true, Option, None, Some, List, [], ◌∷◌, codes, cond, length, unwrap_or}
-use Rattle.std.specs.Option.{option_map}
+use Rattle.std.specs.Prelude.{ℕ, pos, ℤ, ◌+◌, Option, None, Some, List, [], ◌∷◌, codes, cond, length}
 use Rattle.std.specs.Str.{bytes_eq}
 use Rattle.slicc_ast.specs.declared.tree.expression.Suffix.{Suffix, Method'}
 use Rattle.slicc_ast.specs.declared.tree.expression.Expr.{Expr, Call', items-the_row-Expr, items-the_row-Suffix}
@@ -31,7 +30,7 @@ use Rattle.body_meaning.specs.declared.thing.Thing.TheVariants as thing
 use Rattle.body_meaning.specs.CallNumbers.{changes_receiver, stall_call, write_callback}
 use Rattle.body_meaning.specs.Calls.{Calls, named_call, value_call}
 use Rattle.body_meaning.specs.Names.{message_of, new_message, port_named}
-use Rattle.body_meaning.specs.Expressions.{value, value_behind, values, values_of}
+use Rattle.body_meaning.specs.Expressions.{value, value_behind, values_of}
 use Rattle.body_meaning.specs.Frames.{Ended, bind, ended, leave, outermost, with_entry, with_tbe}
 use Rattle.body_meaning.specs.Places.{at_place, before_last, last_of, place_of, place_with, with_place}
 use Rattle.body_meaning.specs.Things.{value_in}

@@ -2,7 +2,7 @@
 -- in ports are done in the order of the text, each to its end or to its `trigger`, and the first that fires a transition ends the
 -- scan; one that stalls doesn't. A fault stops it. A scan that fires no transition leaves the controller as it was, but that it wakes
 -- in the next cycle where a transition was stalled; one that stops leaves it as it was.
-use Rattle.std.specs.Prelude.{ℕ, Bool, Option, None, Some, List, [], ◌∷◌, Result, Ok, Err, nat_le, slice_get, if◌then◌else◌}
+use Rattle.std.specs.Prelude.{ℕ, Option, None, Some, List, [], ◌∷◌, Result, Ok, Err, nat_le, slice_get, if◌then◌else◌}
 use Rattle.slicc_ast.specs.declared.tree.machine.Decl.{Decl}
 use Rattle.slicc_ast.specs.declared.tree.machine.Decl.TheVariants.{InPort}
 use Rattle.slicc_ast.specs.declared.tree.statement.Block.{Block}

@@ -33,7 +33,7 @@ use Rattle.body_meaning.specs.Each.{each}
 use Rattle.body_meaning.specs.Frames.{Ended}
 use Rattle.body_meaning.specs.Statements.{all_done}
 use Rattle.body_meaning.specs.Things.{value_in}
-use Rattle.scan_meaning.specs.Trying.{Known, Trying, ends, stops, looks_up, stop_at, then_try, with_known}
+use Rattle.scan_meaning.specs.Trying.{Known, Trying, stops, looks_up, stop_at, then_try, with_known}
 
 -- how many `check_allocate` statements for a table the actions of a transition have, both by their numbers within the machine
 abbrev pub Needs : Type 0
