@@ -1,0 +1,14 @@
+use Rattle.std.proofs.Common.{Ok, refl}
+use Rattle.acts.specs.declared.body_fault.BodyFault.TheVariants as own
+use Rattle.acts.specs.Acting.{ends}
+use Rattle.acts.specs.DoesAs.{itself}
+use Rattle.acts.proofs.Walk.{does_ends_as, found_does}
+use Rattle.body_meaning.specs.declared.thing.Thing.TheVariants as thing
+use Rattle.body_meaning.specs.Calls.{value_found}
+use Rattle.body_calls.proofs.named.value_found.Goals as goal
+
+pub returns : goal.returns
+unfolding value_found
+returns g c =
+    found_does itself (λ x. ends (thing.Value x)) c.args.v own.Reference c.in-Some.v (Ok (thing.Value c.in-Some.v)) _ _ c.in-Some.is
+    (does_ends_as itself (thing.Value c.in-Some.v) (thing.Value c.in-Some.v) _ refl)

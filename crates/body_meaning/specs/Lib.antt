@@ -1,0 +1,11 @@
+pub mod Things
+pub mod Each
+pub mod Frames
+pub mod Operators
+pub mod Names
+pub mod CallNumbers
+pub mod Calls
+pub mod Expressions
+pub mod Places
+pub mod Statements
+pub mod Bodies

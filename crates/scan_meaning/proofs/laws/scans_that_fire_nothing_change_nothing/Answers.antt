@@ -1,0 +1,10 @@
+use Rattle.scan_meaning.specs.Scan.{scan}
+use Rattle.scan_meaning.proofs.Scans.{full_leaves, idle_leaves, scan_leaves, stopped_leaves}
+use Rattle.scan_meaning.proofs.laws.scans_that_fire_nothing_change_nothing.Goals as goal
+
+pub returns : goal.returns
+returns c = record {
+  stopped = λ s needs limit fired v at. stopped_leaves v (scan s needs limit fired v) at (scan_leaves s needs limit fired v);
+  full = λ s needs limit fired v. full_leaves v (scan s needs limit fired v) (scan_leaves s needs limit fired v);
+  idle = λ s needs limit fired v. idle_leaves v (scan s needs limit fired v) (scan_leaves s needs limit fired v);
+}
