@@ -16,8 +16,8 @@ outcome_ctl o ctl = changed_ctl o.changes ctl
 abbrev pub outcome_acts : Outcome → Acts
 outcome_acts o = acts_of o.changes
 
-abbrev pub sent_of : Outcome → FireNote
-sent_of o = o.note
+abbrev pub note_of : Outcome → FireNote
+note_of o = o.note
 
 -- it can be applied to the controller
 abbrev pub IsOutcomeFor : Outcome → Ctl → Type 0
@@ -30,5 +30,5 @@ HasRoomForOutcome p o = HasRoomForChanges p o.changes
 pub record IsOutcomeOf (v : LocalView) (note : FireNote) (o : Outcome) : Type 0 where
   pub ctl : outcome_ctl o v.start ≡ v.ctl
   pub acts : outcome_acts o ≡ v.acts
-  pub note_is : sent_of o ≡ note
+  pub note_is : note_of o ≡ note
   pub fits : IsOutcomeFor o v.start
