@@ -1,7 +1,7 @@
 use crate::entries::{Messages, NONE, Row, journal};
 use plain_run::account_of_lists;
 use ruby_base::NoMemory;
-use slicc_meaning::{FireNote, Message, MsgNo, Sent, line_of, machine_of};
+use slicc_meaning::{FireNote, Message, MsgNo, Sent, line_address_of, machine_of};
 use std::alloc::Global;
 use std::test::Fail;
 
@@ -117,7 +117,7 @@ const LINES: &[(u64, u64)] = &[
 #[test]
 fn addresses_have_these_lines(rt: HostRuntime) -> Result<(), Fail> {
     for (address, line) in LINES {
-        assert_eq!(rt; line_of(*address), *line, "{address}");
+        assert_eq!(rt; line_address_of(*address), *line, "{address}");
     }
     Ok(())
 }
