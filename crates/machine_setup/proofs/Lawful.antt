@@ -24,6 +24,7 @@ use Rattle.slicc_plan.specs.Declarations.{machines_of}
 use Rattle.slicc_plan.specs.MessageTypes.{network_type, receivers_field}
 use Rattle.ruby_value.specs.NetworkOf.{network_of}
 use Rattle.slicc_plan.specs.Setups as plan
+use Rattle.slicc_plan.specs.Tables.{tables_of}
 use Rattle.ctl_face.specs.IsMachine as face
 
 -- Tables.
@@ -158,7 +159,7 @@ all_alike trees (c ∷ cs) bs some all =
 -- The machine, by what is known of its parts.
 
 pub lawful_in : (trees : List Tree) (number : ℕ) (sizes : Sizes) (m : Machine)
-    → length (plan.setup_in trees number sizes m).tables ≡ length (plan.tables_of trees m) + 1
+    → length (plan.setup_in trees number sizes m).tables ≡ length (tables_of trees m) + 1
     → All (λ (s : TableSetup). IsTrue (has_kinds s.kinds s.initial)) (plan.setup_in trees number sizes m).tables
     → All (λ (s : TableSetup). All (λ (k : Kind). is_reference k ≡ false) s.kinds) (plan.setup_in trees number sizes m).tables
     → All (λ (b : BufferSetup). All (λ (k : Kind). is_reference k ≡ false) b.kinds) (plan.setup_in trees number sizes m).buffers
@@ -170,7 +171,7 @@ pub lawful_in : (trees : List Tree) (number : ℕ) (sizes : Sizes) (m : Machine)
     → face.IsMachine (plan.setup_in trees number sizes m)
 lawful_in trees number sizes m count initial plain plain_messages receivers room last typed networks = record {
   tables = tables_lawful (plan.setup_in trees number sizes m).tables room plain initial;
-  parameters = parameters_lawful (plan.setup_in trees number sizes m).tables (length (plan.tables_of trees m)) count last;
+  parameters = parameters_lawful (plan.setup_in trees number sizes m).tables (length (tables_of trees m)) count last;
   buffers = buffers_lawful (plan.setup_in trees number sizes m).buffers networks receivers plain_messages;
   one_type = record { one_type = all_alike trees (plan.setup_in trees number sizes m).buffers (plan.setup_in trees number sizes m).buffers typed typed };
 }

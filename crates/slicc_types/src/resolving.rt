@@ -59,7 +59,7 @@ pub struct Kept {
 }
 
 fn with_symbols(alloc: Global, scopes: Scopes<'_>, counts: Counts) -> Result<Kept, NoMemory>
-    requires { IsCounted scopes.entry.trees.now counts }
+    requires { IsCounted scopes.trees.now counts }
     ensures { IfOk result (IsKept scopes.entry.trees.now) }
 {
     let symbols = protocol_symbols(alloc, scopes)?;
