@@ -1,0 +1,166 @@
+-- The arms of the walk over expressions: what an expression does that has another one in a box, or arguments, where those have done theirs.
+use Rattle.std.proofs.Common.{◌≡◌, ◌∙◌, ℕ, List, Option, Result, Ok, Err, refl, sym, ap, subst}
+use Rattle.slicc_ast.specs.declared.tree.span.Span.{Span}
+use Rattle.slicc_ast.specs.declared.tree.name.Name.{Name}
+use Rattle.slicc_ast.specs.declared.tree.name.TypeName.{TypeName}
+use Rattle.slicc_ast.specs.declared.tree.expression.Args.{Args}
+use Rattle.slicc_ast.specs.declared.tree.expression.Expr.{Expr}
+use Rattle.slicc_ast.specs.declared.tree.expression.Operand.{Operand}
+use Rattle.slicc_ast.specs.declared.tree.expression.Suffix.{Suffix, Method}
+use Rattle.slicc_ast.specs.declared.tree.expression.Expr.TheViews as views
+use Rattle.ruby_value.specs.declared.value.Value.{Value}
+use Rattle.ctl_face.specs.declared.trouble.Trouble.{Trouble}
+use Rattle.ctl_face.specs.LocalView.{LocalView}
+use Rattle.acts.specs.Acting.{Acting, ends, ◌>>=◌}
+use Rattle.acts.specs.DoesAs.{DoesAs, itself}
+use Rattle.acts.proofs.Walk.{does_ends_as, then_does, then_stops}
+use Rattle.body_meaning.specs.declared.frame.Frame.{Frame}
+use Rattle.body_meaning.specs.declared.scope.Scope.{Scope}
+use Rattle.body_meaning.specs.declared.thing.Thing.{Thing}
+use Rattle.body_meaning.specs.declared.thing.Thing.TheVariants as thing
+use Rattle.body_meaning.specs.Calls.{Calls, method_call, named_call}
+use Rattle.body_meaning.specs.Each.{each}
+use Rattle.body_meaning.specs.Expressions.{names_line, names_nothing, negation_of, not_so, operand_step, suffixed, value, values_of}
+use Rattle.body_meaning.specs.Things.{value_in}
+use Rattle.body_walk.proofs.Forms.{suffixed_of_Method, value_of_Call, value_of_Cast, value_of_Group, value_of_IsInvalid, value_of_IsValid, value_of_Negate, value_of_Not, value_of_Operation, value_of_Postfix}
+
+-- Something, and then what comes of it.
+module _ {A B : Type 0} (whole : Acting B) (p q : Acting A) (next : A → Acting B) where
+  through_does : (x : A) (result : Result B Trouble) (u v w : LocalView) → whole ≡ p >>= next → q ≡ p → DoesAs itself q (Ok x) u v → DoesAs itself (next x) result v w
+      → DoesAs itself whole result u w
+  through_does x result u v w is same first rest =
+      subst (λ (r : Acting B). DoesAs itself r result u w) (sym is)
+      (then_does itself itself p next x result u v w (subst (λ (r : Acting A). DoesAs itself r (Ok x) u v) same first) rest)
+
+  through_stops : (e : Trouble) (u v w : LocalView) → whole ≡ p >>= next → q ≡ p → DoesAs itself q (Err e) u v → DoesAs itself whole (Err e) u w
+  through_stops e u v w is same first =
+      subst (λ (r : Acting B). DoesAs itself r (Err e) u w) (sym is)
+      (then_stops itself itself p next e u v w (subst (λ (r : Acting A). DoesAs itself r (Err e) u v) same first))
+
+module _ (s : Scope) (calls : Calls) (frame : Frame) where
+  pub not_does : (e inner got : Expr) (span : Span) (t r : Thing) (u v : LocalView) → e ≡ views.Not inner span → got ≡ inner
+      → DoesAs itself (value s calls frame got) (Ok t) u v → r ≡ not_so t → DoesAs itself (value s calls frame e) (Ok r) u v
+  not_does e inner got span t r u v is same first made =
+      through_does (value s calls frame e) (value s calls frame inner) (value s calls frame got) (λ t. ends (not_so t)) t (Ok r) u v v
+      (ap (value s calls frame) is ∙ value_of_Not s calls frame inner span) (ap (value s calls frame) same) first (does_ends_as itself (not_so t) r v made)
+
+  pub not_stops : (e inner got : Expr) (span : Span) (x : Trouble) (u v w : LocalView) → e ≡ views.Not inner span → got ≡ inner
+      → DoesAs itself (value s calls frame got) (Err x) u v → DoesAs itself (value s calls frame e) (Err x) u w
+  not_stops e inner got span x u v w is same first =
+      through_stops (value s calls frame e) (value s calls frame inner) (value s calls frame got) (λ t. ends (not_so t)) x u v w
+      (ap (value s calls frame) is ∙ value_of_Not s calls frame inner span) (ap (value s calls frame) same) first
+
+  pub negate_does : (e inner got : Expr) (span : Span) (t : Thing) (result : Result Thing Trouble) (u v w : LocalView) → e ≡ views.Negate inner span → got ≡ inner
+      → DoesAs itself (value s calls frame got) (Ok t) u v → DoesAs itself (negation_of t) result v w → DoesAs itself (value s calls frame e) result u w
+  negate_does e inner got span t result u v w is same first rest =
+      through_does (value s calls frame e) (value s calls frame inner) (value s calls frame got) negation_of t result u v w
+      (ap (value s calls frame) is ∙ value_of_Negate s calls frame inner span) (ap (value s calls frame) same) first rest
+
+  pub negate_stops : (e inner got : Expr) (span : Span) (x : Trouble) (u v w : LocalView) → e ≡ views.Negate inner span → got ≡ inner
+      → DoesAs itself (value s calls frame got) (Err x) u v → DoesAs itself (value s calls frame e) (Err x) u w
+  negate_stops e inner got span x u v w is same first =
+      through_stops (value s calls frame e) (value s calls frame inner) (value s calls frame got) negation_of x u v w
+      (ap (value s calls frame) is ∙ value_of_Negate s calls frame inner span) (ap (value s calls frame) same) first
+
+  pub valid_does : (e inner got : Expr) (span : Span) (t r : Thing) (u v : LocalView) → e ≡ views.IsValid inner span → got ≡ inner
+      → DoesAs itself (value s calls frame got) (Ok t) u v → r ≡ names_line t → DoesAs itself (value s calls frame e) (Ok r) u v
+  valid_does e inner got span t r u v is same first made =
+      through_does (value s calls frame e) (value s calls frame inner) (value s calls frame got) (λ t. ends (names_line t)) t (Ok r) u v v
+      (ap (value s calls frame) is ∙ value_of_IsValid s calls frame inner span) (ap (value s calls frame) same) first (does_ends_as itself (names_line t) r v made)
+
+  pub valid_stops : (e inner got : Expr) (span : Span) (x : Trouble) (u v w : LocalView) → e ≡ views.IsValid inner span → got ≡ inner
+      → DoesAs itself (value s calls frame got) (Err x) u v → DoesAs itself (value s calls frame e) (Err x) u w
+  valid_stops e inner got span x u v w is same first =
+      through_stops (value s calls frame e) (value s calls frame inner) (value s calls frame got) (λ t. ends (names_line t)) x u v w
+      (ap (value s calls frame) is ∙ value_of_IsValid s calls frame inner span) (ap (value s calls frame) same) first
+
+  pub invalid_does : (e inner got : Expr) (span : Span) (t r : Thing) (u v : LocalView) → e ≡ views.IsInvalid inner span → got ≡ inner
+      → DoesAs itself (value s calls frame got) (Ok t) u v → r ≡ names_nothing t → DoesAs itself (value s calls frame e) (Ok r) u v
+  invalid_does e inner got span t r u v is same first made =
+      through_does (value s calls frame e) (value s calls frame inner) (value s calls frame got) (λ t. ends (names_nothing t)) t (Ok r) u v v
+      (ap (value s calls frame) is ∙ value_of_IsInvalid s calls frame inner span) (ap (value s calls frame) same) first (does_ends_as itself (names_nothing t) r v made)
+
+  pub invalid_stops : (e inner got : Expr) (span : Span) (x : Trouble) (u v w : LocalView) → e ≡ views.IsInvalid inner span → got ≡ inner
+      → DoesAs itself (value s calls frame got) (Err x) u v → DoesAs itself (value s calls frame e) (Err x) u w
+  invalid_stops e inner got span x u v w is same first =
+      through_stops (value s calls frame e) (value s calls frame inner) (value s calls frame got) (λ t. ends (names_nothing t)) x u v w
+      (ap (value s calls frame) is ∙ value_of_IsInvalid s calls frame inner span) (ap (value s calls frame) same) first
+
+  pub group_does : (e inner got : Expr) (span : Span) (result : Result Thing Trouble) (u v : LocalView) → e ≡ views.Group inner span → got ≡ inner
+      → DoesAs itself (value s calls frame got) result u v → DoesAs itself (value s calls frame e) result u v
+  group_does e inner got span result u v is same first =
+      subst (λ (p : Acting Thing). DoesAs itself p result u v)
+      (sym (ap (value s calls frame) is ∙ value_of_Group s calls frame inner span ∙ ap (value s calls frame) (sym same))) first
+
+  pub cast_does : (e inner got : Expr) (target : TypeName) (mode : Option (List ℕ)) (span : Span) (result : Result Thing Trouble) (u v : LocalView) → e ≡ views.Cast target mode inner span → got ≡ inner
+      → DoesAs itself (value s calls frame got) result u v → DoesAs itself (value s calls frame e) result u v
+  cast_does e inner got target mode span result u v is same first =
+      subst (λ (p : Acting Thing). DoesAs itself p result u v)
+      (sym (ap (value s calls frame) is ∙ value_of_Cast s calls frame target mode inner span ∙ ap (value s calls frame) (sym same))) first
+
+  pub postfix_does : (e inner got : Expr) (suffixes held : List Suffix) (span : Span) (t : Thing) (result : Result Thing Trouble) (u v w : LocalView)
+      → e ≡ views.Postfix inner suffixes span → got ≡ inner → held ≡ suffixes
+      → DoesAs itself (value s calls frame got) (Ok t) u v → DoesAs itself (each (suffixed s calls frame) t held) result v w → DoesAs itself (value s calls frame e) result u w
+  postfix_does e inner got suffixes held span t result u v w is same all first rest =
+      through_does (value s calls frame e) (value s calls frame inner) (value s calls frame got) (λ x. each (suffixed s calls frame) x suffixes) t result u v w
+      (ap (value s calls frame) is ∙ value_of_Postfix s calls frame inner suffixes span) (ap (value s calls frame) same) first
+      (subst (λ (xs : List Suffix). DoesAs itself (each (suffixed s calls frame) t xs) result v w) all rest)
+
+  pub postfix_stops : (e inner got : Expr) (suffixes : List Suffix) (span : Span) (x : Trouble) (u v w : LocalView)
+      → e ≡ views.Postfix inner suffixes span → got ≡ inner → DoesAs itself (value s calls frame got) (Err x) u v → DoesAs itself (value s calls frame e) (Err x) u w
+  postfix_stops e inner got suffixes span x u v w is same first =
+      through_stops (value s calls frame e) (value s calls frame inner) (value s calls frame got) (λ t. each (suffixed s calls frame) t suffixes) x u v w
+      (ap (value s calls frame) is ∙ value_of_Postfix s calls frame inner suffixes span) (ap (value s calls frame) same) first
+
+  pub operation_does : (e inner got : Expr) (others held : List Operand) (span : Span) (t : Thing) (left a : Value) (u v w : LocalView)
+      → e ≡ views.Operation inner others span → got ≡ inner → held ≡ others → DoesAs itself (value s calls frame got) (Ok t) u v → left ≡ value_in t
+      → DoesAs itself (each (operand_step s calls frame) left held) (Ok a) v w → DoesAs itself (value s calls frame e) (Ok (thing.Value a)) u w
+  operation_does e inner got others held span t left a u v w is same all first made rest =
+      through_does (value s calls frame e) (value s calls frame inner) (value s calls frame got) (λ x. each (operand_step s calls frame) (value_in x) others >>= (λ b. ends (thing.Value b))) t (Ok (thing.Value a)) u v w
+      (ap (value s calls frame) is ∙ value_of_Operation s calls frame inner others span) (ap (value s calls frame) same) first
+      (through_does _ (each (operand_step s calls frame) (value_in t) others) (each (operand_step s calls frame) left held) (λ b. ends (thing.Value b)) a (Ok (thing.Value a)) v w w
+      refl (ap (λ x. each (operand_step s calls frame) x held) made ∙ ap (each (operand_step s calls frame) (value_in t)) all) rest (does_ends_as itself (thing.Value a) (thing.Value a) w refl))
+
+  pub operation_stops : (e inner got : Expr) (others : List Operand) (span : Span) (x : Trouble) (u v w : LocalView)
+      → e ≡ views.Operation inner others span → got ≡ inner → DoesAs itself (value s calls frame got) (Err x) u v → DoesAs itself (value s calls frame e) (Err x) u w
+  operation_stops e inner got others span x u v w is same first =
+      through_stops (value s calls frame e) (value s calls frame inner) (value s calls frame got) (λ t. each (operand_step s calls frame) (value_in t) others >>= (λ b. ends (thing.Value b))) x u v w
+      (ap (value s calls frame) is ∙ value_of_Operation s calls frame inner others span) (ap (value s calls frame) same) first
+
+  pub operation_stops_later : (e inner got : Expr) (others held : List Operand) (span : Span) (t : Thing) (left : Value) (x : Trouble) (u v w o : LocalView)
+      → e ≡ views.Operation inner others span → got ≡ inner → held ≡ others → DoesAs itself (value s calls frame got) (Ok t) u v → left ≡ value_in t
+      → DoesAs itself (each (operand_step s calls frame) left held) (Err x) v w → DoesAs itself (value s calls frame e) (Err x) u o
+  operation_stops_later e inner got others held span t left x u v w o is same all first made rest =
+      through_does (value s calls frame e) (value s calls frame inner) (value s calls frame got) (λ y. each (operand_step s calls frame) (value_in y) others >>= (λ b. ends (thing.Value b))) t (Err x) u v o
+      (ap (value s calls frame) is ∙ value_of_Operation s calls frame inner others span) (ap (value s calls frame) same) first
+      (through_stops _ (each (operand_step s calls frame) (value_in t) others) (each (operand_step s calls frame) left held) (λ b. ends (thing.Value b)) x v w o
+      refl (ap (λ y. each (operand_step s calls frame) y held) made ∙ ap (each (operand_step s calls frame) (value_in t)) all) rest)
+
+  pub call_does : (e : Expr) (called : Name) (arguments : Args) (span : Span) (held : List Expr) (text : List ℕ) (vs : List Value) (result : Result Thing Trouble) (u v w : LocalView)
+      → e ≡ views.Call called arguments span → held ≡ arguments.items → text ≡ called.text
+      → DoesAs itself (values_of s calls frame held) (Ok vs) u v → DoesAs itself (named_call s calls text vs) result v w → DoesAs itself (value s calls frame e) result u w
+  call_does e called arguments span held text vs result u v w is all same first rest =
+      through_does (value s calls frame e) (values_of s calls frame arguments.items) (values_of s calls frame held) (named_call s calls called.text) vs result u v w
+      (ap (value s calls frame) is ∙ value_of_Call s calls frame called arguments span) (ap (values_of s calls frame) all) first
+      (subst (λ (name : List ℕ). DoesAs itself (named_call s calls name vs) result v w) same rest)
+
+  pub call_stops : (e : Expr) (called : Name) (arguments : Args) (span : Span) (held : List Expr) (x : Trouble) (u v w : LocalView)
+      → e ≡ views.Call called arguments span → held ≡ arguments.items → DoesAs itself (values_of s calls frame held) (Err x) u v → DoesAs itself (value s calls frame e) (Err x) u w
+  call_stops e called arguments span held x u v w is all first =
+      through_stops (value s calls frame e) (values_of s calls frame arguments.items) (values_of s calls frame held) (named_call s calls called.text) x u v w
+      (ap (value s calls frame) is ∙ value_of_Call s calls frame called arguments span) (ap (values_of s calls frame) all) first
+
+  pub method_does : (t : Thing) (suffix : Suffix) (called : Name) (arguments : Args) (span : Span) (held : List Expr) (text : List ℕ) (vs : List Value) (result : Result Thing Trouble) (u v w : LocalView)
+      → suffix ≡ Method called arguments span → held ≡ arguments.items → text ≡ called.text
+      → DoesAs itself (values_of s calls frame held) (Ok vs) u v → DoesAs itself (method_call s t text vs) result v w → DoesAs itself (suffixed s calls frame t suffix) result u w
+  method_does t suffix called arguments span held text vs result u v w is all same first rest =
+      through_does (suffixed s calls frame t suffix) (values_of s calls frame arguments.items) (values_of s calls frame held) (method_call s t called.text) vs result u v w
+      (ap (suffixed s calls frame t) is ∙ suffixed_of_Method s calls frame t called arguments span) (ap (values_of s calls frame) all) first
+      (subst (λ (name : List ℕ). DoesAs itself (method_call s t name vs) result v w) same rest)
+
+  pub method_stops : (t : Thing) (suffix : Suffix) (called : Name) (arguments : Args) (span : Span) (held : List Expr) (x : Trouble) (u v w : LocalView)
+      → suffix ≡ Method called arguments span → held ≡ arguments.items → DoesAs itself (values_of s calls frame held) (Err x) u v
+      → DoesAs itself (suffixed s calls frame t suffix) (Err x) u w
+  method_stops t suffix called arguments span held x u v w is all first =
+      through_stops (suffixed s calls frame t suffix) (values_of s calls frame arguments.items) (values_of s calls frame held) (method_call s t called.text) x u v w
+      (ap (suffixed s calls frame t) is ∙ suffixed_of_Method s calls frame t called arguments span) (ap (values_of s calls frame) all) first

@@ -1,0 +1,242 @@
+// What expressions give, with the operands, suffixes and arguments in them.
+ghost use Rattle.acts.specs.DoesAs.{DoesAs, itself};
+ghost use Rattle.body_calls.specs.CallsDo.{CallsDo};
+ghost use Rattle.body_meaning.specs.Bodies.{calls_within};
+ghost use Rattle.body_meaning.specs.Each.{each};
+ghost use Rattle.body_meaning.specs.Expressions.{operand_step, suffixed, value, value_behind, values_of};
+
+use crate::operators::{joined_values, names_line, names_nothing, negation_of, not_so};
+use acts::{Local, Trouble, Value};
+use body_calls::{field_in, index, method_call, named_call, value_found, variable};
+use body_meaning::{Frame, Scope, Thing, member_value, settled, value_in};
+use ruby_base::Seq;
+use slicc_ast::tree::{Expr, Operand, Suffix};
+use std::alloc::Global;
+
+/// What an expression gives in a body that has this of its own.
+#[cycle(value)]
+#[tactic(auto, using(acts::proofs::Walk::walk_steps, crate::proofs::Forms::forms))]
+pub fn value<T: Local, F: Fn(u16, Seq<Value>, &mut T) -> Result<Thing, Trouble>>(
+    alloc: Global,
+    s: Scope<'_>,
+    depth: u16,
+    calls: &F,
+    frame: &Frame,
+    e: &Expr,
+    local: &mut T,
+) -> Result<Thing, Trouble>
+    requires callable { F.IsAlwaysCallable calls.now }
+    requires does { CallsDo T.view F.Fn calls.now (calls_within s depth) }
+    ensures { DoesAs itself (value s.entry (calls_within s.entry depth) frame.now e.now) result
+        (T.view local.old) (T.view local.new) }
+{
+    match e {
+        Expr::Operation { first, others, .. } => {
+            let t = value(alloc, s, depth, calls, frame, first.get(), local)?;
+            let v = operands(alloc, s, depth, calls, frame, value_in(t), others, local)?;
+            Ok(Thing::Value(v))
+        }
+        Expr::Not(operand, _) => {
+            let t = value(alloc, s, depth, calls, frame, operand.get(), local)?;
+            Ok(not_so(t))
+        }
+        Expr::Negate(operand, _) => {
+            let t = value(alloc, s, depth, calls, frame, operand.get(), local)?;
+            negation_of(t, local)
+        }
+        Expr::Postfix {
+            value: inner,
+            suffixes,
+            ..
+        } => {
+            let t = value(alloc, s, depth, calls, frame, inner.get(), local)?;
+            suffixed_all(alloc, s, depth, calls, frame, t, suffixes, local)
+        }
+        Expr::Number(n, _) => Ok(Thing::Value(Value::Int(*n))),
+        Expr::True(_) => Ok(Thing::Value(Value::Bool(true))),
+        Expr::False(_) => Ok(Thing::Value(Value::Bool(false))),
+        Expr::Nothing(_) => Ok(Thing::Value(Value::Entry(None))),
+        Expr::Variable(name) => variable(s, frame, &name.text, local),
+        Expr::Member { owner, member, .. } => {
+            value_found(member_value(s, &owner.text, &member.text), local)
+        }
+        Expr::Call {
+            name,
+            arguments,
+            ..
+        } => {
+            let vs = values_of(alloc, s, depth, calls, frame, &arguments.items, local)?;
+            named_call(alloc, s, depth, calls, &name.text, vs, local)
+        }
+        Expr::New(..) => Ok(Thing::Nothing),
+        Expr::IsValid(inner, _) => {
+            let t = value(alloc, s, depth, calls, frame, inner.get(), local)?;
+            Ok(names_line(t))
+        }
+        Expr::IsInvalid(inner, _) => {
+            let t = value(alloc, s, depth, calls, frame, inner.get(), local)?;
+            Ok(names_nothing(t))
+        }
+        Expr::Cast { value: inner, .. } => {
+            value(alloc, s, depth, calls, frame, inner.get(), local)
+        }
+        Expr::Group(inner, _) => value(alloc, s, depth, calls, frame, inner.get(), local),
+    }
+}
+
+// An operator and its right side, behind a value.
+#[cycle(value)]
+#[tactic(auto, using(acts::proofs::Walk::walk_steps), unfolding(body_meaning::specs::Expressions::operated))]
+fn operated<T: Local, F: Fn(u16, Seq<Value>, &mut T) -> Result<Thing, Trouble>>(
+    alloc: Global,
+    s: Scope<'_>,
+    depth: u16,
+    calls: &F,
+    frame: &Frame,
+    left: Value,
+    o: &Operand,
+    local: &mut T,
+) -> Result<Value, Trouble>
+    requires callable { F.IsAlwaysCallable calls.now }
+    requires does { CallsDo T.view F.Fn calls.now (calls_within s depth) }
+    ensures { DoesAs itself (operand_step s.entry (calls_within s.entry depth) frame.now left o.now)
+        result (T.view local.old) (T.view local.new) }
+{
+    if let Some(v) = settled(o.operator, &left) {
+        return Ok(v);
+    }
+    let t = value(alloc, s, depth, calls, frame, &o.value, local)?;
+    joined_values(o.operator, &left, &value_in(t), local)
+}
+
+// Operators with their right sides, behind a value.
+#[cycle(value)]
+fn operands<T: Local, F: Fn(u16, Seq<Value>, &mut T) -> Result<Thing, Trouble>>(
+    alloc: Global,
+    s: Scope<'_>,
+    depth: u16,
+    calls: &F,
+    frame: &Frame,
+    first: Value,
+    others: &[Operand],
+    local: &mut T,
+) -> Result<Value, Trouble>
+    requires callable { F.IsAlwaysCallable calls.now }
+    requires does { CallsDo T.view F.Fn calls.now (calls_within s depth) }
+    ensures { DoesAs itself
+        (each (operand_step s.entry (calls_within s.entry depth) frame.now) first others.now) result
+        (T.view local.old) (T.view local.new) }
+{
+    let mut left = first;
+    for o in others {
+        left = operated(alloc, s, depth, calls, frame, left, o, local)?;
+    }
+    Ok(left)
+}
+
+// A suffix of a thing.
+#[cycle(value)]
+#[tactic(auto, using(acts::proofs::Walk::walk_steps, crate::proofs::Forms::forms))]
+fn suffixed<T: Local, F: Fn(u16, Seq<Value>, &mut T) -> Result<Thing, Trouble>>(
+    alloc: Global,
+    s: Scope<'_>,
+    depth: u16,
+    calls: &F,
+    frame: &Frame,
+    t: Thing,
+    suffix: &Suffix,
+    local: &mut T,
+) -> Result<Thing, Trouble>
+    requires callable { F.IsAlwaysCallable calls.now }
+    requires does { CallsDo T.view F.Fn calls.now (calls_within s depth) }
+    ensures { DoesAs itself (suffixed s.entry (calls_within s.entry depth) frame.now t suffix.now)
+        result (T.view local.old) (T.view local.new) }
+{
+    match suffix {
+        Suffix::Field(name, _) => field_in(s, &name.text, &t, local),
+        Suffix::Method {
+            name,
+            arguments,
+            ..
+        } => {
+            let vs = values_of(alloc, s, depth, calls, frame, &arguments.items, local)?;
+            method_call(alloc, s, t, &name.text, vs, local)
+        }
+        Suffix::Index(key, _) => {
+            let k = value(alloc, s, depth, calls, frame, key, local)?;
+            index(alloc, s, &t, value_in(k), local)
+        }
+    }
+}
+
+// Suffixes of a thing, one after another.
+#[cycle(value)]
+fn suffixed_all<T: Local, F: Fn(u16, Seq<Value>, &mut T) -> Result<Thing, Trouble>>(
+    alloc: Global,
+    s: Scope<'_>,
+    depth: u16,
+    calls: &F,
+    frame: &Frame,
+    first: Thing,
+    suffixes: &[Suffix],
+    local: &mut T,
+) -> Result<Thing, Trouble>
+    requires callable { F.IsAlwaysCallable calls.now }
+    requires does { CallsDo T.view F.Fn calls.now (calls_within s depth) }
+    ensures { DoesAs itself
+        (each (suffixed s.entry (calls_within s.entry depth) frame.now) first suffixes.now) result
+        (T.view local.old) (T.view local.new) }
+{
+    let mut t = first;
+    for suffix in suffixes {
+        t = suffixed(alloc, s, depth, calls, frame, t, suffix, local)?;
+    }
+    Ok(t)
+}
+
+/// What these arguments give, one after another.
+#[cycle(value)]
+#[tactic(auto, using(acts::proofs::Walk::walk_steps), unfolding(body_meaning::specs::Expressions::values_of, body_meaning::specs::Expressions::with_value))]
+pub fn values_of<T: Local, F: Fn(u16, Seq<Value>, &mut T) -> Result<Thing, Trouble>>(
+    alloc: Global,
+    s: Scope<'_>,
+    depth: u16,
+    calls: &F,
+    frame: &Frame,
+    arguments: &[Expr],
+    local: &mut T,
+) -> Result<Seq<Value>, Trouble>
+    requires callable { F.IsAlwaysCallable calls.now }
+    requires does { CallsDo T.view F.Fn calls.now (calls_within s depth) }
+    ensures { DoesAs itself (values_of s.entry (calls_within s.entry depth) frame.now arguments.now)
+        result (T.view local.old) (T.view local.new) }
+{
+    let mut values = Seq::new(alloc);
+    for e in arguments {
+        let t = value(alloc, s, depth, calls, frame, e, local)?;
+        values.push(value_in(t))?;
+    }
+    Ok(values)
+}
+
+/// What an expression with suffixes behind it gives.
+#[tactic(auto, using(acts::proofs::Walk::walk_steps), unfolding(body_meaning::specs::Expressions::value_behind))]
+pub fn value_behind<T: Local, F: Fn(u16, Seq<Value>, &mut T) -> Result<Thing, Trouble>>(
+    alloc: Global,
+    s: Scope<'_>,
+    depth: u16,
+    calls: &F,
+    frame: &Frame,
+    inner: &Expr,
+    suffixes: &[Suffix],
+    local: &mut T,
+) -> Result<Thing, Trouble>
+    requires callable { F.IsAlwaysCallable calls.now }
+    requires does { CallsDo T.view F.Fn calls.now (calls_within s depth) }
+    ensures { DoesAs itself
+        (value_behind s.entry (calls_within s.entry depth) frame.now inner.now suffixes.now) result
+        (T.view local.old) (T.view local.new) }
+{
+    let t = value(alloc, s, depth, calls, frame, inner, local)?;
+    suffixed_all(alloc, s, depth, calls, frame, t, suffixes, local)
+}
