@@ -7,7 +7,7 @@ use Rattle.ctl_face.specs.LocalView.{LocalView}
 use Rattle.acts.specs.Done.{Done}
 use Rattle.body_meaning.specs.declared.scope.Scope.{Scope}
 use Rattle.scan_meaning.specs.Scan.{ScanEnd, Scanned, fired, idle, full, stop, by_outcome, by_try, left_idle, scan}
-use Rattle.scan_meaning.specs.Transition.{Needs, Tried, fires, waits}
+use Rattle.scan_meaning.specs.Transition.{Tried, fires, waits}
 
 -- it fired, or the controller is as it was, or it waits
 pub data LeavesIt (v : LocalView) : Scanned → Type 0 where
@@ -27,12 +27,12 @@ of_outcome : (v : LocalView) (r : Result (Done Tried) StopAt) → LeavesIt v (by
 of_outcome v (Err at) = leaves (stop at)
 of_outcome v (Ok d) = of_try v d.value d.view
 
-module _ (s : Scope) (needs : Needs) (limit done : ℕ) (v : LocalView) where
-  scan_leaves_by : (b : Bool) → nat_le limit done ≡ b → LeavesIt v (scan s needs limit done v)
+module _ (s : Scope) (limit done : ℕ) (v : LocalView) where
+  scan_leaves_by : (b : Bool) → nat_le limit done ≡ b → LeavesIt v (scan s limit done v)
   scan_leaves_by true is = rw is (leaves full)
   scan_leaves_by false is = rw is (of_outcome v _)
 
-  pub scan_leaves : LeavesIt v (scan s needs limit done v)
+  pub scan_leaves : LeavesIt v (scan s limit done v)
   scan_leaves = scan_leaves_by (nat_le limit done) refl
 
 pub stopped_leaves : (v : LocalView) (r : Scanned) (at : StopAt) → LeavesIt v r → r.end ≡ stop at → r.view ≡ v

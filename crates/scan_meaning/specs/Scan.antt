@@ -20,8 +20,8 @@ use Rattle.body_meaning.specs.declared.scope.Scope.{Scope}
 use Rattle.body_meaning.specs.Bodies.{calls_of}
 use Rattle.body_meaning.specs.Frames.{Ended}
 use Rattle.body_meaning.specs.Statements.{all_done}
-use Rattle.scan_meaning.specs.Transition.{Needs, Tried, fires, waits, try}
-use Rattle.scan_meaning.specs.Trying.{Trying, ends, nothing_known, run_scan, then_try, with_known}
+use Rattle.scan_meaning.specs.Transition.{Tried, fires, waits, try}
+use Rattle.scan_meaning.specs.Trying.{Pair, Trying, ends, nothing_known, pairs_of, run_scan, then_try, with_known}
 
 abbrev pub port_block : Option Decl → Option Block
 port_block (Some (InPort p)) = Some p.body
@@ -33,21 +33,21 @@ port_done s p =
     found own.Reference (port_block (slice_get s.tree.now.declarations p.declaration))
     >>= (λ (b : Block). all_done s (calls_of s) b.statements (record { names = []; about = None }) >>= (λ (e : Ended). ends_body e.flow))
 
-abbrev pub after_port : Scope → Needs → Flow → Trying Tried
-after_port s needs (Triggered t) = try s needs t
-after_port s needs _ = ends waits
+abbrev pub after_port : Scope → Flow → Trying Tried
+after_port s (Triggered t) = try s t
+after_port s _ = ends waits
 
 -- A port that triggers nothing passes, as one whose transition is stalled.
-abbrev pub port_tried : Scope → Needs → PortSymbol → Trying Tried
-port_tried s needs p = then_try (with_known nothing_known (port_done s p)) (after_port s needs)
+abbrev pub port_tried : Scope → PortSymbol → Trying Tried
+port_tried s p = then_try (with_known nothing_known (port_done s p)) (after_port s)
 
 abbrev pub unless_fired : Trying Tried → Tried → Trying Tried
 unless_fired next (fires note) = ends (fires note)
 unless_fired next waits = next
 
-abbrev pub ports_tried : Scope → Needs → List PortSymbol → Trying Tried
-ports_tried s needs [] = ends waits
-ports_tried s needs (p ∷ ps) = then_try (port_tried s needs p) (unless_fired (ports_tried s needs ps))
+abbrev pub ports_tried : Scope → List PortSymbol → Trying Tried
+ports_tried s [] = ends waits
+ports_tried s (p ∷ ps) = then_try (port_tried s p) (unless_fired (ports_tried s ps))
 
 -- how a scan ends
 pub data ScanEnd : Type 0 where
@@ -74,7 +74,12 @@ by_outcome v (Err at) = record { end = stop at; view = v }
 by_outcome v (Ok d) = by_try v d.value d.view
 
 -- of a controller that has fired this many transitions in this cycle and may fire so many
-abbrev pub scan : Scope → Needs → (limit fired_before : ℕ) → LocalView → Scanned
-scan s needs limit fired_before v =
+abbrev pub scan : Scope → (limit fired_before : ℕ) → LocalView → Scanned
+scan s limit fired_before v =
     if nat_le limit fired_before then (record { end = full; view = v })
-    else by_outcome v (run_scan (ports_tried s needs s.machine.now.in_ports) v)
+    else by_outcome v (run_scan (ports_tried s s.machine.now.in_ports) v)
+
+-- the pairs of a state and an event that it looks up among the written transitions, in this order
+abbrev pub pairs_tried : Scope → (limit fired_before : ℕ) → LocalView → List Pair
+pairs_tried s limit fired_before v =
+    if nat_le limit fired_before then [] else pairs_of (ports_tried s s.machine.now.in_ports) v

@@ -5,14 +5,11 @@
 -- machine sets it. These see the line's entry and TBE as the actions have left them. Without a next state it is the state before.
 use Rattle.std.specs.Prelude.{ℕ, ◌+◌, ◌==◌, ◌&&◌, Bool, true, false, Option, None, Some, List, [], ◌∷◌, map, nat_lt, position, slice_get, unwrap_or}
 use Rattle.std.specs.List.{list_any}
-use Rattle.slicc_ast.specs.declared.tree.machine.Decl.{Decl}
-use Rattle.slicc_ast.specs.declared.tree.machine.Decl.TheVariants.{Action}
 use Rattle.slicc_ast.specs.declared.tree.statement.Block.{Block}
 use Rattle.ruby_value.specs.declared.fault.Fault.TheVariants.{Invalid}
 use Rattle.ruby_value.specs.declared.value.Value.{Value}
 use Rattle.ruby_value.specs.declared.value.Value.TheVariants as value
 use Rattle.ruby_value.specs.Lines.{line_of}
-use Rattle.ruby_symbols.specs.declared.machine.ActionSymbol.{ActionSymbol}
 use Rattle.ruby_symbols.specs.declared.machine.MachineSymbols.{MachineSymbols}
 use Rattle.ruby_symbols.specs.declared.machine.TableSymbol.{TableSymbol}
 use Rattle.ruby_symbols.specs.declared.machine.TransitionSymbol.{TransitionSymbol}
@@ -33,11 +30,8 @@ use Rattle.body_meaning.specs.Each.{each}
 use Rattle.body_meaning.specs.Frames.{Ended}
 use Rattle.body_meaning.specs.Statements.{all_done}
 use Rattle.body_meaning.specs.Things.{value_in}
+use Rattle.scan_meaning.specs.Actions.{body_of_action, need}
 use Rattle.scan_meaning.specs.Trying.{Known, Trying, stops, looks_up, stop_at, then_try, with_known}
-
--- how many `check_allocate` statements for a table the actions of a transition have, both by their numbers within the machine
-abbrev pub Needs : Type 0
-Needs = ℕ → ℕ → ℕ
 
 -- Written transitions.
 
@@ -94,21 +88,13 @@ is_stall_among actions (Some stall) = is_among stall actions
 
 -- Actions.
 
-abbrev pub action_block : Option Decl → Option Block
-action_block (Some (Action a)) = Some a.body
-action_block _ = None
-
-abbrev pub block_of : Scope → Option ActionSymbol → Option Block
-block_of s None = None
-block_of s (Some a) = action_block (slice_get s.tree.now.declarations a.declaration)
-
 -- what the transition is about after an action
 abbrev pub about_left : About → Frame → About
 about_left a frame = unwrap_or frame.about a
 
 abbrev pub action_done : Scope → About → ℕ → Acting About
 action_done s a number =
-    found own.Reference (block_of s (slice_get s.machine.now.actions number))
+    found own.Reference (body_of_action s number)
     >>= (λ (b : Block). all_done s (calls_of s) b.statements (record { names = []; about = Some a })
     >>= (λ (e : Ended). ends_body (about_left a e.frame)))
 
@@ -128,25 +114,25 @@ fired s t state next row =
     >> (permission_set s a next s.machine.now.set_permission
     >> ends_body (fires (record { address = t.address; state = state; event = t.event; next = next }))))
 
--- of a written transition, by its number among those of the machine
-abbrev pub row_tried : Scope → Needs → Trigger → ℕ → ℕ → TransitionSymbol → Acting Tried
-row_tried s needs t state number row =
-    is_short (needs number) 0 s.machine.now.tables
+-- of a written transition
+abbrev pub row_tried : Scope → Trigger → ℕ → TransitionSymbol → Acting Tried
+row_tried s t state row =
+    is_short (need s row.actions) 0 s.machine.now.tables
     >>= (λ short. either short waiting
     (either (is_stall_among row.actions s.machine.now.stall) waiting (fired s t state (unwrap_or row.next state) row)))
 
 abbrev pub known : Trigger → Option ℕ → Known
 known t state = record { address = Some t.address; state = state; event = Some t.event }
 
-abbrev pub found_tried : Scope → Needs → Trigger → ℕ → Option ℕ → Trying Tried
-found_tried s needs t state None =
+abbrev pub found_tried : Scope → Trigger → ℕ → Option ℕ → Trying Tried
+found_tried s t state None =
     looks_up (record { address = t.address; state = state; event = t.event; is_written = false }) (stops (stop_at (known t (Some state)) Invalid))
-found_tried s needs t state (Some number) =
+found_tried s t state (Some number) =
     looks_up (record { address = t.address; state = state; event = t.event; is_written = true })
     (with_known (known t (Some state))
-    (found own.Reference (slice_get s.machine.now.transitions number) >>= row_tried s needs t state number))
+    (found own.Reference (slice_get s.machine.now.transitions number) >>= row_tried s t state))
 
-abbrev pub try : Scope → Needs → Trigger → Trying Tried
-try s needs t =
+abbrev pub try : Scope → Trigger → Trying Tried
+try s t =
     then_try (with_known (known t None) (read_state s (about t)))
-    (λ state. found_tried s needs t state (position (is_for state t.event) s.machine.now.transitions))
+    (λ state. found_tried s t state (position (is_for state t.event) s.machine.now.transitions))

@@ -63,8 +63,8 @@ follow_pairs (Ok d) next = next d.value d.view
 follow_pairs (Err fault) next = []
 
 -- the pairs that it looks up in a local, in this order
-unfoldable pub pairs_tried : {A : Type 0} → Trying A → LocalView → List Pair
-pairs_tried (ends x) v = []
-pairs_tried (stops stop) v = []
-pairs_tried (acts k a more) v = follow_pairs (does a v) (λ x w. pairs_tried (more x) w)
-pairs_tried (looks_up pair rest) v = pair ∷ pairs_tried rest v
+unfoldable pub pairs_of : {A : Type 0} → Trying A → LocalView → List Pair
+pairs_of (ends x) v = []
+pairs_of (stops stop) v = []
+pairs_of (acts k a more) v = follow_pairs (does a v) (λ x w. pairs_of (more x) w)
+pairs_of (looks_up pair rest) v = pair ∷ pairs_of rest v
