@@ -16,7 +16,6 @@ use Rattle.ruby_symbols.specs.declared.machine.TransitionSymbol.{TransitionSymbo
 use Rattle.ruby_symbols.specs.declared.states.StateArgument.{StateArgument}
 use Rattle.ruby_symbols.specs.declared.states.StateArgument.TheVariants.{Tbe, Entry, Address, State}
 use Rattle.ruby_symbols.specs.States.{get_state_arguments, set_permission_arguments, set_state_arguments}
-use Rattle.run_journal.specs.declared.entry.FireNote.{FireNote}
 use Rattle.acts.specs.declared.body_fault.BodyFault.TheVariants as own
 use Rattle.acts.specs.Act as act
 use Rattle.acts.specs.Acting.{Acting, ends as ends_body, ◌>>=◌, ◌>>◌, act as done, either, found}
@@ -30,8 +29,11 @@ use Rattle.body_meaning.specs.Each.{each}
 use Rattle.body_meaning.specs.Frames.{Ended}
 use Rattle.body_meaning.specs.Statements.{all_done}
 use Rattle.body_meaning.specs.Things.{value_in}
+use Rattle.scan_meaning.specs.declared.tried.Known.{Known}
+use Rattle.scan_meaning.specs.declared.tried.Tried.{Tried}
+use Rattle.scan_meaning.specs.declared.tried.Tried.TheVariants.{Waits, Fires}
 use Rattle.scan_meaning.specs.Actions.{body_of_action, need}
-use Rattle.scan_meaning.specs.Trying.{Known, Trying, stops, looks_up, stop_at, then_try, with_known}
+use Rattle.scan_meaning.specs.Trying.{Trying, stops, looks_up, stop_at, then_try, with_known}
 
 -- Written transitions.
 
@@ -100,19 +102,15 @@ action_done s a number =
 
 -- A try.
 
-pub data Tried : Type 0 where
-  waits : Tried
-  fires : FireNote → Tried
-
 abbrev pub waiting : Acting Tried
-waiting = done act.Again >> ends_body waits
+waiting = done act.Again >> ends_body Waits
 
 abbrev pub fired : Scope → Trigger → ℕ → ℕ → TransitionSymbol → Acting Tried
 fired s t state next row =
     each (action_done s) (about t) row.actions
     >>= (λ a. state_set s a next s.machine.now.set_state
     >> (permission_set s a next s.machine.now.set_permission
-    >> ends_body (fires (record { address = t.address; state = state; event = t.event; next = next }))))
+    >> ends_body (Fires (record { address = t.address; state = state; event = t.event; next = next }))))
 
 -- of a written transition
 abbrev pub row_tried : Scope → Trigger → ℕ → TransitionSymbol → Acting Tried
