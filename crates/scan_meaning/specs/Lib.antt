@@ -1,3 +1,5 @@
 pub mod Trying
+pub mod Actions
 pub mod Transition
 pub mod Scan
+pub mod Round

@@ -1,19 +1,14 @@
 -- What a scan does, as data: it ends with an answer, stops with a fault and what is known of its transition then, does an act, or
 -- looks a pair of a state and an event up among the written transitions. An act carries what is known while it is done, so that a
 -- fault of it is told with that. Only `run_scan` looks at a controller.
-use Rattle.std.specs.Prelude.{ℕ, Bool, Option, None, List, [], ◌∷◌, Result, Ok, Err}
+use Rattle.std.specs.Prelude.{ℕ, Bool, None, List, [], ◌∷◌, Result, Ok, Err}
 use Rattle.ruby_value.specs.declared.fault.Fault.{Fault}
 use Rattle.run_journal.specs.declared.entry.StopAt.{StopAt}
 use Rattle.ctl_face.specs.LocalView.{LocalView}
 use Rattle.acts.specs.Act.{Act, answer}
 use Rattle.acts.specs.Acting.{Acting, ends as ends_body, stops as stops_body, acts as acts_in, fault_of}
 use Rattle.acts.specs.Done.{Done, does}
-
--- what is known of a transition, as a stop tells it: the byte address of its line, its state and its event
-pub record Known : Type 0 where
-  pub address : Option ℕ
-  pub state : Option ℕ
-  pub event : Option ℕ
+use Rattle.scan_meaning.specs.declared.tried.Known.{Known}
 
 abbrev pub nothing_known : Known
 nothing_known = record { address = None; state = None; event = None }
@@ -63,8 +58,8 @@ follow_pairs (Ok d) next = next d.value d.view
 follow_pairs (Err fault) next = []
 
 -- the pairs that it looks up in a local, in this order
-unfoldable pub pairs_tried : {A : Type 0} → Trying A → LocalView → List Pair
-pairs_tried (ends x) v = []
-pairs_tried (stops stop) v = []
-pairs_tried (acts k a more) v = follow_pairs (does a v) (λ x w. pairs_tried (more x) w)
-pairs_tried (looks_up pair rest) v = pair ∷ pairs_tried rest v
+unfoldable pub pairs_of : {A : Type 0} → Trying A → LocalView → List Pair
+pairs_of (ends x) v = []
+pairs_of (stops stop) v = []
+pairs_of (acts k a more) v = follow_pairs (does a v) (λ x w. pairs_of (more x) w)
+pairs_of (looks_up pair rest) v = pair ∷ pairs_of rest v

@@ -2,5 +2,9 @@
 #![tactic(auto)]
 
 mod laws;
+mod round;
+mod tried;
 
 pub use laws::scans_that_fire_nothing_change_nothing;
+pub use round::RoundEnd;
+pub use tried::{Known, Tried};

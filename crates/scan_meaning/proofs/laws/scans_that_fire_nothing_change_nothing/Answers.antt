@@ -4,7 +4,7 @@ use Rattle.scan_meaning.proofs.laws.scans_that_fire_nothing_change_nothing.Goals
 
 pub returns : goal.returns
 returns c = record {
-  stopped = λ s needs limit fired v at. stopped_leaves v (scan s needs limit fired v) at (scan_leaves s needs limit fired v);
-  full = λ s needs limit fired v. full_leaves v (scan s needs limit fired v) (scan_leaves s needs limit fired v);
-  idle = λ s needs limit fired v. idle_leaves v (scan s needs limit fired v) (scan_leaves s needs limit fired v);
+  stopped = λ s limit fired v at. stopped_leaves v (scan s limit fired v) at (scan_leaves s limit fired v);
+  full = λ s limit fired v. full_leaves v (scan s limit fired v) (scan_leaves s limit fired v);
+  idle = λ s limit fired v. idle_leaves v (scan s limit fired v) (scan_leaves s limit fired v);
 }
