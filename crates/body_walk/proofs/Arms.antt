@@ -15,9 +15,9 @@ use Rattle.acts.specs.Acting.{Acting, ends, ◌>>=◌}
 use Rattle.acts.specs.DoesAs.{DoesAs, itself}
 use Rattle.acts.proofs.Walk.{does_ends_as, then_does, then_stops}
 use Rattle.body_meaning.specs.declared.frame.Frame.{Frame}
-use Rattle.body_meaning.specs.declared.scope.Scope.{Scope}
 use Rattle.body_meaning.specs.declared.thing.Thing.{Thing}
 use Rattle.body_meaning.specs.declared.thing.Thing.TheVariants as thing
+use Rattle.body_meaning.specs.Reading.{Reading}
 use Rattle.body_meaning.specs.Calls.{Calls, method_call, named_call}
 use Rattle.body_meaning.specs.Each.{each}
 use Rattle.body_meaning.specs.Expressions.{names_line, names_nothing, negation_of, not_so, operand_step, suffixed, value, values_of}
@@ -37,7 +37,7 @@ module _ {A B : Type 0} (whole : Acting B) (p q : Acting A) (next : A → Acting
       subst (λ (r : Acting B). DoesAs itself r (Err e) u w) (sym is)
       (then_stops itself itself p next e u v w (subst (λ (r : Acting A). DoesAs itself r (Err e) u v) same first))
 
-module _ (s : Scope) (calls : Calls) (frame : Frame) where
+module _ (s : Reading) (calls : Calls) (frame : Frame) where
   pub not_does : (e inner got : Expr) (span : Span) (t r : Thing) (u v : LocalView) → e ≡ views.Not inner span → got ≡ inner
       → DoesAs itself (value s calls frame got) (Ok t) u v → r ≡ not_so t → DoesAs itself (value s calls frame e) (Ok r) u v
   not_does e inner got span t r u v is same first made =

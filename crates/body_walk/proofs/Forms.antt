@@ -16,9 +16,9 @@ use Rattle.ruby_value.specs.declared.value.Value.{Value}
 use Rattle.acts.specs.Acting.{Acting, ends, ◌>>=◌}
 use Rattle.body_meaning.specs.declared.frame.Frame.{Frame}
 use Rattle.body_meaning.specs.declared.place.Place.{Place}
-use Rattle.body_meaning.specs.declared.scope.Scope.{Scope}
 use Rattle.body_meaning.specs.declared.thing.Thing.{Thing}
 use Rattle.body_meaning.specs.declared.thing.Thing.TheVariants as thing
+use Rattle.body_meaning.specs.Reading.{Reading}
 use Rattle.body_meaning.specs.Calls.{Calls, method_call, named_call}
 use Rattle.body_meaning.specs.Each.{each}
 use Rattle.body_meaning.specs.Expressions.{names_line, names_nothing, negation_of, not_so, operand_step, operands, suffixed, suffixed_all, value, values_of}
@@ -35,7 +35,7 @@ suffixes_held suffixes = search (rules, the_lemmas)
 pub name_in_Group : (e : Expr) (span : Span) → name_in (views.Group e span) ≡ name_in e
 name_in_Group e span = ap name_in (Group_is e span)
 
-module _ (s : Scope) (calls : Calls) (frame : Frame) where
+module _ (s : Reading) (calls : Calls) (frame : Frame) where
   pub value_of_Operation : (e : Expr) (others : List Operand) (span : Span)
       → value s calls frame (views.Operation e others span)
       ≡ value s calls frame e >>= (λ t. each (operand_step s calls frame) (value_in t) others >>= (λ v. ends (thing.Value v)))

@@ -1,6 +1,6 @@
 pub mod Each
 pub mod Ends
-pub mod Frames
+pub mod Blocks
 pub mod Rows
 pub mod Forms
 pub mod Arms

@@ -7,13 +7,13 @@ use Rattle.slicc_ast.specs.declared.tree.expression.Expr.{Expr, Row_of-Expr, end
 use Rattle.ruby_value.specs.declared.value.Value.{Value}
 use Rattle.acts.specs.Acting.{Acting, ◌>>=◌}
 use Rattle.body_meaning.specs.declared.frame.Frame.{Frame}
-use Rattle.body_meaning.specs.declared.scope.Scope.{Scope}
 use Rattle.body_meaning.specs.declared.thing.Thing.{Thing}
+use Rattle.body_meaning.specs.Reading.{Reading}
 use Rattle.body_meaning.specs.Calls.{Calls}
 use Rattle.body_meaning.specs.Each.{each}
 use Rattle.body_meaning.specs.Expressions.{operand_step, operands, operated, suffixed, suffixed_all, value, value_step, values, with_value}
 
-module _ (s : Scope) (calls : Calls) (frame : Frame) where
+module _ (s : Reading) (calls : Calls) (frame : Frame) where
   pub operands_of_row : (left : Value) (n : _) (row : Row_of-Operand n) → operands s calls frame left row ≡ each (operand_step s calls frame) left (items-the_row-Operand n row)
   operands_of_row left n end_of-Operand = refl
   operands_of_row left n (more_of-Operand operator inner row) =

@@ -4,6 +4,7 @@ ghost use Rattle.body_calls.specs.CallsDo.{CallsDo};
 ghost use Rattle.body_meaning.specs.Bodies.{calls_within};
 ghost use Rattle.body_meaning.specs.Each.{each};
 ghost use Rattle.body_meaning.specs.Expressions.{operand_step, suffixed, value, value_behind, values_of};
+ghost use Rattle.body_meaning.specs.Reading.{reading};
 
 use crate::operators::{joined_values, names_line, names_nothing, negation_of, not_so};
 use acts::{Local, Trouble, Value};
@@ -26,8 +27,8 @@ pub fn value<T: Local, F: Fn(u16, Seq<Value>, &mut T) -> Result<Thing, Trouble>>
     local: &mut T,
 ) -> Result<Thing, Trouble>
     requires callable { F.IsAlwaysCallable calls.now }
-    requires does { CallsDo T.view F.Fn calls.now (calls_within s depth) }
-    ensures { DoesAs itself (value s.entry (calls_within s.entry depth) frame.now e.now) result
+    requires does { CallsDo T.view F.Fn calls.now (calls_within (reading s) depth) }
+    ensures { DoesAs itself (value (reading s.entry) (calls_within (reading s.entry) depth) frame.now e.now) result
         (T.view local.old) (T.view local.new) }
 {
     match e {
@@ -98,8 +99,8 @@ fn operated<T: Local, F: Fn(u16, Seq<Value>, &mut T) -> Result<Thing, Trouble>>(
     local: &mut T,
 ) -> Result<Value, Trouble>
     requires callable { F.IsAlwaysCallable calls.now }
-    requires does { CallsDo T.view F.Fn calls.now (calls_within s depth) }
-    ensures { DoesAs itself (operand_step s.entry (calls_within s.entry depth) frame.now left o.now)
+    requires does { CallsDo T.view F.Fn calls.now (calls_within (reading s) depth) }
+    ensures { DoesAs itself (operand_step (reading s.entry) (calls_within (reading s.entry) depth) frame.now left o.now)
         result (T.view local.old) (T.view local.new) }
 {
     if let Some(v) = settled(o.operator, &left) {
@@ -122,9 +123,9 @@ fn operands<T: Local, F: Fn(u16, Seq<Value>, &mut T) -> Result<Thing, Trouble>>(
     local: &mut T,
 ) -> Result<Value, Trouble>
     requires callable { F.IsAlwaysCallable calls.now }
-    requires does { CallsDo T.view F.Fn calls.now (calls_within s depth) }
+    requires does { CallsDo T.view F.Fn calls.now (calls_within (reading s) depth) }
     ensures { DoesAs itself
-        (each (operand_step s.entry (calls_within s.entry depth) frame.now) first others.now) result
+        (each (operand_step (reading s.entry) (calls_within (reading s.entry) depth) frame.now) first others.now) result
         (T.view local.old) (T.view local.new) }
 {
     let mut left = first;
@@ -148,8 +149,8 @@ fn suffixed<T: Local, F: Fn(u16, Seq<Value>, &mut T) -> Result<Thing, Trouble>>(
     local: &mut T,
 ) -> Result<Thing, Trouble>
     requires callable { F.IsAlwaysCallable calls.now }
-    requires does { CallsDo T.view F.Fn calls.now (calls_within s depth) }
-    ensures { DoesAs itself (suffixed s.entry (calls_within s.entry depth) frame.now t suffix.now)
+    requires does { CallsDo T.view F.Fn calls.now (calls_within (reading s) depth) }
+    ensures { DoesAs itself (suffixed (reading s.entry) (calls_within (reading s.entry) depth) frame.now t suffix.now)
         result (T.view local.old) (T.view local.new) }
 {
     match suffix {
@@ -182,9 +183,9 @@ fn suffixed_all<T: Local, F: Fn(u16, Seq<Value>, &mut T) -> Result<Thing, Troubl
     local: &mut T,
 ) -> Result<Thing, Trouble>
     requires callable { F.IsAlwaysCallable calls.now }
-    requires does { CallsDo T.view F.Fn calls.now (calls_within s depth) }
+    requires does { CallsDo T.view F.Fn calls.now (calls_within (reading s) depth) }
     ensures { DoesAs itself
-        (each (suffixed s.entry (calls_within s.entry depth) frame.now) first suffixes.now) result
+        (each (suffixed (reading s.entry) (calls_within (reading s.entry) depth) frame.now) first suffixes.now) result
         (T.view local.old) (T.view local.new) }
 {
     let mut t = first;
@@ -207,8 +208,8 @@ pub fn values_of<T: Local, F: Fn(u16, Seq<Value>, &mut T) -> Result<Thing, Troub
     local: &mut T,
 ) -> Result<Seq<Value>, Trouble>
     requires callable { F.IsAlwaysCallable calls.now }
-    requires does { CallsDo T.view F.Fn calls.now (calls_within s depth) }
-    ensures { DoesAs itself (values_of s.entry (calls_within s.entry depth) frame.now arguments.now)
+    requires does { CallsDo T.view F.Fn calls.now (calls_within (reading s) depth) }
+    ensures { DoesAs itself (values_of (reading s.entry) (calls_within (reading s.entry) depth) frame.now arguments.now)
         result (T.view local.old) (T.view local.new) }
 {
     let mut values = Seq::new(alloc);
@@ -232,9 +233,9 @@ pub fn value_behind<T: Local, F: Fn(u16, Seq<Value>, &mut T) -> Result<Thing, Tr
     local: &mut T,
 ) -> Result<Thing, Trouble>
     requires callable { F.IsAlwaysCallable calls.now }
-    requires does { CallsDo T.view F.Fn calls.now (calls_within s depth) }
+    requires does { CallsDo T.view F.Fn calls.now (calls_within (reading s) depth) }
     ensures { DoesAs itself
-        (value_behind s.entry (calls_within s.entry depth) frame.now inner.now suffixes.now) result
+        (value_behind (reading s.entry) (calls_within (reading s.entry) depth) frame.now inner.now suffixes.now) result
         (T.view local.old) (T.view local.new) }
 {
     let t = value(alloc, s, depth, calls, frame, inner, local)?;

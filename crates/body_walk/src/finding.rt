@@ -8,6 +8,7 @@ ghost use Rattle.body_calls.specs.CallsDo.{CallsDo};
 ghost use Rattle.body_meaning.specs.declared.place.Place.TheVariants as place;
 ghost use Rattle.body_meaning.specs.Bodies.{calls_within};
 ghost use Rattle.body_meaning.specs.Places.{field_place, line_place, name_behind, name_in, part_place, place_behind, place_last, place_of, place_with};
+ghost use Rattle.body_meaning.specs.Reading.{reading};
 
 use crate::expressions::value_behind;
 use acts::{BodyFault, Local, NoMemory, Trouble, Value};
@@ -31,17 +32,16 @@ fn name_in(e: &Expr) -> Option<&[u8]>
 fn name_behind<'a>(e: &'a Expr, suffixes: &[Suffix]) -> Option<&'a [u8]>
     ensures { option_copied result ≡ name_behind e.now suffixes.now }
 {
-    if suffixes.is_empty() { name_in(e) } else { None }
+    if suffixes.is_empty() {
+        name_in(e)
+    } else {
+        None
+    }
 }
 
 #[tactic(auto, using(acts::proofs::Walk::walk_steps), unfolding(body_meaning::specs::Places::line_place))]
-fn line_place<T: Local>(
-    s: Scope<'_>,
-    v: &Value,
-    name: &[u8],
-    local: &T,
-) -> Result<Place, Trouble>
-    ensures { DoesAs itself (line_place s.entry v.now name.now) result (T.view local.now)
+fn line_place<T: Local>(s: Scope<'_>, v: &Value, name: &[u8], local: &T) -> Result<Place, Trouble>
+    ensures { DoesAs itself (line_place (reading s.entry) v.now name.now) result (T.view local.now)
         (T.view local.now) }
 {
     let Some(r) = reference(v) else {
@@ -60,7 +60,7 @@ fn part_place(
     structure: u16,
     name: &[u8],
 ) -> Result<Option<Place>, NoMemory>
-    ensures { IfOk result (λ p. p ≡ part_place s.entry (option_copied held.entry) structure name.now) }
+    ensures { IfOk result (λ p. p ≡ part_place (reading s.entry) (option_copied held.entry) structure name.now) }
 {
     let Some(held) = held else {
         return Ok(None);
@@ -91,7 +91,7 @@ fn field_place<T: Local>(
     t: &Thing,
     local: &T,
 ) -> Result<Place, Trouble>
-    ensures { DoesAs itself (field_place s.entry (option_copied held.entry) name.now t.now) result
+    ensures { DoesAs itself (field_place (reading s.entry) (option_copied held.entry) name.now t.now) result
         (T.view local.now) (T.view local.now) }
 {
     match t {
@@ -117,9 +117,9 @@ fn place_last<T: Local, F: Fn(u16, Seq<Value>, &mut T) -> Result<Thing, Trouble>
     local: &mut T,
 ) -> Result<Place, Trouble>
     requires callable { F.IsAlwaysCallable calls.now }
-    requires does { CallsDo T.view F.Fn calls.now (calls_within s depth) }
+    requires does { CallsDo T.view F.Fn calls.now (calls_within (reading s) depth) }
     ensures { DoesAs itself
-        (place_last s.entry (calls_within s.entry depth) frame.now inner.now before.now (option_copied last.entry))
+        (place_last (reading s.entry) (calls_within (reading s.entry) depth) frame.now inner.now before.now (option_copied last.entry))
         result (T.view local.old) (T.view local.new) }
 {
     let Some(Suffix::Field(name, _)) = last else {
@@ -141,13 +141,23 @@ fn place_behind<T: Local, F: Fn(u16, Seq<Value>, &mut T) -> Result<Thing, Troubl
     local: &mut T,
 ) -> Result<Place, Trouble>
     requires callable { F.IsAlwaysCallable calls.now }
-    requires does { CallsDo T.view F.Fn calls.now (calls_within s depth) }
+    requires does { CallsDo T.view F.Fn calls.now (calls_within (reading s) depth) }
     ensures { DoesAs itself
-        (place_behind s.entry (calls_within s.entry depth) frame.now inner.now suffixes.now) result
+        (place_behind (reading s.entry) (calls_within (reading s.entry) depth) frame.now inner.now suffixes.now) result
         (T.view local.old) (T.view local.new) }
 {
     let n = suffixes.len().saturating_sub(1);
-    place_last(alloc, s, depth, calls, frame, inner, &suffixes[..n], suffixes.get(n), local)
+    place_last(
+        alloc,
+        s,
+        depth,
+        calls,
+        frame,
+        inner,
+        &suffixes[..n],
+        suffixes.get(n),
+        local,
+    )
 }
 
 fn named_place(alloc: Global, name: &[u8]) -> Result<Place, NoMemory>
@@ -168,8 +178,8 @@ pub fn place_of<T: Local, F: Fn(u16, Seq<Value>, &mut T) -> Result<Thing, Troubl
     local: &mut T,
 ) -> Result<Place, Trouble>
     requires callable { F.IsAlwaysCallable calls.now }
-    requires does { CallsDo T.view F.Fn calls.now (calls_within s depth) }
-    ensures { DoesAs itself (place_of s.entry (calls_within s.entry depth) frame.now e.now) result
+    requires does { CallsDo T.view F.Fn calls.now (calls_within (reading s) depth) }
+    ensures { DoesAs itself (place_of (reading s.entry) (calls_within (reading s.entry) depth) frame.now e.now) result
         (T.view local.old) (T.view local.new) }
 {
     match e {
@@ -196,9 +206,9 @@ pub fn place_with<T: Local, F: Fn(u16, Seq<Value>, &mut T) -> Result<Thing, Trou
     local: &mut T,
 ) -> Result<Place, Trouble>
     requires callable { F.IsAlwaysCallable calls.now }
-    requires does { CallsDo T.view F.Fn calls.now (calls_within s depth) }
+    requires does { CallsDo T.view F.Fn calls.now (calls_within (reading s) depth) }
     ensures { DoesAs itself
-        (place_with s.entry (calls_within s.entry depth) frame.now e.now suffixes.now) result
+        (place_with (reading s.entry) (calls_within (reading s.entry) depth) frame.now e.now suffixes.now) result
         (T.view local.old) (T.view local.new) }
 {
     if suffixes.is_empty() {

@@ -23,12 +23,7 @@ fn made(alloc: Global, name: &[u8], thing: Thing) -> Result<Bound, NoMemory>
 }
 
 /// Puts another thing under a name, where it is bound; of two of its text the innermost is meant.
-pub fn rebind(
-    alloc: Global,
-    frame: &mut Frame,
-    name: &[u8],
-    thing: Thing,
-) -> Result<(), NoMemory>
+pub fn rebind(alloc: Global, frame: &mut Frame, name: &[u8], thing: Thing) -> Result<(), NoMemory>
     ensures { OnOk result (frame.new ≡ rebind name.now thing frame.old) }
 {
     let Some(i) = place_bound(&frame.names, name) else {
@@ -40,6 +35,7 @@ pub fn rebind(
 }
 
 /// Leaves a block that began with n names: those that it bound are gone.
+#[tactic(auto, using(crate::proofs::Blocks::outermost_more, crate::proofs::Blocks::outermost_all))]
 pub fn leave(n: usize, frame: &mut Frame)
     ensures { frame.new ≡ leave n frame.old }
 {

@@ -2,6 +2,7 @@
 ghost use Rattle.std.specs.Prelude.{◌≡◌, IfOk, map};
 ghost use Rattle.ruby_symbols.specs.declared.types.FieldSymbol.{FieldSymbol as FieldRecord};
 ghost use Rattle.body_meaning.specs.Names.{new_message};
+ghost use Rattle.body_meaning.specs.Reading.{reading};
 
 use acts::{Fields, NoMemory};
 use body_meaning::{Scope, Thing};
@@ -19,12 +20,8 @@ fn initial_fields(alloc: Global, fields: &[FieldSymbol]) -> Result<Fields, NoMem
 }
 
 /// A message with this structure, as it is before anything is written to it, if there is such a structure.
-pub fn new_message(
-    alloc: Global,
-    s: Scope<'_>,
-    structure: u16,
-) -> Result<Option<Thing>, NoMemory>
-    ensures { IfOk result (λ t. t ≡ new_message s.entry structure) }
+pub fn new_message(alloc: Global, s: Scope<'_>, structure: u16) -> Result<Option<Thing>, NoMemory>
+    ensures { IfOk result (λ t. t ≡ new_message (reading s.entry) structure) }
 {
     match s.symbols.structures.get(usize::from(structure)) {
         Some(t) => Ok(Some(Thing::Message(structure, initial_fields(alloc, &t.fields)?))),

@@ -4,10 +4,11 @@ use Rattle.acts.specs.DoesAs.{itself}
 use Rattle.acts.proofs.Walk.{found_does}
 use Rattle.body_meaning.specs.Expressions.{field_at}
 use Rattle.body_meaning.specs.Names.{line_field, thing_got}
+use Rattle.body_meaning.specs.Reading.{reading}
 use Rattle.body_calls.proofs.named.field_at.Goals as goal
 
 pub returns : goal.returns
 unfolding field_at
 returns g c =
-    found_does itself (λ k. thing_got c.args.r.now k) (line_field c.args.s c.args.r.now.table c.args.name.now) own.Reference
+    found_does itself (λ k. thing_got c.args.r.now k) (line_field (reading c.args.s) c.args.r.now.table c.args.name.now) own.Reference
     c.in-Some.field c.thing_got.result _ _ (sym c.line_field.ensures ∙ c.in-Some.is) c.thing_got.ensures
