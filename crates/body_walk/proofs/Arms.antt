@@ -1,5 +1,5 @@
 -- The arms of the walk over expressions: what an expression does that has another one in a box, or arguments, where those have done theirs.
-use Rattle.std.proofs.Common.{◌≡◌, ◌∙◌, ℕ, List, Option, Result, Ok, Err, refl, sym, ap, subst}
+use Rattle.std.proofs.Common.{◌≡◌, ◌∙◌, ◌++◌, ◌∷◌, [], ℕ, List, Option, Result, Ok, Err, refl, sym, ap, subst}
 use Rattle.slicc_ast.specs.declared.tree.span.Span.{Span}
 use Rattle.slicc_ast.specs.declared.tree.name.Name.{Name}
 use Rattle.slicc_ast.specs.declared.tree.name.TypeName.{TypeName}
@@ -20,7 +20,7 @@ use Rattle.body_meaning.specs.declared.thing.Thing.TheVariants as thing
 use Rattle.body_meaning.specs.Reading.{Reading}
 use Rattle.body_meaning.specs.Calls.{Calls, method_call, named_call}
 use Rattle.body_meaning.specs.Each.{each}
-use Rattle.body_meaning.specs.Expressions.{names_line, names_nothing, negation_of, not_so, operand_step, suffixed, value, values_of}
+use Rattle.body_meaning.specs.Expressions.{names_line, names_nothing, negation_of, not_so, operand_step, suffixed, value, value_step, values_of, with_value}
 use Rattle.body_meaning.specs.Things.{value_in}
 use Rattle.body_walk.proofs.Forms.{suffixed_of_Method, value_of_Call, value_of_Cast, value_of_Group, value_of_IsInvalid, value_of_IsValid, value_of_Negate, value_of_Not, value_of_Operation, value_of_Postfix}
 
@@ -164,3 +164,15 @@ module _ (s : Reading) (calls : Calls) (frame : Frame) where
   method_stops t suffix called arguments span held x u v w is all first =
       through_stops (suffixed s calls frame t suffix) (values_of s calls frame arguments.items) (values_of s calls frame held) (method_call s t called.text) x u v w
       (ap (suffixed s calls frame t) is ∙ suffixed_of_Method s calls frame t called arguments span) (ap (values_of s calls frame) all) first
+
+  -- one more argument
+  pub value_added : (before vs : List Value) (e : Expr) (t : Thing) (u v : LocalView) → DoesAs itself (value s calls frame e) (Ok t) u v → vs ≡ before ++ value_in t ∷ []
+      → DoesAs itself (value_step s calls frame before e) (Ok vs) u v
+  unfolding with_value
+  value_added before vs e t u v first made =
+      then_does itself itself (value s calls frame e) (λ x. ends (before ++ value_in x ∷ [])) t (Ok vs) u v v first (does_ends_as itself (before ++ value_in t ∷ []) vs v made)
+
+  pub value_not_added : (before : List Value) (e : Expr) (x : Trouble) (u v w : LocalView) → DoesAs itself (value s calls frame e) (Err x) u v
+      → DoesAs itself (value_step s calls frame before e) (Err x) u w
+  unfolding with_value
+  value_not_added before e x u v w first = then_stops itself itself (value s calls frame e) (λ y. ends (before ++ value_in y ∷ [])) x u v w first

@@ -1,9 +1,9 @@
 -- Going through a list step by step: what is left, done from here, does what the whole does, whatever comes.
-use Rattle.std.proofs.Common.{◌≡◌, ◌<◌, ◌≤◌, ◌+◌, ℕ, Result, Ok, Err, List, [], ◌∷◌, drop, get_or, length, refl, sym, subst}
+use Rattle.std.proofs.Common.{◌≡◌, ◌<◌, ◌≤◌, ◌+◌, ℕ, Result, Ok, Err, List, ◌∷◌, drop, get_or, length, refl, sym, subst}
 use Rattle.std.proofs.lemmas.List.{drop_all, drop_more}
 use Rattle.ctl_face.specs.declared.trouble.Trouble.{Trouble}
 use Rattle.ctl_face.specs.LocalView.{LocalView}
-use Rattle.acts.specs.Acting.{Acting, ends, ◌>>=◌}
+use Rattle.acts.specs.Acting.{Acting}
 use Rattle.acts.specs.DoesAs.{DoesAs, itself}
 use Rattle.acts.proofs.Walk.{does_ends_as, then_does, then_stops}
 use Rattle.body_meaning.specs.Each.{each}

@@ -1,6 +1,6 @@
 -- What an expression gives that has another one in a box, or arguments in a row: the meaning at each form, as a program makes it.
 use mathlib.Core.Path.{fun_ext}
-use Rattle.std.proofs.Common.{rules, ◌≡◌, ◌∙◌, ℕ, List, [], Option, refl, sym, ap}
+use Rattle.std.proofs.Common.{rules, ◌≡◌, ◌∙◌, ℕ, List, [], Option, ap}
 use Rattle.slicc_ast.specs.declared.tree.span.Span.{Span}
 use Rattle.slicc_ast.specs.declared.tree.name.Name.{Name}
 use Rattle.slicc_ast.specs.declared.tree.name.TypeName.{TypeName}
@@ -15,13 +15,12 @@ use Rattle.slicc_ast.proofs.Boxes.{Operation_is, Postfix_is, Not_is, Negate_is, 
 use Rattle.ruby_value.specs.declared.value.Value.{Value}
 use Rattle.acts.specs.Acting.{Acting, ends, ◌>>=◌}
 use Rattle.body_meaning.specs.declared.frame.Frame.{Frame}
-use Rattle.body_meaning.specs.declared.place.Place.{Place}
 use Rattle.body_meaning.specs.declared.thing.Thing.{Thing}
 use Rattle.body_meaning.specs.declared.thing.Thing.TheVariants as thing
 use Rattle.body_meaning.specs.Reading.{Reading}
 use Rattle.body_meaning.specs.Calls.{Calls, method_call, named_call}
 use Rattle.body_meaning.specs.Each.{each}
-use Rattle.body_meaning.specs.Expressions.{names_line, names_nothing, negation_of, not_so, operand_step, operands, suffixed, suffixed_all, value, values_of}
+use Rattle.body_meaning.specs.Expressions.{names_line, names_nothing, negation_of, not_so, operand_step, suffixed, value, values_of}
 use Rattle.body_meaning.specs.Places.{name_in, place_behind, place_of}
 use Rattle.body_meaning.specs.Things.{value_in}
 use Rattle.body_walk.proofs.Rows.{operands_of_row, suffixes_of_row, values_of_row}

@@ -4,3 +4,4 @@ pub mod Blocks
 pub mod Rows
 pub mod Forms
 pub mod Arms
+pub mod PlaceForms

@@ -1,9 +1,7 @@
 -- Operands, suffixes and arguments as lists: the rows of a tree do what their items do, one after another.
 use mathlib.Core.Path.{fun_ext}
-use Rattle.std.proofs.Common.{rules, ◌≡◌, List, refl, ap}
-use Rattle.slicc_ast.specs.declared.tree.expression.Operand.{Operand}
-use Rattle.slicc_ast.specs.declared.tree.expression.Suffix.{Suffix}
-use Rattle.slicc_ast.specs.declared.tree.expression.Expr.{Expr, Row_of-Expr, end_of-Expr, more_of-Expr, items-the_row-Expr, Row_of-Operand, end_of-Operand, more_of-Operand, items-the_row-Operand, Row_of-Suffix, end_of-Suffix, more_of-Suffix, items-the_row-Suffix}
+use Rattle.std.proofs.Common.{◌≡◌, List, refl, ap}
+use Rattle.slicc_ast.specs.declared.tree.expression.Expr.{Row_of-Expr, end_of-Expr, more_of-Expr, items-the_row-Expr, Row_of-Operand, end_of-Operand, more_of-Operand, items-the_row-Operand, Row_of-Suffix, end_of-Suffix, more_of-Suffix, items-the_row-Suffix}
 use Rattle.ruby_value.specs.declared.value.Value.{Value}
 use Rattle.acts.specs.Acting.{Acting, ◌>>=◌}
 use Rattle.body_meaning.specs.declared.frame.Frame.{Frame}

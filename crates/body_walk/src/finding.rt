@@ -122,7 +122,10 @@ fn place_last<T: Local, F: Fn(u16, Seq<Value>, &mut T) -> Result<Thing, Trouble>
         (place_last (reading s.entry) (calls_within (reading s.entry) depth) frame.now inner.now before.now (option_copied last.entry))
         result (T.view local.old) (T.view local.new) }
 {
-    let Some(Suffix::Field(name, _)) = last else {
+    let Some(last) = last else {
+        return Err(Trouble::from(BodyFault::Reference));
+    };
+    let Suffix::Field(name, _) = last else {
         return Err(Trouble::from(BodyFault::Reference));
     };
     let t = value_behind(alloc, s, depth, calls, frame, inner, before, local)?;

@@ -1,0 +1,22 @@
+use Rattle.std.proofs.Common.{refl}
+use Rattle.ruby_value.specs.declared.fault.Fault.TheVariants.{Reference}
+use Rattle.acts.specs.declared.body_fault.BodyFault.TheVariants as own
+use Rattle.acts.specs.DoesAs.{itself}
+use Rattle.acts.proofs.Walk.{does_stops}
+use Rattle.body_meaning.specs.Bodies.{calls_within}
+use Rattle.body_meaning.specs.Reading.{reading}
+use Rattle.body_walk.proofs.PlaceForms.{group_place, other_place, postfix_place}
+use Rattle.body_walk.proofs.finding.+place_of.Goals as goal
+
+pub returns-in-Group : goal.returns-in-Group
+returns-in-Group g t c = group_place (reading c.args.s) (calls_within (reading c.args.s) c.args.depth) c.args.frame.now c.args.e.now c.in-Group.inner c.get.result.now c.in-Group.field-1 c.place_of.result _ _ c.in-Group.is c.get.ensures c.place_of.ensures
+
+pub returns-in-Postfix : goal.returns-in-Postfix
+returns-in-Postfix g t c =
+    postfix_place (reading c.args.s) (calls_within (reading c.args.s) c.args.depth) c.args.frame.now c.args.e.now c.in-Postfix.inner c.get-in-Postfix.result.now c.in-Postfix.suffixes c.deref-in-Postfix.result.now c.in-Postfix.span c.place_behind.result _ _
+    c.in-Postfix.is c.get-in-Postfix.ensures c.deref-in-Postfix.ensures c.place_behind.ensures
+
+pub returns-in_default : goal.returns-in_default
+returns-in_default g t c =
+    rw (other_place (reading c.args.s) (calls_within (reading c.args.s) c.args.depth) c.args.frame.now c.args.e.now c.in_default.not-Variable c.in_default.not-Group c.in_default.not-Postfix, c.from.ensures)
+    (does_stops itself own.Reference Reference _ _ refl)
