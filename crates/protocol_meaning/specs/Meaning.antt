@@ -1,0 +1,64 @@
+-- What a protocol means, as runs need it: what a scan of a controller answers, by the number of its machine, and which pairs of a
+-- state and an event it has looked up among the written transitions; and for which pairs one is written. It is read off the trees
+-- of the protocol and the symbols that these declare. A machine that isn't there has no ports: nothing fires in a scan of it.
+use Rattle.std.specs.Prelude.{ℕ, Bool, false, Option, None, Some, List, [], map, slice_get}
+use Rattle.std.specs.List.{list_any}
+use Rattle.slicc_ast.specs.declared.tree.item.Tree.{Tree}
+use Rattle.ruby_value.specs.declared.message.Message.{Message}
+use Rattle.ruby_symbols.specs.declared.machine.MachineSymbols.{MachineSymbols}
+use Rattle.ruby_runs.specs.Rules.{Fired, Full, Idle, Outcome, Scan, Stop, Tried}
+use Rattle.ctl_face.specs.Ctl.{Ctl}
+use Rattle.ctl_face.specs.LocalView.{LocalView}
+use Rattle.body_meaning.specs.declared.scope.Scope.{Scope}
+use Rattle.slicc_plan.specs.SymbolsOf.{symbols_of}
+use Rattle.protocol_runs.specs.Meaning.{Meaning, acts_told}
+use Rattle.scan_meaning.specs.Scan.{ScanEnd, Scanned, fired, full, idle, pairs_tried, scan, stop}
+use Rattle.scan_meaning.specs.Transition.{is_for}
+use Rattle.scan_meaning.specs.Trying.{Pair}
+use Rattle.protocol_meaning.specs.Scopes.{scope_of}
+
+-- Scans of a machine, of a controller that has fired this many transitions in this cycle and may fire so many.
+
+abbrev pub scan_by : Option Scope → (limit fired_before : ℕ) → LocalView → Scanned
+scan_by None limit fired_before v = record { end = idle; view = v }
+scan_by (Some s) limit fired_before v = scan s limit fired_before v
+
+unfoldable pub scan_of : List Tree → (machine limit fired_before : ℕ) → LocalView → Scanned
+scan_of trees machine limit fired_before v = scan_by (scope_of trees machine) limit fired_before v
+
+abbrev pub pairs_by : Option Scope → (limit fired_before : ℕ) → LocalView → List Pair
+pairs_by None limit fired_before v = []
+pairs_by (Some s) limit fired_before v = pairs_tried s limit fired_before v
+
+unfoldable pub pairs_of : List Tree → (machine limit fired_before : ℕ) → LocalView → List Pair
+pairs_of trees machine limit fired_before v = pairs_by (scope_of trees machine) limit fired_before v
+
+-- The same, as runs have it: what was done to messages is told of a scan that fires.
+
+abbrev pub outcome_by : ScanEnd → LocalView → Outcome Ctl Message
+outcome_by (fired note) w = Fired note (acts_told w.acts) w.acts.posted w.ctl
+outcome_by idle w = Idle w.ctl
+outcome_by full w = Full
+outcome_by (stop at) w = Stop at
+
+abbrev pub outcome_of : Scanned → Outcome Ctl Message
+outcome_of s = outcome_by s.end s.view
+
+abbrev pub tried : Pair → Tried
+tried p = record { address = p.address; state = p.state; event = p.event }
+
+abbrev pub has_row_in : Option MachineSymbols → (state event : ℕ) → Bool
+has_row_in None state event = false
+has_row_in (Some m) state event = list_any (is_for state event) m.transitions
+
+abbrev pub run_scan_of : List Tree → (machine : ℕ) → LocalView → (limit : ℕ) → Scan Ctl Message
+run_scan_of trees machine v limit = record {
+  outcome = outcome_of (scan_of trees machine limit v.ctl.fired v);
+  tried = map tried (pairs_of trees machine limit v.ctl.fired v);
+}
+
+abbrev pub meaning_of : List Tree → Meaning
+meaning_of trees = record {
+  scan = run_scan_of trees;
+  has_row = λ machine. has_row_in (slice_get (symbols_of trees).machines machine);
+}

@@ -1,0 +1,7 @@
+//! What a protocol means, and what a run of it begins with, by its trees and a topology: the instance of which runs and their laws are
+//! said. And what serves protocols: code that does a scan as these definitions have it.
+#![tactic(auto)]
+
+mod protocol;
+
+pub use protocol::Protocol;
