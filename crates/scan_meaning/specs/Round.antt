@@ -5,13 +5,13 @@ use Rattle.std.specs.Prelude.{◌≡◌, Result, Ok, Err}
 use Rattle.ruby_base.specs.declared.memory.NoMemory.{NoMemory}
 use Rattle.ctl_face.specs.LocalView.{LocalView}
 use Rattle.scan_meaning.specs.declared.round.RoundEnd.{RoundEnd}
-use Rattle.scan_meaning.specs.declared.round.RoundEnd.TheVariants as round
-use Rattle.scan_meaning.specs.Scan.{Scanned, fired, idle, full, stop, left_idle}
+use Rattle.scan_meaning.specs.declared.round.RoundEnd.TheVariants.{Fired, Idle, Full, Stop}
+use Rattle.scan_meaning.specs.Scan.{Scanned, left_idle}
 
 -- the local after the code and the one before it
 abbrev pub IsRoundOf : Scanned → Result RoundEnd NoMemory → (after before : LocalView) → Type 0
-IsRoundOf scanned (Ok (round.Fired note)) after before = (scanned.end ≡ fired note) × (scanned.view ≡ after)
-IsRoundOf scanned (Ok round.Idle) after before = (scanned.end ≡ idle) × (scanned.view ≡ left_idle before after)
-IsRoundOf scanned (Ok round.Full) after before = scanned.end ≡ full
-IsRoundOf scanned (Ok (round.Stop at)) after before = scanned.end ≡ stop at
+IsRoundOf scanned (Ok (Fired note)) after before = (scanned.end ≡ Fired note) × (scanned.view ≡ after)
+IsRoundOf scanned (Ok Idle) after before = (scanned.end ≡ Idle) × (scanned.view ≡ left_idle before after)
+IsRoundOf scanned (Ok Full) after before = scanned.end ≡ Full
+IsRoundOf scanned (Ok (Stop at)) after before = scanned.end ≡ Stop at
 IsRoundOf scanned (Err error) after before = Unit {0}

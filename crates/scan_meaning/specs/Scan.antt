@@ -7,7 +7,6 @@ use Rattle.slicc_ast.specs.declared.tree.machine.Decl.{Decl}
 use Rattle.slicc_ast.specs.declared.tree.machine.Decl.TheVariants.{InPort}
 use Rattle.slicc_ast.specs.declared.tree.statement.Block.{Block}
 use Rattle.ruby_symbols.specs.declared.machine.PortSymbol.{PortSymbol}
-use Rattle.run_journal.specs.declared.entry.FireNote.{FireNote}
 use Rattle.run_journal.specs.declared.entry.StopAt.{StopAt}
 use Rattle.ctl_face.specs.Again.{again}
 use Rattle.ctl_face.specs.LocalView.{LocalView}
@@ -16,11 +15,15 @@ use Rattle.acts.specs.Acting.{Acting, ends as ends_body, ◌>>=◌, found}
 use Rattle.acts.specs.Done.{Done}
 use Rattle.body_meaning.specs.declared.frame.Flow.{Flow}
 use Rattle.body_meaning.specs.declared.frame.Flow.TheVariants.{Triggered}
-use Rattle.body_meaning.specs.declared.scope.Scope.{Scope}
+use Rattle.body_meaning.specs.Reading.{Reading}
 use Rattle.body_meaning.specs.Bodies.{calls_of}
 use Rattle.body_meaning.specs.Frames.{Ended}
 use Rattle.body_meaning.specs.Statements.{all_done}
-use Rattle.scan_meaning.specs.Transition.{Tried, fires, waits, try}
+use Rattle.scan_meaning.specs.declared.round.RoundEnd.{RoundEnd}
+use Rattle.scan_meaning.specs.declared.round.RoundEnd.TheVariants.{Fired, Idle, Full, Stop}
+use Rattle.scan_meaning.specs.declared.tried.Tried.{Tried}
+use Rattle.scan_meaning.specs.declared.tried.Tried.TheVariants.{Waits, Fires}
+use Rattle.scan_meaning.specs.Transition.{try}
 use Rattle.scan_meaning.specs.Trying.{Pair, Trying, ends, nothing_known, pairs_of, run_scan, then_try, with_known}
 
 abbrev pub port_block : Option Decl → Option Block
@@ -28,37 +31,30 @@ port_block (Some (InPort p)) = Some p.body
 port_block _ = None
 
 -- the body of a port, with nothing of its own as it begins
-abbrev pub port_done : Scope → PortSymbol → Acting Flow
+abbrev pub port_done : Reading → PortSymbol → Acting Flow
 port_done s p =
-    found own.Reference (port_block (slice_get s.tree.now.declarations p.declaration))
+    found own.Reference (port_block (slice_get s.tree.declarations p.declaration))
     >>= (λ (b : Block). all_done s (calls_of s) b.statements (record { names = []; about = None }) >>= (λ (e : Ended). ends_body e.flow))
 
-abbrev pub after_port : Scope → Flow → Trying Tried
+abbrev pub after_port : Reading → Flow → Trying Tried
 after_port s (Triggered t) = try s t
-after_port s _ = ends waits
+after_port s _ = ends Waits
 
 -- A port that triggers nothing passes, as one whose transition is stalled.
-abbrev pub port_tried : Scope → PortSymbol → Trying Tried
+abbrev pub port_tried : Reading → PortSymbol → Trying Tried
 port_tried s p = then_try (with_known nothing_known (port_done s p)) (after_port s)
 
 abbrev pub unless_fired : Trying Tried → Tried → Trying Tried
-unless_fired next (fires note) = ends (fires note)
-unless_fired next waits = next
+unless_fired next (Fires note) = ends (Fires note)
+unless_fired next Waits = next
 
-abbrev pub ports_tried : Scope → List PortSymbol → Trying Tried
-ports_tried s [] = ends waits
+abbrev pub ports_tried : Reading → List PortSymbol → Trying Tried
+ports_tried s [] = ends Waits
 ports_tried s (p ∷ ps) = then_try (port_tried s p) (unless_fired (ports_tried s ps))
 
--- how a scan ends
-pub data ScanEnd : Type 0 where
-  fired : FireNote → ScanEnd
-  idle : ScanEnd
-  full : ScanEnd
-  stop : StopAt → ScanEnd
-
--- and the local that it leaves
+-- how a scan ends, and the local that it leaves
 pub record Scanned : Type 0 where
-  pub end : ScanEnd
+  pub end : RoundEnd
   pub view : LocalView
 
 -- as it was, but for the mark of a stall
@@ -66,20 +62,20 @@ abbrev pub left_idle : LocalView → LocalView → LocalView
 left_idle before after = if after.acts.again then again before else before
 
 abbrev pub by_try : LocalView → Tried → LocalView → Scanned
-by_try v (fires note) w = record { end = fired note; view = w }
-by_try v waits w = record { end = idle; view = left_idle v w }
+by_try v (Fires note) w = record { end = Fired note; view = w }
+by_try v Waits w = record { end = Idle; view = left_idle v w }
 
 abbrev pub by_outcome : LocalView → Result (Done Tried) StopAt → Scanned
-by_outcome v (Err at) = record { end = stop at; view = v }
+by_outcome v (Err at) = record { end = Stop at; view = v }
 by_outcome v (Ok d) = by_try v d.value d.view
 
 -- of a controller that has fired this many transitions in this cycle and may fire so many
-abbrev pub scan : Scope → (limit fired_before : ℕ) → LocalView → Scanned
+abbrev pub scan : Reading → (limit fired_before : ℕ) → LocalView → Scanned
 scan s limit fired_before v =
-    if nat_le limit fired_before then (record { end = full; view = v })
-    else by_outcome v (run_scan (ports_tried s s.machine.now.in_ports) v)
+    if nat_le limit fired_before then (record { end = Full; view = v })
+    else by_outcome v (run_scan (ports_tried s s.machine.in_ports) v)
 
 -- the pairs of a state and an event that it looks up among the written transitions, in this order
-abbrev pub pairs_tried : Scope → (limit fired_before : ℕ) → LocalView → List Pair
+abbrev pub pairs_tried : Reading → (limit fired_before : ℕ) → LocalView → List Pair
 pairs_tried s limit fired_before v =
-    if nat_le limit fired_before then [] else pairs_of (ports_tried s s.machine.now.in_ports) v
+    if nat_le limit fired_before then [] else pairs_of (ports_tried s s.machine.in_ports) v

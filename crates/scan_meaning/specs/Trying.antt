@@ -1,19 +1,14 @@
 -- What a scan does, as data: it ends with an answer, stops with a fault and what is known of its transition then, does an act, or
 -- looks a pair of a state and an event up among the written transitions. An act carries what is known while it is done, so that a
 -- fault of it is told with that. Only `run_scan` looks at a controller.
-use Rattle.std.specs.Prelude.{ℕ, Bool, Option, None, List, [], ◌∷◌, Result, Ok, Err}
+use Rattle.std.specs.Prelude.{ℕ, Bool, None, List, [], ◌∷◌, Result, Ok, Err}
 use Rattle.ruby_value.specs.declared.fault.Fault.{Fault}
 use Rattle.run_journal.specs.declared.entry.StopAt.{StopAt}
 use Rattle.ctl_face.specs.LocalView.{LocalView}
 use Rattle.acts.specs.Act.{Act, answer}
 use Rattle.acts.specs.Acting.{Acting, ends as ends_body, stops as stops_body, acts as acts_in, fault_of}
 use Rattle.acts.specs.Done.{Done, does}
-
--- what is known of a transition, as a stop tells it: the byte address of its line, its state and its event
-pub record Known : Type 0 where
-  pub address : Option ℕ
-  pub state : Option ℕ
-  pub event : Option ℕ
+use Rattle.scan_meaning.specs.declared.tried.Known.{Known}
 
 abbrev pub nothing_known : Known
 nothing_known = record { address = None; state = None; event = None }
