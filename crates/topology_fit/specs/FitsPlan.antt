@@ -76,12 +76,12 @@ abbrev pub IsSeat : List Tree → Topology → SeatSetup → Type 0
 IsSeat trees t s =
     AtSetup trees t s.controller (λ m. HasQueue s.queue m × (s.has_sequencer ≡ true → m.has_sequencer ≡ true))
 
-abbrev pub IsBefore : SeatSetup → SeatSetup → Type 0
-IsBefore a b = a.controller < b.controller
+abbrev pub ComesBefore : SeatSetup → SeatSetup → Type 0
+ComesBefore a b = a.controller < b.controller
 
 pub record AreSeatsOf (trees : List Tree) (t : Topology) : Type 0 where
   pub some : t.seats ≢ []
-  pub ascending : AllPairs IsBefore (seat_setups (symbols_of trees) t)
+  pub ascending : AllPairs ComesBefore (seat_setups (symbols_of trees) t)
   pub each : All (IsSeat trees t) (seat_setups (symbols_of trees) t)
 
 -- The whole.
