@@ -1,3 +1,3 @@
-pub mod Scopes
+pub mod Readings
 pub mod Meaning
 pub mod Setting

@@ -9,37 +9,39 @@ use Rattle.ruby_symbols.specs.declared.machine.MachineSymbols.{MachineSymbols}
 use Rattle.ruby_runs.specs.Rules.{Fired, Full, Idle, Outcome, Scan, Stop, Tried}
 use Rattle.ctl_face.specs.Ctl.{Ctl}
 use Rattle.ctl_face.specs.LocalView.{LocalView}
-use Rattle.body_meaning.specs.declared.scope.Scope.{Scope}
+use Rattle.body_meaning.specs.Reading.{Reading}
 use Rattle.slicc_plan.specs.SymbolsOf.{symbols_of}
 use Rattle.protocol_runs.specs.Meaning.{Meaning, acts_told}
-use Rattle.scan_meaning.specs.Scan.{ScanEnd, Scanned, fired, full, idle, pairs_tried, scan, stop}
+use Rattle.scan_meaning.specs.declared.round.RoundEnd.{RoundEnd}
+use Rattle.scan_meaning.specs.declared.round.RoundEnd.TheVariants as round
+use Rattle.scan_meaning.specs.Scan.{Scanned, pairs_tried, scan}
 use Rattle.scan_meaning.specs.Transition.{is_for}
 use Rattle.scan_meaning.specs.Trying.{Pair}
-use Rattle.protocol_meaning.specs.Scopes.{scope_of}
+use Rattle.protocol_meaning.specs.Readings.{reading_of}
 
 -- Scans of a machine, of a controller that has fired this many transitions in this cycle and may fire so many.
 
-abbrev pub scan_by : Option Scope → (limit fired_before : ℕ) → LocalView → Scanned
-scan_by None limit fired_before v = record { end = idle; view = v }
+abbrev pub scan_by : Option Reading → (limit fired_before : ℕ) → LocalView → Scanned
+scan_by None limit fired_before v = record { end = round.Idle; view = v }
 scan_by (Some s) limit fired_before v = scan s limit fired_before v
 
 unfoldable pub scan_of : List Tree → (machine limit fired_before : ℕ) → LocalView → Scanned
-scan_of trees machine limit fired_before v = scan_by (scope_of trees machine) limit fired_before v
+scan_of trees machine limit fired_before v = scan_by (reading_of trees machine) limit fired_before v
 
-abbrev pub pairs_by : Option Scope → (limit fired_before : ℕ) → LocalView → List Pair
+abbrev pub pairs_by : Option Reading → (limit fired_before : ℕ) → LocalView → List Pair
 pairs_by None limit fired_before v = []
 pairs_by (Some s) limit fired_before v = pairs_tried s limit fired_before v
 
 unfoldable pub pairs_of : List Tree → (machine limit fired_before : ℕ) → LocalView → List Pair
-pairs_of trees machine limit fired_before v = pairs_by (scope_of trees machine) limit fired_before v
+pairs_of trees machine limit fired_before v = pairs_by (reading_of trees machine) limit fired_before v
 
 -- The same, as runs have it: what was done to messages is told of a scan that fires.
 
-abbrev pub outcome_by : ScanEnd → LocalView → Outcome Ctl Message
-outcome_by (fired note) w = Fired note (acts_told w.acts) w.acts.posted w.ctl
-outcome_by idle w = Idle w.ctl
-outcome_by full w = Full
-outcome_by (stop at) w = Stop at
+abbrev pub outcome_by : RoundEnd → LocalView → Outcome Ctl Message
+outcome_by (round.Fired note) w = Fired note (acts_told w.acts) w.acts.posted w.ctl
+outcome_by round.Idle w = Idle w.ctl
+outcome_by round.Full w = Full
+outcome_by (round.Stop at) w = Stop at
 
 abbrev pub outcome_of : Scanned → Outcome Ctl Message
 outcome_of s = outcome_by s.end s.view

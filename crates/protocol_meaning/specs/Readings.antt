@@ -2,8 +2,7 @@
 -- what its built-in calls go by. A reference to a line of a table is a TBE reference where it is a TBE table, or where its lines have
 -- the structure of the machine's TBE type. A controller keeps the numbers of all machines' controllers after its machine's own values,
 -- in the table after those of lines, as setups of machines lay them out.
-use Rattle.std.specs.Prelude.{ℕ, Bool, true, false, Option, Some, List, length, map, slice_get}
-use Rattle.std.specs.Borrow.{Bor}
+use Rattle.std.specs.Prelude.{ℕ, Bool, true, Option, Some, List, length, map, slice_get}
 use Rattle.std.specs.Option.{option_and_then, option_map}
 use Rattle.slicc_ast.specs.declared.tree.item.Tree.{Tree}
 use Rattle.slicc_ast.specs.declared.tree.machine.Machine.{Machine}
@@ -17,7 +16,7 @@ use Rattle.slicc_plan.specs.Declarations.{machines_of}
 use Rattle.slicc_plan.specs.SymbolsOf.{symbols_of}
 use Rattle.built_in_acts.specs.declared.machines.KeptMachines.{KeptMachines}
 use Rattle.built_in_acts.specs.declared.setting.CallSetting.{CallSetting}
-use Rattle.body_meaning.specs.declared.scope.Scope.{Scope}
+use Rattle.body_meaning.specs.Reading.{Reading}
 
 -- of a table of this sort, whose lines have this structure
 abbrev pub has_tbe_references : (tbe : Option ℕ) (structure : ℕ) → TableSort → Bool
@@ -35,21 +34,17 @@ call_setting symbols m = record {
   kept = kept_machines (length symbols.machines) m;
 }
 
--- A reference to a value. Where it is doesn't matter: what a body means depends on the value alone.
-abbrev pub reference_to : {X : Type 0} → X → Bor X
-reference_to x = record { ref_ptr = (0, 0); now = x }
-
-abbrev pub scope_with : Symbols → (machine : ℕ) → MachineSymbols → Machine → Scope
-scope_with symbols machine m tree = record {
-  symbols = reference_to symbols;
+abbrev pub reading_with : Symbols → (machine : ℕ) → MachineSymbols → Machine → Reading
+reading_with symbols machine m tree = record {
+  symbols = symbols;
   number = machine;
-  machine = reference_to m;
-  setting = reference_to (call_setting symbols m);
-  tree = reference_to tree;
+  machine = m;
+  setting = call_setting symbols m;
+  tree = tree;
 }
 
 -- of the machine of this number, where there is one
-abbrev pub scope_of : List Tree → (machine : ℕ) → Option Scope
-scope_of trees machine =
-    option_and_then (λ m. option_map (scope_with (symbols_of trees) machine m) (slice_get (machines_of trees) machine))
+abbrev pub reading_of : List Tree → (machine : ℕ) → Option Reading
+reading_of trees machine =
+    option_and_then (λ m. option_map (reading_with (symbols_of trees) machine m) (slice_get (machines_of trees) machine))
     (slice_get (symbols_of trees).machines machine)
