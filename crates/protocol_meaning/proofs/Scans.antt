@@ -1,9 +1,6 @@
 -- A scan of a machine of a protocol is exact, and so it is what a run needs of it.
-use Rattle.std.proofs.Common.{◌≡◌, ◌<◌, ◌≤◌, ◌⊎◌, ◌∙◌, ℕ, zero, suc, Bool, true, false, cond, Option, None, Some, List, [], ◌∷◌, Result, Ok, Err, Contains, inl, inr, ⊎_elim, length, get_or, map, nat_le, nat_lt, position, slice_get, refl, sym, ap, subst, arith, leb-false, ltb-false}
-use Rattle.std.proofs.lemmas.List.Folds.{list_any_at, list_any_none}
-use Rattle.std.proofs.lemmas.List.Quantifiers.{position-Some}
-use Rattle.std.proofs.lemmas.List.Sums.{fails_before_first}
-use Rattle.std.specs.List.{list_any, position_or_len}
+use Rattle.std.proofs.Common.{◌≡◌, ◌<◌, ◌||◌, ◌∙◌, ℕ, Bool, true, false, cond, Option, None, Some, List, [], ◌∷◌, Result, Ok, Err, Contains, inl, inr, ⊎_elim, find, map, nat_le, slice_get, refl, sym, ap, subst, arith, leb-false}
+use Rattle.std.specs.List.{list_any}
 use Rattle.std.specs.Option.{option_and_then, option_map}
 use Rattle.ruby_value.proofs.Contained.{Contains-cons_cases, Contains-cons_here, Contains-cons_there}
 use Rattle.ruby_value.specs.declared.fault.Fault.TheVariants.{Invalid}
@@ -28,50 +25,53 @@ use Rattle.acts.specs.Done.{Done}
 use Rattle.act_laws.specs.Left.{IsLeft}
 use Rattle.body_meaning.specs.declared.frame.Flow.{Flow}
 use Rattle.body_meaning.specs.declared.frame.Flow.TheVariants.{WentOn, Returned, Triggered}
-use Rattle.body_meaning.specs.declared.scope.Scope.{Scope}
+use Rattle.body_meaning.specs.Reading.{Reading}
 use Rattle.body_meaning.specs.declared.thing.Trigger.{Trigger}
 use Rattle.protocol_runs.specs.Meaning.{IsFired, IsMeaning, IsRefusedTry, IsScanOf, Rests}
-use Rattle.scan_meaning.specs.Scan.{Scanned, after_port, by_outcome, by_try, full, left_idle, port_done, port_tried, ports_tried, unless_fired}
-use Rattle.scan_meaning.specs.Transition.{Tried, fires, waits, about, found_tried, is_for, known, read_state, try}
+use Rattle.scan_meaning.specs.declared.round.RoundEnd.TheVariants as round
+use Rattle.scan_meaning.specs.declared.tried.Tried.{Tried}
+use Rattle.scan_meaning.specs.declared.tried.Tried.TheVariants.{Fires, Waits}
+use Rattle.scan_meaning.specs.Scan.{after_port, by_outcome, by_try, left_idle, port_done, port_tried, ports_tried, unless_fired}
+use Rattle.scan_meaning.specs.Transition.{about, found_tried, is_for, known, read_state, row_tried, try}
 use Rattle.scan_meaning.specs.Trying.{Pair, Trying, nothing_known, pairs_of, run_scan, with_known}
-use Rattle.protocol_meaning.specs.Meaning.{has_row_in, meaning_of, outcome_of, pairs_by, pairs_of as pairs_of_machine, scan_by, scan_of, tried}
-use Rattle.protocol_meaning.specs.Scopes.{scope_with}
+use Rattle.protocol_meaning.specs.Meaning.{has_row_in, lookups_by, lookups_of, meaning_of, outcome_of, scan_by, scan_of, tried}
+use Rattle.protocol_meaning.specs.Readings.{reading_with}
 use Rattle.protocol_meaning.proofs.Tries.{Cause, IsExact, body_is_exact, caused, comes, scan_leaves, then_is_exact}
 
 -- A transition is found exactly where one is written.
 
-module _ {X : Type 0} (p : X → Bool) (xs : List X) where
-  not_below : (b : Bool) (n : ℕ) → cond b (Some n) None ≡ None → b ≡ false
-  not_below true n is = absurd (cc is)
-  not_below false n is = refl
+module _ {X : Type 0} (p : X → Bool) where
+  not_here : (x : X) (xs : List X) (b : Bool) → (find p xs ≡ None → list_any p xs ≡ false) → cond b (Some x) (find p xs) ≡ None → (b || list_any p xs) ≡ false
+  not_here x xs true rest is = absurd (cc is)
+  not_here x xs false rest is = rest is
 
-  pub none_found : position p xs ≡ None → list_any p xs ≡ false
-  none_found is =
-      let n = position_or_len p xs in
-      let past : length xs ≤ n = ltb-false n (length xs) (not_below (nat_lt n (length xs)) n is) in
-      list_any_none p xs (λ k d within. fails_before_first p xs k d (omega arith))
+  pub none_found : (xs : List X) → find p xs ≡ None → list_any p xs ≡ false
+  none_found [] is = refl
+  none_found (x ∷ xs) is = not_here x xs (p x) (λ none. none_found xs none) is
 
-  pub one_found : (n : ℕ) (d : X) → position p xs ≡ Some n → list_any p xs ≡ true
-  one_found n d is = let found = position-Some p xs n d is in list_any_at p xs n d found.0 found.1
+  here_or : (x y : X) (xs : List X) (b : Bool) → (find p xs ≡ Some y → list_any p xs ≡ true) → cond b (Some x) (find p xs) ≡ Some y → (b || list_any p xs) ≡ true
+  here_or x y xs true rest is = refl
+  here_or x y xs false rest is = rest is
 
-no_transition : TransitionSymbol
-no_transition = record { states = []; events = []; next = None; actions = [] }
+  pub one_found : (xs : List X) (y : X) → find p xs ≡ Some y → list_any p xs ≡ true
+  one_found [] y is = absurd (cc is)
+  one_found (x ∷ xs) y is = here_or x y xs (p x) (λ found. one_found xs y found) is
 
 -- Scans are exact.
 
-module _ (s : Scope) where
+module _ (s : Reading) where
   abbrev has_row : ℕ → ℕ → Bool
-  has_row = has_row_in (Some s.machine.now)
+  has_row = has_row_in (Some s.machine)
 
-  found_is_exact : (t : Trigger) (state : ℕ) (o : Option ℕ) → position (is_for state t.event) s.machine.now.transitions ≡ o
+  found_is_exact : (t : Trigger) (state : ℕ) (o : Option TransitionSymbol) → find (is_for state t.event) s.machine.transitions ≡ o
       → IsExact has_row (found_tried s t state o)
-  found_is_exact t state None is = (none_found (is_for state t.event) s.machine.now.transitions is, refl)
-  found_is_exact t state (Some n) is =
-      (one_found (is_for state t.event) s.machine.now.transitions n no_transition is, body_is_exact has_row (known t (Some state)) _)
+  found_is_exact t state None is = (none_found (is_for state t.event) s.machine.transitions is, refl)
+  found_is_exact t state (Some row) is =
+      (one_found (is_for state t.event) s.machine.transitions row is, body_is_exact has_row (known t (Some state)) (row_tried s t state row))
 
   try_is_exact : (t : Trigger) → IsExact has_row (try s t)
   try_is_exact t =
-      then_is_exact has_row (λ state. found_tried s t state (position (is_for state t.event) s.machine.now.transitions))
+      then_is_exact has_row (λ state. found_tried s t state (find (is_for state t.event) s.machine.transitions))
       (λ state. found_is_exact t state _ refl) (with_known (known t None) (read_state s (about t))) (body_is_exact has_row (known t None) _)
 
   after_is_exact : (flow : Flow) → IsExact has_row (after_port s flow)
@@ -84,8 +84,8 @@ module _ (s : Scope) where
       then_is_exact has_row (after_port s) after_is_exact (with_known nothing_known (port_done s p)) (body_is_exact has_row nothing_known _)
 
   next_is_exact : (next : Trying Tried) → IsExact has_row next → (t : Tried) → IsExact has_row (unless_fired next t)
-  next_is_exact next exact (fires note) = tt
-  next_is_exact next exact waits = exact
+  next_is_exact next exact (Fires note) = tt
+  next_is_exact next exact Waits = exact
 
   pub ports_are_exact : (ps : List PortSymbol) → IsExact has_row (ports_tried s ps)
   ports_are_exact [] = tt
@@ -111,10 +111,10 @@ pair_told (p ∷ ps) t has =
 
 -- What a scan answers.
 
-abbrev Told : Option Scope → LocalView → ℕ → Scan Ctl Message
+abbrev Told : Option Reading → LocalView → ℕ → Scan Ctl Message
 Told o v limit = record {
   outcome = outcome_of (scan_by o limit v.ctl.fired v);
-  tried = map tried (pairs_by o limit v.ctl.fired v);
+  tried = map tried (lookups_by o limit v.ctl.fired v);
 }
 
 nothing_tried : (has_row : ℕ → ℕ → Bool) (o : Outcome Ctl Message) (t : RunTried) → IsRefusedTry has_row (record { outcome = o; tried = [] }) t → ⊥
@@ -147,20 +147,20 @@ idle_rests v w true is = rw is (inr refl)
 idle_rests v w false is = rw is (inl refl)
 
 try_answers : (v : LocalView) (limit : ℕ) (t : Tried) (w : LocalView) → v.ctl.fired < limit → IsLeft v w → Answers v limit (outcome_of (by_try v t w))
-try_answers v limit (fires note) w few left = record {
+try_answers v limit (Fires note) w few left = record {
   fired = λ told acts copies after is. record { few = few; local = w; left = left; acts_are = cc is; copies_are = cc is; after_is = cc is };
   rests = λ after is. absurd (cc is);
   goes = λ at is. cc is;
 }
-try_answers v limit waits w few left = record {
+try_answers v limit Waits w few left = record {
   fired = λ note acts copies after is. absurd (cc is);
   rests = λ after is. let same : (left_idle v w).ctl ≡ after = cc is in subst (Rests v) same (idle_rests v w w.acts.again refl);
   goes = λ at is. cc is;
 }
 
-module _ (s : Scope) (v : LocalView) (limit : ℕ) (few : v.ctl.fired < limit) where
+module _ (s : Reading) (v : LocalView) (limit : ℕ) (few : v.ctl.fired < limit) where
   abbrev body : Trying Tried
-  body = ports_tried s s.machine.now.in_ports
+  body = ports_tried s s.machine.in_ports
 
   abbrev pairs : List Pair
   pairs = pairs_of body v
@@ -174,7 +174,7 @@ module _ (s : Scope) (v : LocalView) (limit : ℕ) (few : v.ctl.fired < limit) w
   refused_stops r t ran among no_row =
       let told = pair_told pairs t among in
       let none : has_row s told.0.state told.0.event ≡ false = subst (λ (u : RunTried). has_row s u.state u.event ≡ false) (sym told.2) no_row in
-      sym ran ∙ comes (has_row s) body v told.0 (ports_are_exact s s.machine.now.in_ports) told.1 none
+      sym ran ∙ comes (has_row s) body v told.0 (ports_are_exact s s.machine.in_ports) told.1 none
       ∙ ap (λ (u : RunTried). Err (invalid_at u)) told.2
 
   ended_is_scan : (d : Done Tried) → run_scan body v ≡ Ok d → AsScan (Ok d)
@@ -198,7 +198,7 @@ module _ (s : Scope) (v : LocalView) (limit : ℕ) (few : v.ctl.fired < limit) w
     caused = λ other is invalid.
         let same : at ≡ other = cc is in
         caused_by other
-        (caused (has_row s) body v other (ports_are_exact s s.machine.now.in_ports) invalid (ran ∙ ap (λ (x : StopAt). Err x) same)) (Stop at);
+        (caused (has_row s) body v other (ports_are_exact s s.machine.in_ports) invalid (ran ∙ ap (λ (x : StopAt). Err x) same)) (Stop at);
     comes = λ t refused.
         let same : at ≡ invalid_at t = cc (refused_stops (Err at) t ran refused.tried refused.no_row) in ap (λ (x : StopAt). Stop x) same;
   }
@@ -207,22 +207,22 @@ module _ (s : Scope) (v : LocalView) (limit : ℕ) (few : v.ctl.fired < limit) w
   ran_is_scan (Ok d) ran = ended_is_scan d ran
   ran_is_scan (Err at) ran = stopped_is_scan at ran
 
-full_or_ran : (s : Scope) (v : LocalView) (limit : ℕ) (b : Bool) → nat_le limit v.ctl.fired ≡ b
+full_or_ran : (s : Reading) (v : LocalView) (limit : ℕ) (b : Bool) → nat_le limit v.ctl.fired ≡ b
     → IsScanOf v limit (has_row s) (record {
-      outcome = outcome_of (cond b (record { end = full; view = v }) (by_outcome v (run_scan (body s v limit) v)));
+      outcome = outcome_of (cond b (record { end = round.Full; view = v }) (by_outcome v (run_scan (body s v limit) v)));
       tried = map tried (cond b [] (pairs_of (body s v limit) v));
     })
 full_or_ran s v limit true is = full_is_scan v limit (has_row s)
 full_or_ran s v limit false is = ran_is_scan s v limit (leb-false limit v.ctl.fired is) _ refl
 
 told_is_scan : (symbols : Symbols) (machine : ℕ) (m : Option MachineSymbols) (tree : Option Machine) (v : LocalView) (limit : ℕ)
-    → IsScanOf v limit (has_row_in m) (Told (option_and_then (λ found. option_map (scope_with symbols machine found) tree) m) v limit)
+    → IsScanOf v limit (has_row_in m) (Told (option_and_then (λ found. option_map (reading_with symbols machine found) tree) m) v limit)
 told_is_scan symbols machine None tree v limit = rests_is_scan v limit (has_row_in None)
 told_is_scan symbols machine (Some m) None v limit = rests_is_scan v limit (has_row_in (Some m))
-told_is_scan symbols machine (Some m) (Some tree) v limit = full_or_ran (scope_with symbols machine m tree) v limit (nat_le limit v.ctl.fired) refl
+told_is_scan symbols machine (Some m) (Some tree) v limit = full_or_ran (reading_with symbols machine m tree) v limit (nat_le limit v.ctl.fired) refl
 
 pub is_meaning : (trees : List Tree) → IsMeaning (meaning_of trees)
-unfolding scan_of pairs_of_machine
+unfolding scan_of lookups_of
 is_meaning trees machine setup actor now limit ctl =
     told_is_scan (symbols_of trees) machine (slice_get (symbols_of trees).machines machine) (slice_get (machines_of trees) machine)
     (scan_view setup actor now ctl) limit

@@ -16,7 +16,8 @@ use Rattle.acts.specs.Done.{Done, does}
 use Rattle.act_laws.specs.Left.{IsLeft}
 use Rattle.act_laws.proofs.Instances.{never_as_invalid}
 use Rattle.act_laws.proofs.Left.{left_by_act, left_here}
-use Rattle.scan_meaning.specs.Trying.{Known, Pair, Trying, ends, stops, acts, looks_up, follow_pairs, follow_scan, pairs_of, run_scan, stop_at, then_try, with_known}
+use Rattle.scan_meaning.specs.declared.tried.Known.{Known}
+use Rattle.scan_meaning.specs.Trying.{Pair, Trying, ends, stops, acts, looks_up, follow_pairs, follow_scan, pairs_of, run_scan, stop_at, then_try, with_known}
 use Rattle.protocol_meaning.specs.Meaning.{tried}
 
 -- What is left.

@@ -28,12 +28,12 @@ scan_by (Some s) limit fired_before v = scan s limit fired_before v
 unfoldable pub scan_of : List Tree → (machine limit fired_before : ℕ) → LocalView → Scanned
 scan_of trees machine limit fired_before v = scan_by (reading_of trees machine) limit fired_before v
 
-abbrev pub pairs_by : Option Reading → (limit fired_before : ℕ) → LocalView → List Pair
-pairs_by None limit fired_before v = []
-pairs_by (Some s) limit fired_before v = pairs_tried s limit fired_before v
+abbrev pub lookups_by : Option Reading → (limit fired_before : ℕ) → LocalView → List Pair
+lookups_by None limit fired_before v = []
+lookups_by (Some s) limit fired_before v = pairs_tried s limit fired_before v
 
-unfoldable pub pairs_of : List Tree → (machine limit fired_before : ℕ) → LocalView → List Pair
-pairs_of trees machine limit fired_before v = pairs_by (reading_of trees machine) limit fired_before v
+unfoldable pub lookups_of : List Tree → (machine limit fired_before : ℕ) → LocalView → List Pair
+lookups_of trees machine limit fired_before v = lookups_by (reading_of trees machine) limit fired_before v
 
 -- The same, as runs have it: what was done to messages is told of a scan that fires.
 
@@ -56,7 +56,7 @@ has_row_in (Some m) state event = list_any (is_for state event) m.transitions
 abbrev pub run_scan_of : List Tree → (machine : ℕ) → LocalView → (limit : ℕ) → Scan Ctl Message
 run_scan_of trees machine v limit = record {
   outcome = outcome_of (scan_of trees machine limit v.ctl.fired v);
-  tried = map tried (pairs_of trees machine limit v.ctl.fired v);
+  tried = map tried (lookups_of trees machine limit v.ctl.fired v);
 }
 
 abbrev pub meaning_of : List Tree → Meaning

@@ -2,6 +2,8 @@
 //! said. And what serves protocols: code that does a scan as these definitions have it.
 #![tactic(auto)]
 
+mod laws;
 mod protocol;
 
+pub use laws::{meanings_are_lawful, settings_are_lawful};
 pub use protocol::Protocol;

@@ -1,0 +1,28 @@
+// What holds of every protocol and of every topology that fits it. These functions do nothing: their contracts are the laws.
+ghost use Rattle.std.specs.Prelude.{◌≤◌, ℕ, List, length};
+ghost use Rattle.slicc_ast.specs.declared.tree.item.Tree.{Tree as TreeRecord};
+ghost use Rattle.ruby_topology.specs.declared.topology.Topology.{Topology as TopologyRecord};
+ghost use Rattle.ctl_face.specs.Fits.{last_cycle};
+ghost use Rattle.topology_fit.specs.FitsPlan.{FitsPlan};
+ghost use Rattle.protocol_runs.specs.IsSetting.{IsSetting};
+ghost use Rattle.protocol_runs.specs.Meaning.{IsMeaning};
+ghost use Rattle.protocol_meaning.specs.Meaning.{meaning_of};
+ghost use Rattle.protocol_meaning.specs.Setting.{setting_of};
+
+use sequencer::Driver;
+
+/// What any trees mean is what the laws of runs need: a scan that fires leaves what acts leave, and tells what they have done to
+/// messages; one in which nothing fires leaves the controller as it was, but for the mark of a stall; and one stops as `invalid`
+/// exactly where it has looked up a state and an event for which no transition is written, and with these. It needs no premise on
+/// the trees.
+pub fn meanings_are_lawful()
+    ensures { (trees : List TreeRecord) → IsMeaning (meaning_of trees) }
+{}
+
+/// A run of a protocol with a topology that fits it is one of which the laws of runs hold, where its bound on cycles is within that
+/// of all runs, and the driver finds the seats that it needs.
+pub fn settings_are_lawful<D: Driver>()
+    ensures { (trees : List TreeRecord) (t : TopologyRecord) (seed cycles limit : ℕ) (driver : D)
+        → FitsPlan trees t → cycles ≤ last_cycle → D.least driver ≤ length t.seats
+        → IsSetting D.least (setting_of trees t seed cycles limit driver) }
+{}
