@@ -1,3 +1,4 @@
 pub mod Readings
 pub mod Meaning
 pub mod Setting
+pub mod Kept

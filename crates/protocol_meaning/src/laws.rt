@@ -1,12 +1,19 @@
 // What holds of every protocol and of every topology that fits it. These functions do nothing: their contracts are the laws.
-ghost use Rattle.std.specs.Prelude.{◌≤◌, ℕ, List, length};
+ghost use Rattle.std.specs.Prelude.{◌≡◌, ◌≤◌, ℕ, List, Some, length};
 ghost use Rattle.slicc_ast.specs.declared.tree.item.Tree.{Tree as TreeRecord};
+ghost use Rattle.ruby_value.specs.declared.setup.MachineSetup.{MachineSetup as SetupRecord};
+ghost use Rattle.ruby_value.specs.declared.setup.Sizes.{Sizes as SizesRecord};
+ghost use Rattle.slicc_plan.specs.Declarations.{machines_of};
+ghost use Rattle.slicc_plan.specs.Setups.{setup_of};
 ghost use Rattle.ruby_topology.specs.declared.topology.Topology.{Topology as TopologyRecord};
 ghost use Rattle.ctl_face.specs.Fits.{last_cycle};
+ghost use Rattle.body_meaning.specs.Reading.{Reading};
 ghost use Rattle.topology_fit.specs.FitsPlan.{FitsPlan};
 ghost use Rattle.protocol_runs.specs.IsSetting.{IsSetting};
 ghost use Rattle.protocol_runs.specs.Meaning.{IsMeaning};
+ghost use Rattle.protocol_meaning.specs.Kept.{KeepsRanges};
 ghost use Rattle.protocol_meaning.specs.Meaning.{meaning_of};
+ghost use Rattle.protocol_meaning.specs.Readings.{reading_of};
 ghost use Rattle.protocol_meaning.specs.Setting.{setting_of};
 
 use sequencer::Driver;
@@ -25,4 +32,14 @@ pub fn settings_are_lawful<D: Driver>()
     ensures { (trees : List TreeRecord) (t : TopologyRecord) (seed cycles limit : ℕ) (driver : D)
         → FitsPlan trees t → cycles ≤ last_cycle → D.least driver ≤ length t.seats
         → IsSetting D.least (setting_of trees t seed cycles limit driver) }
+{}
+
+/// What a machine is to its controllers keeps the controllers of all machines where the machine's built-in calls look for them: after
+/// its own values, in the last of its tables.
+pub fn calls_find_the_machines()
+    ensures { (trees : List TreeRecord) (machine : ℕ) (sizes : SizesRecord) (r : Reading)
+        (setup : SetupRecord)
+        → reading_of trees machine ≡ Some r → setup_of trees machine sizes ≡ Some setup
+        → length sizes.machines ≡ length (machines_of trees)
+        → KeepsRanges r.setting.kept setup sizes.machines }
 {}
