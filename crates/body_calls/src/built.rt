@@ -4,6 +4,7 @@ ghost use Rattle.acts.specs.DoesAs.{DoesAs, itself};
 ghost use Rattle.body_meaning.specs.Bodies.{calls_within};
 ghost use Rattle.body_meaning.specs.Calls.{free_call as free_call_of, index as index_of, method_call as method_call_of, named_call as named_call_of, permission_call as permission_call_of, thing_built as thing_built_of};
 ghost use Rattle.body_calls.specs.CallsDo.{CallsDo};
+ghost use Rattle.body_meaning.specs.Reading.{reading};
 
 use crate::named::value_found;
 use acts::{BodyFault, Local, NoMemory, Trouble, Value};
@@ -25,7 +26,7 @@ fn thing_built<T: Local>(
     arguments: &[Value],
     local: &mut T,
 ) -> Result<Thing, Trouble>
-    ensures { DoesAs itself (thing_built_of s.entry number on arguments.now) result
+    ensures { DoesAs itself (thing_built_of (reading s.entry) number on arguments.now) result
         (T.view local.old) (T.view local.new) }
 {
     let v = built_in(alloc, local, s.setting, number, on, arguments)?;
@@ -47,7 +48,7 @@ fn permission_call<T: Local>(
     arguments: &[Value],
     local: &T,
 ) -> Result<Thing, Trouble>
-    ensures { DoesAs itself (permission_call_of s.entry name.now arguments.now) result
+    ensures { DoesAs itself (permission_call_of (reading s.entry) name.now arguments.now) result
         (T.view local.now) (T.view local.now) }
 {
     let v = permission_called(alloc, &s.symbols.machines, name, arguments)?;
@@ -62,7 +63,7 @@ fn free_call<T: Local>(
     arguments: &[Value],
     local: &mut T,
 ) -> Result<Thing, Trouble>
-    ensures { DoesAs itself (free_call_of s.entry name.now arguments.now) result
+    ensures { DoesAs itself (free_call_of (reading s.entry) name.now arguments.now) result
         (T.view local.old) (T.view local.new) }
 {
     if name == b"trigger".as_slice() {
@@ -86,9 +87,9 @@ pub fn named_call<T: Local, F: Fn(u16, Seq<Value>, &mut T) -> Result<Thing, Trou
     local: &mut T,
 ) -> Result<Thing, Trouble>
     requires callable { F.IsAlwaysCallable calls.now }
-    requires does { CallsDo T.view F.Fn calls.now (calls_within s depth) }
-    ensures { DoesAs itself (named_call_of s.entry (calls_within s.entry depth) name.now arguments) result
-        (T.view local.old) (T.view local.new) }
+    requires does { CallsDo T.view F.Fn calls.now (calls_within (reading s) depth) }
+    ensures { DoesAs itself (named_call_of (reading s.entry) (calls_within (reading s.entry) depth)
+        name.now arguments) result (T.view local.old) (T.view local.new) }
 {
     match function_named(s.machine, name) {
         Some(number) => calls(number, arguments, local),
@@ -106,7 +107,7 @@ pub fn method_call<T: Local>(
     arguments: Seq<Value>,
     local: &mut T,
 ) -> Result<Thing, Trouble>
-    ensures { DoesAs itself (method_call_of s.entry receiver name.now arguments) result
+    ensures { DoesAs itself (method_call_of (reading s.entry) receiver name.now arguments) result
         (T.view local.old) (T.view local.new) }
 {
     let Some(call) = called_on(s.machine, &receiver, name, arguments.len()) else {
@@ -125,7 +126,7 @@ pub fn index<T: Local>(
     key: Value,
     local: &mut T,
 ) -> Result<Thing, Trouble>
-    ensures { DoesAs itself (index_of s.entry receiver.now key) result (T.view local.old)
+    ensures { DoesAs itself (index_of (reading s.entry) receiver.now key) result (T.view local.old)
         (T.view local.new) }
 {
     let Some(call) = indexed_on(s.machine, receiver) else {

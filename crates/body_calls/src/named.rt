@@ -5,6 +5,7 @@ ghost use Rattle.body_meaning.specs.Expressions.{field_at as field_at_of, field_
 ghost use Rattle.body_meaning.specs.Names.{declared as declared_of, named_everywhere as named_everywhere_of, own_number as own_number_of, parameter as parameter_of, port_thing as port_thing_of, thing_got as thing_got_of};
 ghost use Rattle.ruby_symbols.specs.Numbers.{short_number};
 ghost use Rattle.std.specs.Prelude.{◌≡◌, Ok, length};
+ghost use Rattle.body_meaning.specs.Reading.{reading};
 
 use acts::{BodyFault, Local, Ref, Trouble, Value, get, me};
 use body_meaning::{Frame, Scope, Thing, line_field, message_field, port_at, thing_in};
@@ -101,7 +102,7 @@ pub fn variable<T: Local>(
     name: &[u8],
     local: &T,
 ) -> Result<Thing, Trouble>
-    ensures { DoesAs itself (variable_of s.entry frame.now name.now) result (T.view local.now)
+    ensures { DoesAs itself (variable_of (reading s.entry) frame.now name.now) result (T.view local.now)
         (T.view local.now) }
 {
     match thing_in(s, frame, name)? {
@@ -112,7 +113,7 @@ pub fn variable<T: Local>(
 
 #[tactic(auto, using(acts::proofs::Walk::walk_steps), unfolding(body_meaning::specs::Expressions::field_at))]
 fn field_at<T: Local>(s: Scope<'_>, name: &[u8], r: &Ref, local: &T) -> Result<Thing, Trouble>
-    ensures { DoesAs itself (field_at_of s.entry name.now r.now) result (T.view local.now)
+    ensures { DoesAs itself (field_at_of (reading s.entry) name.now r.now) result (T.view local.now)
         (T.view local.now) }
 {
     let Some(field) = line_field(s, r.table, name) else {
@@ -128,7 +129,7 @@ fn field_through<T: Local>(
     name: &[u8],
     local: &T,
 ) -> Result<Thing, Trouble>
-    ensures { DoesAs itself (field_through_of s.entry v.now name.now) result (T.view local.now)
+    ensures { DoesAs itself (field_through_of (reading s.entry) v.now name.now) result (T.view local.now)
         (T.view local.now) }
 {
     let Some(r) = reference(v) else {
@@ -139,7 +140,7 @@ fn field_through<T: Local>(
 
 /// The field of this name of a thing.
 pub fn field_in<T: Local>(s: Scope<'_>, name: &[u8], t: &Thing, local: &T) -> Result<Thing, Trouble>
-    ensures { DoesAs itself (field_in_of s.entry name.now t.now) result (T.view local.now)
+    ensures { DoesAs itself (field_in_of (reading s.entry) name.now t.now) result (T.view local.now)
         (T.view local.now) }
 {
     match t {

@@ -16,7 +16,7 @@ use Rattle.body_meaning.specs.declared.frame.Bound.{Bound}
 use Rattle.body_meaning.specs.declared.frame.Flow.{Flow}
 use Rattle.body_meaning.specs.declared.frame.Flow.TheVariants.{WentOn, Returned, Triggered}
 use Rattle.body_meaning.specs.declared.frame.Frame.{Frame}
-use Rattle.body_meaning.specs.declared.scope.Scope.{Scope}
+use Rattle.body_meaning.specs.Reading.{Reading}
 use Rattle.body_meaning.specs.declared.thing.Thing.{Thing}
 use Rattle.body_meaning.specs.declared.thing.Thing.TheVariants as thing
 use Rattle.body_meaning.specs.Calls.{Calls}
@@ -48,19 +48,19 @@ answer_of WentOn = thing.Nothing
 answer_of (Returned t) = t
 answer_of (Triggered t) = thing.Trigger t
 
-abbrev pub function_run : Scope → Calls → Frame → Option Block → Acting Thing
+abbrev pub function_run : Reading → Calls → Frame → Option Block → Acting Thing
 function_run s calls frame None = stops own.Reference
 function_run s calls frame (Some b) = all_done s calls b.statements frame >>= (λ (e : Ended). ends (answer_of e.flow))
 
-abbrev pub function_called : Scope → Calls → List Value → Option FunctionSymbol → Acting Thing
+abbrev pub function_called : Reading → Calls → List Value → Option FunctionSymbol → Acting Thing
 function_called s calls arguments None = stops own.Reference
-function_called s calls arguments (Some f) = function_run s calls (frame_of f arguments) (body_of s.tree.now f)
+function_called s calls arguments (Some f) = function_run s calls (frame_of f arguments) (body_of s.tree f)
 
 -- calls that may be this many inside of one another
-unfoldable pub calls_within : Scope → ℕ → Calls
+unfoldable pub calls_within : Reading → ℕ → Calls
 calls_within s zero k arguments = stops own.Reference
-calls_within s (suc depth) k arguments = function_called s (calls_within s depth) arguments (slice_get s.machine.now.functions k)
+calls_within s (suc depth) k arguments = function_called s (calls_within s depth) arguments (slice_get s.machine.functions k)
 
 -- the calls of a machine's functions
-abbrev pub calls_of : Scope → Calls
-calls_of s = calls_within s (length s.machine.now.functions)
+abbrev pub calls_of : Reading → Calls
+calls_of s = calls_within s (length s.machine.functions)

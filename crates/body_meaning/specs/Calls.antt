@@ -15,7 +15,7 @@ use Rattle.acts.specs.declared.body_fault.BodyFault.TheVariants as own
 use Rattle.acts.specs.Acting.{Acting, ends, ◌>>=◌, found}
 use Rattle.built_in_acts.specs.BuiltIn.{built_in}
 use Rattle.built_in_acts.specs.Values.{address_of_line, argument, line_named, member, reference}
-use Rattle.body_meaning.specs.declared.scope.Scope.{Scope}
+use Rattle.body_meaning.specs.Reading.{Reading}
 use Rattle.body_meaning.specs.declared.thing.Thing.{Thing}
 use Rattle.body_meaning.specs.declared.thing.Thing.TheVariants as thing
 use Rattle.body_meaning.specs.declared.thing.Trigger.{Trigger}
@@ -31,8 +31,8 @@ Calls = ℕ → List Value → Acting Thing
 unfoldable pub value_found : Option Value → Acting Thing
 value_found v = found own.Reference v >>= (λ x. ends (thing.Value x))
 
-unfoldable pub thing_built : Scope → ℕ → ℕ → List Value → Acting Thing
-thing_built s number on arguments = built_in s.setting.now number on arguments >>= (λ v. ends (thing_of v))
+unfoldable pub thing_built : Reading → ℕ → ℕ → List Value → Acting Thing
+thing_built s number on arguments = built_in s.setting number on arguments >>= (λ v. ends (thing_of v))
 
 -- `trigger(event, address [, entry] [, TBE])`, where the references are there exactly where the machine has such lines. The address
 -- is brought down to its line, and an event that is no member counts as the first one: both are this project's own rules.
@@ -41,21 +41,21 @@ abbrev pub event_among : ℕ → Option EnumerationSymbol → ℕ
 event_among k None = 0
 event_among k (Some e) = if nat_lt k (length e.members) then k else 0
 
-abbrev pub event_of : Scope → Value → ℕ
+abbrev pub event_of : Reading → Value → ℕ
 event_of s (value.Enum number k) =
-    if number == s.machine.now.events then event_among k (slice_get s.symbols.now.enumerations number) else 0
+    if number == s.machine.events then event_among k (slice_get s.symbols.enumerations number) else 0
 event_of s _ = 0
 
 abbrev pub reference_at : Bool → List Value → ℕ → Option Ref
 reference_at is_there arguments i = if is_there then reference (argument arguments i) else None
 
-abbrev pub trigger_of : Scope → List Value → Trigger
+abbrev pub trigger_of : Reading → List Value → Trigger
 trigger_of s arguments =
     record {
       event = event_of s (argument arguments 0);
       address = address_of_line (line_named (argument arguments 1));
-      entry = reference_at (is_some s.machine.now.entry) arguments 2;
-      tbe = reference_at (is_some s.machine.now.tbe) arguments (if is_some s.machine.now.entry then 3 else 2);
+      entry = reference_at (is_some s.machine.entry) arguments 2;
+      tbe = reference_at (is_some s.machine.tbe) arguments (if is_some s.machine.entry then 3 else 2);
     }
 
 -- `M_State_to_permission` for a machine M; a number that is none of its states has `Invalid`, which is this project's own rule.
@@ -69,24 +69,24 @@ permission_of m state = value.Enum 1 (unwrap_or (slice_get m.permissions (member
 -- Calls without a receiver.
 
 -- one that is none of the built-in calls is one from states to permissions
-abbrev pub permission_call : Scope → List ℕ → List Value → Acting Thing
+abbrev pub permission_call : Reading → List ℕ → List Value → Acting Thing
 permission_call s text arguments =
-    value_found (option_map (λ m. permission_of m (argument arguments 0)) (find (is_permission_call text) s.symbols.now.machines))
+    value_found (option_map (λ m. permission_of m (argument arguments 0)) (find (is_permission_call text) s.symbols.machines))
 
-abbrev pub plain_or : Scope → List ℕ → List Value → Option ℕ → Acting Thing
+abbrev pub plain_or : Reading → List ℕ → List Value → Option ℕ → Acting Thing
 plain_or s text arguments (Some number) = thing_built s number 0 arguments
 plain_or s text arguments None = permission_call s text arguments
 
-unfoldable pub free_call : Scope → List ℕ → List Value → Acting Thing
+unfoldable pub free_call : Reading → List ℕ → List Value → Acting Thing
 free_call s text arguments =
     cond (bytes_eq text (codes "trigger")) (ends (thing.Trigger (trigger_of s arguments))) (plain_or s text arguments (plain_call text))
 
-abbrev pub function_or : Scope → Calls → List ℕ → List Value → Option ℕ → Acting Thing
+abbrev pub function_or : Reading → Calls → List ℕ → List Value → Option ℕ → Acting Thing
 function_or s calls text arguments (Some k) = calls k arguments
 function_or s calls text arguments None = free_call s text arguments
 
-unfoldable pub named_call : Scope → Calls → List ℕ → List Value → Acting Thing
-named_call s calls text arguments = function_or s calls text arguments (function_named s.machine.now text)
+unfoldable pub named_call : Reading → Calls → List ℕ → List Value → Acting Thing
+named_call s calls text arguments = function_or s calls text arguments (function_named s.machine text)
 
 -- Calls with a receiver: the number of the call, and of the table or buffer that it is on.
 
@@ -115,9 +115,9 @@ abbrev pub with_receiver : Thing → List Value → List Value
 with_receiver (thing.Value v) arguments = v ∷ arguments
 with_receiver _ arguments = arguments
 
-unfoldable pub method_call : Scope → Thing → List ℕ → List Value → Acting Thing
+unfoldable pub method_call : Reading → Thing → List ℕ → List Value → Acting Thing
 method_call s receiver text arguments =
-    found own.Reference (called_on s.machine.now receiver text (length arguments))
+    found own.Reference (called_on s.machine receiver text (length arguments))
     >>= (λ (c : Numbered). thing_built s c.number c.on (with_receiver receiver arguments))
 
 -- the index of a table, by an address
@@ -126,6 +126,6 @@ abbrev pub indexed_on : MachineSymbols → Thing → Option Numbered
 indexed_on m (thing.Table table) = option_map (λ (t : TableSymbol). record { number = index_call t.sort; on = table }) (slice_get m.tables table)
 indexed_on m _ = None
 
-unfoldable pub index : Scope → Thing → Value → Acting Thing
+unfoldable pub index : Reading → Thing → Value → Acting Thing
 index s receiver key =
-    found own.Reference (indexed_on s.machine.now receiver) >>= (λ (c : Numbered). thing_built s c.number c.on (key ∷ []))
+    found own.Reference (indexed_on s.machine receiver) >>= (λ (c : Numbered). thing_built s c.number c.on (key ∷ []))

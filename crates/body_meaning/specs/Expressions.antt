@@ -15,7 +15,7 @@ use Rattle.acts.specs.declared.body_fault.BodyFault.TheVariants as own
 use Rattle.acts.specs.Acting.{Acting, ends, stops, ◌>>=◌, decided, found, given}
 use Rattle.built_in_acts.specs.Values.{reference, truth}
 use Rattle.body_meaning.specs.declared.frame.Frame.{Frame}
-use Rattle.body_meaning.specs.declared.scope.Scope.{Scope}
+use Rattle.body_meaning.specs.Reading.{Reading}
 use Rattle.body_meaning.specs.declared.thing.Thing.{Thing}
 use Rattle.body_meaning.specs.declared.thing.Thing.TheVariants as thing
 use Rattle.body_meaning.specs.Calls.{Calls, index, method_call, named_call, value_found}
@@ -27,25 +27,25 @@ use Rattle.body_meaning.specs.Things.{boolean, no_line, value_in}
 
 -- Names: what the body has of its own hides what the machine declares.
 
-abbrev pub thing_in : Scope → Frame → List ℕ → Option Thing
-thing_in s frame text = option_or (thing_bound text frame.names) (thing_about s.machine.now frame.about text)
+abbrev pub thing_in : Reading → Frame → List ℕ → Option Thing
+thing_in s frame text = option_or (thing_bound text frame.names) (thing_about s.machine frame.about text)
 
-abbrev pub variable_or : Scope → List ℕ → Option Thing → Acting Thing
-variable_or s text None = declared s.machine.now text
+abbrev pub variable_or : Reading → List ℕ → Option Thing → Acting Thing
+variable_or s text None = declared s.machine text
 variable_or s text (Some t) = ends t
 
-unfoldable pub variable : Scope → Frame → List ℕ → Acting Thing
+unfoldable pub variable : Reading → Frame → List ℕ → Acting Thing
 variable s frame text = variable_or s text (thing_in s frame text)
 
 -- Fields, of messages and through references.
 
-unfoldable pub field_at : Scope → List ℕ → Ref → Acting Thing
+unfoldable pub field_at : Reading → List ℕ → Ref → Acting Thing
 field_at s text r = found own.Reference (line_field s r.table text) >>= (λ k. thing_got r k)
 
-unfoldable pub field_through : Scope → Value → List ℕ → Acting Thing
+unfoldable pub field_through : Reading → Value → List ℕ → Acting Thing
 field_through s v text = found own.Reference (reference v) >>= (λ (r : Ref). field_at s text r)
 
-abbrev pub field_in : Scope → List ℕ → Thing → Acting Thing
+abbrev pub field_in : Reading → List ℕ → Thing → Acting Thing
 field_in s text (thing.Value v) = field_through s v text
 field_in s text (thing.Message structure fields) = value_found (message_field s structure fields text)
 field_in s text _ = stops own.Reference
@@ -71,7 +71,7 @@ names_line t = boolean (is_some (reference (value_in t)))
 abbrev pub names_nothing : Thing → Thing
 names_nothing t = boolean (is_none (reference (value_in t)))
 
-module _ (s : Scope) (calls : Calls) (frame : Frame) where
+module _ (s : Reading) (calls : Calls) (frame : Frame) where
   abbrev mutual
     pub value : Expr → Acting Thing
     value (Operation' first n others span) =

@@ -1,3 +1,4 @@
+pub mod Reading
 pub mod Things
 pub mod Each
 pub mod Frames

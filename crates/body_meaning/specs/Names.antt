@@ -25,7 +25,7 @@ use Rattle.ruby_symbols.specs.Types.{enumeration_named, field_named, member_name
 use Rattle.acts.specs.declared.body_fault.BodyFault.TheVariants as own
 use Rattle.acts.specs.Act as act
 use Rattle.acts.specs.Acting.{Acting, ends, stops, ◌>>=◌, act as done, either, found}
-use Rattle.body_meaning.specs.declared.scope.Scope.{Scope}
+use Rattle.body_meaning.specs.Reading.{Reading}
 use Rattle.body_meaning.specs.declared.thing.Thing.{Thing}
 use Rattle.body_meaning.specs.declared.thing.Thing.TheVariants as thing
 use Rattle.body_meaning.specs.Things.{no_line}
@@ -90,8 +90,8 @@ abbrev pub member_at : Symbols → List ℕ → ℕ → Option Value
 member_at symbols text number = option_and_then (member_in text number) (slice_get symbols.enumerations number)
 
 -- `owner:member`, where the type's name is looked up as the machine sees it
-abbrev pub member_value : Scope → List ℕ → List ℕ → Option Value
-member_value s owner member = option_and_then (member_at s.symbols.now member) (enumeration_named s.symbols.now s.number owner)
+abbrev pub member_value : Reading → List ℕ → List ℕ → Option Value
+member_value s owner member = option_and_then (member_at s.symbols member) (enumeration_named s.symbols s.number owner)
 
 -- Fields.
 
@@ -100,17 +100,17 @@ structure_field symbols structure text =
     option_and_then (λ (t : StructureSymbol). field_named t.fields text) (slice_get symbols.structures structure)
 
 -- of the lines of the table of this number
-abbrev pub line_field : Scope → ℕ → List ℕ → Option ℕ
+abbrev pub line_field : Reading → ℕ → List ℕ → Option ℕ
 line_field s table text =
-    option_and_then (λ (t : TableSymbol). structure_field s.symbols.now t.structure text) (slice_get s.machine.now.tables table)
+    option_and_then (λ (t : TableSymbol). structure_field s.symbols t.structure text) (slice_get s.machine.tables table)
 
-abbrev pub message_field : Scope → ℕ → List Value → List ℕ → Option Value
-message_field s structure fields text = option_and_then (slice_get fields) (structure_field s.symbols.now structure text)
+abbrev pub message_field : Reading → ℕ → List Value → List ℕ → Option Value
+message_field s structure fields text = option_and_then (slice_get fields) (structure_field s.symbols structure text)
 
 -- what the fields of a message are that is made
 abbrev pub initial_fields : StructureSymbol → List Value
 initial_fields t = map (λ (f : FieldSymbol). f.initial) t.fields
 
-abbrev pub new_message : Scope → ℕ → Option Thing
+abbrev pub new_message : Reading → ℕ → Option Thing
 new_message s structure =
-    option_map (λ (t : StructureSymbol). thing.Message structure (initial_fields t)) (slice_get s.symbols.now.structures structure)
+    option_map (λ (t : StructureSymbol). thing.Message structure (initial_fields t)) (slice_get s.symbols.structures structure)

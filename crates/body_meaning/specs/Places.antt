@@ -14,7 +14,7 @@ use Rattle.built_in_acts.specs.Values.{reference}
 use Rattle.body_meaning.specs.declared.frame.Frame.{Frame}
 use Rattle.body_meaning.specs.declared.place.Place.{Place}
 use Rattle.body_meaning.specs.declared.place.Place.TheVariants.{Named, Part, Line}
-use Rattle.body_meaning.specs.declared.scope.Scope.{Scope}
+use Rattle.body_meaning.specs.Reading.{Reading}
 use Rattle.body_meaning.specs.declared.thing.Thing.{Thing}
 use Rattle.body_meaning.specs.declared.thing.Thing.TheVariants as thing
 use Rattle.body_meaning.specs.Calls.{Calls}
@@ -26,17 +26,17 @@ use Rattle.body_meaning.specs.Things.{value_in}
 -- Finding one.
 
 -- of a field of what a reference names
-unfoldable pub line_place : Scope → Value → List ℕ → Acting Place
+unfoldable pub line_place : Reading → Value → List ℕ → Acting Place
 line_place s v text =
     found own.Reference (reference v) >>= (λ (r : Ref). found own.Reference (line_field s r.table text) >>= (λ k. ends (Line r k)))
 
 -- of a field of the message of this name
-abbrev pub part_place : Scope → Option (List ℕ) → ℕ → List ℕ → Option Place
+abbrev pub part_place : Reading → Option (List ℕ) → ℕ → List ℕ → Option Place
 part_place s None structure text = None
-part_place s (Some name) structure text = option_map (Part name) (structure_field s.symbols.now structure text)
+part_place s (Some name) structure text = option_map (Part name) (structure_field s.symbols structure text)
 
 -- of a field of a thing, which the body may have under a name
-abbrev pub field_place : Scope → Option (List ℕ) → List ℕ → Thing → Acting Place
+abbrev pub field_place : Reading → Option (List ℕ) → List ℕ → Thing → Acting Place
 field_place s name text (thing.Value v) = line_place s v text
 field_place s name text (thing.Message structure fields) = found own.Reference (part_place s name structure text)
 field_place s name text _ = stops own.Reference
@@ -58,7 +58,7 @@ before_last suffixes = take (length suffixes - 1) suffixes
 abbrev pub last_of : List Suffix → Option Suffix
 last_of suffixes = slice_get suffixes (length suffixes - 1)
 
-module _ (s : Scope) (calls : Calls) (frame : Frame) where
+module _ (s : Reading) (calls : Calls) (frame : Frame) where
   abbrev pub place_last : Expr → List Suffix → Option Suffix → Acting Place
   place_last inner before (Some (Field name span)) =
       value_behind s calls frame inner before >>= field_place s (name_behind inner before) name.text

@@ -24,7 +24,7 @@ use Rattle.body_meaning.specs.declared.frame.Bound.{Bound}
 use Rattle.body_meaning.specs.declared.frame.Flow.{Flow}
 use Rattle.body_meaning.specs.declared.frame.Flow.TheVariants.{WentOn, Returned, Triggered}
 use Rattle.body_meaning.specs.declared.frame.Frame.{Frame}
-use Rattle.body_meaning.specs.declared.scope.Scope.{Scope}
+use Rattle.body_meaning.specs.Reading.{Reading}
 use Rattle.body_meaning.specs.declared.thing.Thing.{Thing}
 use Rattle.body_meaning.specs.declared.thing.Thing.TheVariants as thing
 use Rattle.body_meaning.specs.CallNumbers.{changes_receiver, stall_call, write_callback}
@@ -82,7 +82,7 @@ fields_made (b ∷ names) = made b.thing
     made (thing.Message structure fields) = fields
     made _ = []
 
-module _ (s : Scope) (calls : Calls) where
+module _ (s : Reading) (calls : Calls) where
   -- the latency that is written, and 1 where none is
   abbrev pub latency : Frame → Option Expr → Acting ℤ
   latency frame None = ends (pos 1)
@@ -97,17 +97,17 @@ module _ (s : Scope) (calls : Calls) where
 
   unfoldable pub enqueued : List ℕ → Option Expr → (Frame → Acting Ended) → Frame → Acting Ended
   enqueued port written block frame =
-      found own.Reference (port_named s.machine.now port)
-      >>= (λ buffer. found own.Reference (message_of s.machine.now buffer)
+      found own.Reference (port_named s.machine port)
+      >>= (λ buffer. found own.Reference (message_of s.machine buffer)
       >>= (λ structure. found own.Reference (new_message s structure)
       >>= (λ t. block (bind (codes "out_msg") t frame)
       >>= (λ (e : Ended). sent buffer written (length frame.names) e.flow e.frame))))
 
   unfoldable pub stalled : List ℕ → Expr → Frame → Acting Ended
   stalled port address frame =
-      found own.Reference (port_named s.machine.now port)
+      found own.Reference (port_named s.machine port)
       >>= (λ buffer. value s calls frame address
-      >>= (λ t. built_in s.setting.now stall_call buffer (value_in t ∷ []) >> went_on frame))
+      >>= (λ t. built_in s.setting stall_call buffer (value_in t ∷ []) >> went_on frame))
 
   -- Changes.
 
@@ -123,7 +123,7 @@ module _ (s : Scope) (calls : Calls) where
       >>= (λ p. at_place frame p
       >>= (λ v. values_of s calls frame arguments
       >>= (λ vs. found own.Reference (value_call v text)
-      >>= (λ n. built_in s.setting.now n 0 (v ∷ vs)
+      >>= (λ n. built_in s.setting n 0 (v ∷ vs)
       >>= (λ w. found own.Reference w
       >>= (λ x. with_place frame p x >>= went_on))))))
 
@@ -134,7 +134,7 @@ module _ (s : Scope) (calls : Calls) where
       >>= (λ t. place_of s calls frame block
       >>= (λ p. at_place frame p
       >>= (λ v. values_of s calls frame others
-      >>= (λ vs. built_in s.setting.now (write_callback (2 + length vs)) 0 (value_in t ∷ v ∷ vs)
+      >>= (λ vs. built_in s.setting (write_callback (2 + length vs)) 0 (value_in t ∷ v ∷ vs)
       >>= (λ w. found own.Reference w
       >>= (λ x. with_place frame p x >>= went_on))))))
   written_back _ frame = stops own.Reference
@@ -155,7 +155,7 @@ module _ (s : Scope) (calls : Calls) where
 
   unfoldable pub called_alone : List ℕ → Frame → List Value → Acting Ended
   called_alone text frame arguments =
-      called_or text arguments frame (about_after text arguments frame.about (function_named s.machine.now text))
+      called_or text arguments frame (about_after text arguments frame.about (function_named s.machine text))
 
   -- Expressions as statements.
 
@@ -194,7 +194,7 @@ module _ (s : Scope) (calls : Calls) where
     exec (Evaluate e span) frame = evaluated e frame
     exec (Return e span) frame = returned e frame
     exec (IfStmt i) frame = if_done i frame
-    exec (Peek' port message attributes shape row block span) frame = peeked s.machine.now port.text (row_done row) frame
+    exec (Peek' port message attributes shape row block span) frame = peeked s.machine port.text (row_done row) frame
     exec (Enqueue' port message written shape row block span) frame = enqueued port.text written (row_done row) frame
     exec (StallAndWait port address span) frame = stalled port.text address frame
     exec (CheckAllocate table span) frame = went_on frame

@@ -3,6 +3,7 @@ ghost use Rattle.std.specs.Prelude.{◌≡◌, IfOk, OnOk};
 ghost use Rattle.std.specs.Option.{option_copied};
 ghost use Rattle.body_meaning.specs.Expressions.{thing_in as thing_in_of};
 ghost use Rattle.body_meaning.specs.Frames.{about_named as about_named_of, bind as bind_of, thing_about as thing_about_of, thing_bound as thing_bound_of, with_entry as with_entry_of, with_tbe as with_tbe_of};
+ghost use Rattle.body_meaning.specs.Reading.{reading};
 
 use crate::frame::{About, Bound, Frame};
 use crate::scope::Scope;
@@ -60,7 +61,7 @@ fn copy_of(thing: &Thing) -> Result<Thing, NoMemory>
 
 /// What a name is in a body, where the body has it of its own.
 pub fn thing_in(s: Scope<'_>, frame: &Frame, name: &[u8]) -> Result<Option<Thing>, NoMemory>
-    ensures { IfOk result (λ t. t ≡ thing_in_of s.entry frame.now name.now) }
+    ensures { IfOk result (λ t. t ≡ thing_in_of (reading s.entry) frame.now name.now) }
 {
     match thing_bound(&frame.names, name) {
         Some(thing) => Ok(Some(copy_of(thing)?)),

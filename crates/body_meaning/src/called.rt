@@ -5,6 +5,7 @@ ghost use Rattle.std.specs.Option.{option_copied, option_map};
 ghost use Rattle.body_meaning.specs.Calls.{called_on as called_on_of, event_among as event_among_of, event_of as event_of_value, indexed_on as indexed_on_of, is_permission_call as is_permission_call_of, numbered as numbered_of, on_table as on_table_of, permission_of as permission_of_state, reference_at as reference_at_of, trigger_of as trigger_of_arguments, value_call as value_call_of, with_receiver as with_receiver_of};
 ghost use Rattle.body_meaning.specs.Things.{thing_of as thing_of_answer, value_in as value_in_thing};
 ghost use Rattle.built_in_acts.specs.Values.{address_of_line as address_of_line_is, argument as argument_of, line_named as line_named_of};
+ghost use Rattle.body_meaning.specs.Reading.{reading};
 
 use crate::call_numbers::{
     block_call, entry_call, index_call, port_call, sequencer_call, set_call, table_call,
@@ -122,7 +123,7 @@ fn event_among(k: u16, e: Option<&EnumerationSymbol>) -> u16
 }
 
 fn event_of(s: Scope<'_>, v: &Value) -> u16
-    ensures { result ≡ event_of_value s.entry v.now }
+    ensures { result ≡ event_of_value (reading s.entry) v.now }
 {
     match v {
         Value::Enum(number, k) => {
@@ -137,7 +138,7 @@ fn event_of(s: Scope<'_>, v: &Value) -> u16
 }
 
 fn event_at(s: Scope<'_>, arguments: &[Value]) -> u16
-    ensures { result ≡ event_of_value s.entry (argument_of arguments.now 0) }
+    ensures { result ≡ event_of_value (reading s.entry) (argument_of arguments.now 0) }
 {
     match arguments.get(0) {
         Some(v) => event_of(s, v),
@@ -169,7 +170,7 @@ pub fn reference_at(is_there: bool, arguments: &[Value], i: usize) -> Option<Ref
 
 /// What a `trigger` with these arguments asks for.
 pub fn trigger_of(s: Scope<'_>, arguments: &[Value]) -> Trigger
-    ensures { result ≡ trigger_of_arguments s.entry arguments.now }
+    ensures { result ≡ trigger_of_arguments (reading s.entry) arguments.now }
 {
     let has_entry = s.machine.entry.is_some();
     let tbe_at = if has_entry { 3 } else { 2 };

@@ -1,6 +1,7 @@
 // What names stand for that no body has of its own.
 ghost use Rattle.std.specs.Prelude.{◌≡◌};
 ghost use Rattle.body_meaning.specs.Names.{line_field as line_field_of, member_at as member_at_of, member_value as member_value_of, message_of as message_of_buffer, port_at as port_at_of, port_named as port_named_of, structure_field as structure_field_of};
+ghost use Rattle.body_meaning.specs.Reading.{reading};
 
 use crate::scope::Scope;
 use acts::Value;
@@ -54,7 +55,7 @@ fn member_at(symbols: &Symbols, member: &[u8], number: u16) -> Option<Value>
 
 /// The member of an enumeration, by the names of both.
 pub fn member_value(s: Scope<'_>, owner: &[u8], member: &[u8]) -> Option<Value>
-    ensures { result ≡ member_value_of s.entry owner.now member.now }
+    ensures { result ≡ member_value_of (reading s.entry) owner.now member.now }
 {
     match enumeration_named(s.symbols, s.number, owner) {
         Some(number) => member_at(s.symbols, member, number),
@@ -74,7 +75,7 @@ pub fn structure_field(symbols: &Symbols, structure: u16, name: &[u8]) -> Option
 
 /// The number of a field of the lines of a table.
 pub fn line_field(s: Scope<'_>, table: u16, name: &[u8]) -> Option<u16>
-    ensures { result ≡ line_field_of s.entry table name.now }
+    ensures { result ≡ line_field_of (reading s.entry) table name.now }
 {
     match s.machine.tables.get(usize::from(table)) {
         Some(t) => structure_field(s.symbols, t.structure, name),

@@ -5,7 +5,7 @@ use Rattle.run_journal.specs.declared.entry.FireNote.{FireNote}
 use Rattle.ctl_face.specs.Again.{again}
 use Rattle.ctl_face.specs.LocalView.{LocalView}
 use Rattle.acts.specs.Done.{Done}
-use Rattle.body_meaning.specs.declared.scope.Scope.{Scope}
+use Rattle.body_meaning.specs.Reading.{Reading}
 use Rattle.scan_meaning.specs.declared.round.RoundEnd.{RoundEnd}
 use Rattle.scan_meaning.specs.declared.round.RoundEnd.TheVariants.{Fired, Idle, Full, Stop}
 use Rattle.scan_meaning.specs.declared.tried.Tried.{Tried}
@@ -30,7 +30,7 @@ of_outcome : (v : LocalView) (r : Result (Done Tried) StopAt) → LeavesIt v (by
 of_outcome v (Err at) = leaves (Stop at)
 of_outcome v (Ok d) = of_try v d.value d.view
 
-module _ (s : Scope) (limit done : ℕ) (v : LocalView) where
+module _ (s : Reading) (limit done : ℕ) (v : LocalView) where
   scan_leaves_by : (b : Bool) → nat_le limit done ≡ b → LeavesIt v (scan s limit done v)
   scan_leaves_by true is = rw is (leaves Full)
   scan_leaves_by false is = rw is (of_outcome v _)

@@ -13,19 +13,19 @@ use Rattle.ruby_symbols.specs.declared.machine.MachineSymbols.{MachineSymbols}
 use Rattle.ruby_symbols.specs.declared.names.Named.{Named}
 use Rattle.ruby_symbols.specs.declared.names.Named.TheVariants.{Table}
 use Rattle.ruby_symbols.specs.Names.{stands_for}
-use Rattle.body_meaning.specs.declared.scope.Scope.{Scope}
+use Rattle.body_meaning.specs.Reading.{Reading}
 
 abbrev pub action_block : Option Decl → Option Block
 action_block (Some (Action a)) = Some a.body
 action_block _ = None
 
-abbrev pub block_of : Scope → Option ActionSymbol → Option Block
+abbrev pub block_of : Reading → Option ActionSymbol → Option Block
 block_of s None = None
-block_of s (Some a) = action_block (slice_get s.tree.now.declarations a.declaration)
+block_of s (Some a) = action_block (slice_get s.tree.declarations a.declaration)
 
 -- the body of the action of this number
-abbrev pub body_of_action : Scope → ℕ → Option Block
-body_of_action s number = block_of s (slice_get s.machine.now.actions number)
+abbrev pub body_of_action : Reading → ℕ → Option Block
+body_of_action s number = block_of s (slice_get s.machine.actions number)
 
 -- the names that the `check_allocate` statements in a statement have, in the order of the text
 abbrev mutual
@@ -64,5 +64,5 @@ abbrev pub names_table : MachineSymbols → ℕ → List ℕ → Bool
 names_table m table text = is_table table (stands_for m text)
 
 -- how many free lines of a table these actions need, all by their numbers within the machine
-abbrev pub need : Scope → List ℕ → ℕ → ℕ
-need s actions table = count_by (names_table s.machine.now table) (flat_map (λ number. block_checked (body_of_action s number)) actions)
+abbrev pub need : Reading → List ℕ → ℕ → ℕ
+need s actions table = count_by (names_table s.machine table) (flat_map (λ number. block_checked (body_of_action s number)) actions)

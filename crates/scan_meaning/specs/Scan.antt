@@ -15,7 +15,7 @@ use Rattle.acts.specs.Acting.{Acting, ends as ends_body, ◌>>=◌, found}
 use Rattle.acts.specs.Done.{Done}
 use Rattle.body_meaning.specs.declared.frame.Flow.{Flow}
 use Rattle.body_meaning.specs.declared.frame.Flow.TheVariants.{Triggered}
-use Rattle.body_meaning.specs.declared.scope.Scope.{Scope}
+use Rattle.body_meaning.specs.Reading.{Reading}
 use Rattle.body_meaning.specs.Bodies.{calls_of}
 use Rattle.body_meaning.specs.Frames.{Ended}
 use Rattle.body_meaning.specs.Statements.{all_done}
@@ -31,24 +31,24 @@ port_block (Some (InPort p)) = Some p.body
 port_block _ = None
 
 -- the body of a port, with nothing of its own as it begins
-abbrev pub port_done : Scope → PortSymbol → Acting Flow
+abbrev pub port_done : Reading → PortSymbol → Acting Flow
 port_done s p =
-    found own.Reference (port_block (slice_get s.tree.now.declarations p.declaration))
+    found own.Reference (port_block (slice_get s.tree.declarations p.declaration))
     >>= (λ (b : Block). all_done s (calls_of s) b.statements (record { names = []; about = None }) >>= (λ (e : Ended). ends_body e.flow))
 
-abbrev pub after_port : Scope → Flow → Trying Tried
+abbrev pub after_port : Reading → Flow → Trying Tried
 after_port s (Triggered t) = try s t
 after_port s _ = ends Waits
 
 -- A port that triggers nothing passes, as one whose transition is stalled.
-abbrev pub port_tried : Scope → PortSymbol → Trying Tried
+abbrev pub port_tried : Reading → PortSymbol → Trying Tried
 port_tried s p = then_try (with_known nothing_known (port_done s p)) (after_port s)
 
 abbrev pub unless_fired : Trying Tried → Tried → Trying Tried
 unless_fired next (Fires note) = ends (Fires note)
 unless_fired next Waits = next
 
-abbrev pub ports_tried : Scope → List PortSymbol → Trying Tried
+abbrev pub ports_tried : Reading → List PortSymbol → Trying Tried
 ports_tried s [] = ends Waits
 ports_tried s (p ∷ ps) = then_try (port_tried s p) (unless_fired (ports_tried s ps))
 
@@ -70,12 +70,12 @@ by_outcome v (Err at) = record { end = Stop at; view = v }
 by_outcome v (Ok d) = by_try v d.value d.view
 
 -- of a controller that has fired this many transitions in this cycle and may fire so many
-abbrev pub scan : Scope → (limit fired_before : ℕ) → LocalView → Scanned
+abbrev pub scan : Reading → (limit fired_before : ℕ) → LocalView → Scanned
 scan s limit fired_before v =
     if nat_le limit fired_before then (record { end = Full; view = v })
-    else by_outcome v (run_scan (ports_tried s s.machine.now.in_ports) v)
+    else by_outcome v (run_scan (ports_tried s s.machine.in_ports) v)
 
 -- the pairs of a state and an event that it looks up among the written transitions, in this order
-abbrev pub pairs_tried : Scope → (limit fired_before : ℕ) → LocalView → List Pair
+abbrev pub pairs_tried : Reading → (limit fired_before : ℕ) → LocalView → List Pair
 pairs_tried s limit fired_before v =
-    if nat_le limit fired_before then [] else pairs_of (ports_tried s s.machine.now.in_ports) v
+    if nat_le limit fired_before then [] else pairs_of (ports_tried s s.machine.in_ports) v

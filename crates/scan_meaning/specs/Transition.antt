@@ -22,7 +22,7 @@ use Rattle.acts.specs.Acting.{Acting, ends as ends_body, ◌>>=◌, ◌>>◌, ac
 use Rattle.built_in_acts.specs.Values.{member}
 use Rattle.body_meaning.specs.declared.frame.About.{About}
 use Rattle.body_meaning.specs.declared.frame.Frame.{Frame}
-use Rattle.body_meaning.specs.declared.scope.Scope.{Scope}
+use Rattle.body_meaning.specs.Reading.{Reading}
 use Rattle.body_meaning.specs.declared.thing.Trigger.{Trigger}
 use Rattle.body_meaning.specs.Bodies.{calls_of}
 use Rattle.body_meaning.specs.Each.{each}
@@ -57,23 +57,23 @@ state_argument m a state State = value.Enum m.states state
 abbrev pub arguments_for : MachineSymbols → About → ℕ → List StateArgument → List Value
 arguments_for m a state arguments = map (state_argument m a state) arguments
 
-abbrev pub state_by : Scope → About → Option ℕ → Acting ℕ
+abbrev pub state_by : Reading → About → Option ℕ → Acting ℕ
 state_by s a None = done (act.State (line_of a.address))
 state_by s a (Some function) =
-    calls_of s function (arguments_for s.machine.now a 0 (get_state_arguments s.machine.now)) >>= (λ t. ends_body (member (value_in t)))
+    calls_of s function (arguments_for s.machine a 0 (get_state_arguments s.machine)) >>= (λ t. ends_body (member (value_in t)))
 
-abbrev pub read_state : Scope → About → Acting ℕ
-read_state s a = state_by s a s.machine.now.get_state
+abbrev pub read_state : Reading → About → Acting ℕ
+read_state s a = state_by s a s.machine.get_state
 
-abbrev pub state_set : Scope → About → ℕ → Option ℕ → Acting (Unit {0})
+abbrev pub state_set : Reading → About → ℕ → Option ℕ → Acting (Unit {0})
 state_set s a next None = done (act.SetState (line_of a.address) next)
 state_set s a next (Some function) =
-    calls_of s function (arguments_for s.machine.now a next (set_state_arguments s.machine.now)) >> ends_body tt
+    calls_of s function (arguments_for s.machine a next (set_state_arguments s.machine)) >> ends_body tt
 
-abbrev pub permission_set : Scope → About → ℕ → Option ℕ → Acting (Unit {0})
+abbrev pub permission_set : Reading → About → ℕ → Option ℕ → Acting (Unit {0})
 permission_set s a next None = ends_body tt
 permission_set s a next (Some function) =
-    calls_of s function (arguments_for s.machine.now a next (set_permission_arguments s.machine.now)) >> ends_body tt
+    calls_of s function (arguments_for s.machine a next (set_permission_arguments s.machine)) >> ends_body tt
 
 -- Stalls.
 
@@ -97,7 +97,7 @@ is_stall_among actions (Some stall) = is_among stall actions
 abbrev pub about_left : About → Frame → About
 about_left a frame = unwrap_or frame.about a
 
-abbrev pub action_done : Scope → About → ℕ → Acting About
+abbrev pub action_done : Reading → About → ℕ → Acting About
 action_done s a number =
     found own.Reference (body_of_action s number)
     >>= (λ (b : Block). all_done s (calls_of s) b.statements (record { names = []; about = Some a })
@@ -108,31 +108,31 @@ action_done s a number =
 abbrev pub waiting : Acting Tried
 waiting = done act.Again >> ends_body Waits
 
-abbrev pub fired : Scope → Trigger → ℕ → ℕ → TransitionSymbol → Acting Tried
+abbrev pub fired : Reading → Trigger → ℕ → ℕ → TransitionSymbol → Acting Tried
 fired s t state next row =
     each (action_done s) (about t) row.actions
-    >>= (λ a. state_set s a next s.machine.now.set_state
-    >> (permission_set s a next s.machine.now.set_permission
+    >>= (λ a. state_set s a next s.machine.set_state
+    >> (permission_set s a next s.machine.set_permission
     >> ends_body (Fires (record { address = t.address; state = state; event = t.event; next = next }))))
 
 -- of a written transition
-abbrev pub row_tried : Scope → Trigger → ℕ → TransitionSymbol → Acting Tried
+abbrev pub row_tried : Reading → Trigger → ℕ → TransitionSymbol → Acting Tried
 row_tried s t state row =
-    is_short (need s row.actions) 0 s.machine.now.tables
+    is_short (need s row.actions) 0 s.machine.tables
     >>= (λ short. either short waiting
-    (either (is_stall_among row.actions s.machine.now.stall) waiting (fired s t state (unwrap_or row.next state) row)))
+    (either (is_stall_among row.actions s.machine.stall) waiting (fired s t state (unwrap_or row.next state) row)))
 
 abbrev pub known : Trigger → Option ℕ → Known
 known t state = record { address = Some t.address; state = state; event = Some t.event }
 
 -- by the written transition for the state, if there is one
-abbrev pub found_tried : Scope → Trigger → ℕ → Option TransitionSymbol → Trying Tried
+abbrev pub found_tried : Reading → Trigger → ℕ → Option TransitionSymbol → Trying Tried
 found_tried s t state None =
     looks_up (record { address = t.address; state = state; event = t.event; is_written = false }) (stops (stop_at (known t (Some state)) Invalid))
 found_tried s t state (Some row) =
     looks_up (record { address = t.address; state = state; event = t.event; is_written = true }) (with_known (known t (Some state)) (row_tried s t state row))
 
-abbrev pub try : Scope → Trigger → Trying Tried
+abbrev pub try : Reading → Trigger → Trying Tried
 try s t =
     then_try (with_known (known t None) (read_state s (about t)))
-    (λ state. found_tried s t state (find (is_for state t.event) s.machine.now.transitions))
+    (λ state. found_tried s t state (find (is_for state t.event) s.machine.transitions))

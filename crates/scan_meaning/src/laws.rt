@@ -2,19 +2,19 @@ ghost use Rattle.std.specs.Prelude.{◌≡◌, ◌⊎◌, ℕ};
 ghost use Rattle.ctl_face.specs.Again.{again};
 ghost use Rattle.ctl_face.specs.LocalView.{LocalView};
 ghost use Rattle.run_journal.specs.declared.entry.StopAt.{StopAt as StopRecord};
-ghost use Rattle.body_meaning.specs.declared.scope.Scope.{Scope as ScopeRecord};
+ghost use Rattle.body_meaning.specs.Reading.{Reading};
 ghost use Rattle.scan_meaning.specs.declared.round.RoundEnd.TheVariants.{Full, Idle, Stop};
 ghost use Rattle.scan_meaning.specs.Scan.{scan};
 
 /// A scan that stops leaves the controller as it was, and so does one that is full. One that fires no transition leaves it as it was, or
 /// so that it wakes in the next cycle.
 pub fn scans_that_fire_nothing_change_nothing()
-    ensures stopped { (s : ScopeRecord) (limit fired : ℕ) (v : LocalView)
+    ensures stopped { (s : Reading) (limit fired : ℕ) (v : LocalView)
         (at : StopRecord)
         → (scan s limit fired v).end ≡ Stop at → (scan s limit fired v).view ≡ v }
-    ensures full { (s : ScopeRecord) (limit fired : ℕ) (v : LocalView)
+    ensures full { (s : Reading) (limit fired : ℕ) (v : LocalView)
         → (scan s limit fired v).end ≡ Full → (scan s limit fired v).view ≡ v }
-    ensures idle { (s : ScopeRecord) (limit fired : ℕ) (v : LocalView)
+    ensures idle { (s : Reading) (limit fired : ℕ) (v : LocalView)
         → (scan s limit fired v).end ≡ Idle
         → ((scan s limit fired v).view ≡ v) ⊎ ((scan s limit fired v).view ≡ again v) }
 {}

@@ -4,15 +4,16 @@ use Rattle.acts.specs.DoesAs.{DoesAs, itself}
 use Rattle.acts.proofs.Walk.{found_does}
 use Rattle.body_meaning.specs.declared.calls.Numbered.{Numbered}
 use Rattle.body_meaning.specs.Calls.{called_on, method_call, thing_built, with_receiver}
+use Rattle.body_meaning.specs.Reading.{reading}
 use Rattle.body_calls.proofs.built.method_call.Goals as goal
 
 pub returns : goal.returns
 unfolding method_call
 returns g c =
     let m = c.args.s.machine.now in
-    found_does itself (λ (n : Numbered). thing_built c.args.s n.number n.on (with_receiver c.args.receiver c.args.arguments))
+    found_does itself (λ (n : Numbered). thing_built (reading c.args.s) n.number n.on (with_receiver c.args.receiver c.args.arguments))
     (called_on m c.args.receiver c.args.name.now (length c.args.arguments)) own.Reference
     c.in-Some.call c.thing_built.result _ _
     (sym (c.called_on.ensures ∙ ap (λ k. called_on m c.args.receiver c.args.name.now k) c.len.ensures) ∙ c.in-Some.is)
-    (subst (λ vs. DoesAs itself (thing_built c.args.s c.in-Some.call.number c.in-Some.call.on vs) c.thing_built.result (g.T.Local.view c.args.local.now) (g.T.Local.view c.thing_built.new.local))
+    (subst (λ vs. DoesAs itself (thing_built (reading c.args.s) c.in-Some.call.number c.in-Some.call.on vs) c.thing_built.result (g.T.Local.view c.args.local.now) (g.T.Local.view c.thing_built.new.local))
     (c.deref.ensures ∙ c.in_ok-all.ensures) c.thing_built.ensures)
