@@ -120,14 +120,6 @@ Told o v limit = record {
 nothing_tried : (has_row : ℕ → ℕ → Bool) (o : Outcome Ctl Message) (t : RunTried) → IsRefusedTry has_row (record { outcome = o; tried = [] }) t → ⊥
 nothing_tried has_row o t refused = omega (arith, refused.tried.1)
 
-rests_is_scan : (v : LocalView) (limit : ℕ) (has_row : ℕ → ℕ → Bool) → IsScanOf v limit has_row (record { outcome = Idle v.ctl; tried = [] })
-rests_is_scan v limit has_row = record {
-  fires = λ note acts copies after is. absurd (cc is);
-  idles = λ after is. inl (cc is);
-  caused = λ at is invalid. absurd (cc is);
-  comes = λ t refused. absurd (nothing_tried has_row (Idle v.ctl) t refused);
-}
-
 full_is_scan : (v : LocalView) (limit : ℕ) (has_row : ℕ → ℕ → Bool) → IsScanOf v limit has_row (record { outcome = Full; tried = [] })
 full_is_scan v limit has_row = record {
   fires = λ note acts copies after is. absurd (cc is);
@@ -156,6 +148,14 @@ try_answers v limit Waits w few left = record {
   fired = λ note acts copies after is. absurd (cc is);
   rests = λ after is. let same : (left_idle v w).ctl ≡ after = cc is in subst (Rests v) same (idle_rests v w w.acts.again refl);
   goes = λ at is. cc is;
+}
+
+waiting_is_scan : (v : LocalView) (limit : ℕ) (has_row : ℕ → ℕ → Bool) → IsScanOf v limit has_row (record { outcome = outcome_of (by_try v Waits v); tried = [] })
+waiting_is_scan v limit has_row = record {
+  fires = λ note acts copies after is. absurd (cc is);
+  idles = λ after is. let same : (left_idle v v).ctl ≡ after = cc is in subst (Rests v) same (idle_rests v v v.acts.again refl);
+  caused = λ at is invalid. absurd (cc is);
+  comes = λ t refused. absurd (nothing_tried has_row (outcome_of (by_try v Waits v)) t refused);
 }
 
 module _ (s : Reading) (v : LocalView) (limit : ℕ) (few : v.ctl.fired < limit) where
@@ -217,8 +217,8 @@ full_or_ran s v limit false is = ran_is_scan s v limit (leb-false limit v.ctl.fi
 
 told_is_scan : (symbols : Symbols) (machine : ℕ) (m : Option MachineSymbols) (tree : Option Machine) (v : LocalView) (limit : ℕ)
     → IsScanOf v limit (has_row_in m) (Told (option_and_then (λ found. option_map (reading_with symbols machine found) tree) m) v limit)
-told_is_scan symbols machine None tree v limit = rests_is_scan v limit (has_row_in None)
-told_is_scan symbols machine (Some m) None v limit = rests_is_scan v limit (has_row_in (Some m))
+told_is_scan symbols machine None tree v limit = waiting_is_scan v limit (has_row_in None)
+told_is_scan symbols machine (Some m) None v limit = waiting_is_scan v limit (has_row_in (Some m))
 told_is_scan symbols machine (Some m) (Some tree) v limit = full_or_ran (reading_with symbols machine m tree) v limit (nat_le limit v.ctl.fired) refl
 
 pub is_meaning : (trees : List Tree) → IsMeaning (meaning_of trees)

@@ -1,6 +1,6 @@
 -- What a protocol means, as runs need it: what a scan of a controller answers, by the number of its machine, and which pairs of a
 -- state and an event it has looked up among the written transitions; and for which pairs one is written. It is read off the trees
--- of the protocol and the symbols that these declare. A machine that isn't there has no ports: nothing fires in a scan of it.
+-- of the protocol and the symbols that these declare. A machine that isn't there has no ports, so a scan of it waits.
 use Rattle.std.specs.Prelude.{ℕ, Bool, false, Option, None, Some, List, [], map, slice_get}
 use Rattle.std.specs.List.{list_any}
 use Rattle.slicc_ast.specs.declared.tree.item.Tree.{Tree}
@@ -14,7 +14,8 @@ use Rattle.slicc_plan.specs.SymbolsOf.{symbols_of}
 use Rattle.protocol_runs.specs.Meaning.{Meaning, acts_told}
 use Rattle.scan_meaning.specs.declared.round.RoundEnd.{RoundEnd}
 use Rattle.scan_meaning.specs.declared.round.RoundEnd.TheVariants as round
-use Rattle.scan_meaning.specs.Scan.{Scanned, pairs_tried, scan}
+use Rattle.scan_meaning.specs.declared.tried.Tried.TheVariants.{Waits}
+use Rattle.scan_meaning.specs.Scan.{Scanned, by_try, pairs_tried, scan}
 use Rattle.scan_meaning.specs.Transition.{is_for}
 use Rattle.scan_meaning.specs.Trying.{Pair}
 use Rattle.protocol_meaning.specs.Readings.{reading_of}
@@ -22,7 +23,7 @@ use Rattle.protocol_meaning.specs.Readings.{reading_of}
 -- Scans of a machine, of a controller that has fired this many transitions in this cycle and may fire so many.
 
 abbrev pub scan_by : Option Reading → (limit fired_before : ℕ) → LocalView → Scanned
-scan_by None limit fired_before v = record { end = round.Idle; view = v }
+scan_by None limit fired_before v = by_try v Waits v
 scan_by (Some s) limit fired_before v = scan s limit fired_before v
 
 unfoldable pub scan_of : List Tree → (machine limit fired_before : ℕ) → LocalView → Scanned
