@@ -72,7 +72,7 @@ module _ (s : Reading) where
   try_is_exact : (t : Trigger) → IsExact has_row (try s t)
   try_is_exact t =
       then_is_exact has_row (λ state. found_tried s t state (find (is_for state t.event) s.machine.transitions))
-      (λ state. found_is_exact t state _ refl) (with_known (known t None) (read_state s (about t))) (body_is_exact has_row (known t None) _)
+      (λ state. found_is_exact t state (find (is_for state t.event) s.machine.transitions) refl) (with_known (known t None) (read_state s (about t))) (body_is_exact has_row (known t None) (read_state s (about t)))
 
   after_is_exact : (flow : Flow) → IsExact has_row (after_port s flow)
   after_is_exact WentOn = tt
@@ -81,7 +81,7 @@ module _ (s : Reading) where
 
   port_is_exact : (p : PortSymbol) → IsExact has_row (port_tried s p)
   port_is_exact p =
-      then_is_exact has_row (after_port s) after_is_exact (with_known nothing_known (port_done s p)) (body_is_exact has_row nothing_known _)
+      then_is_exact has_row (after_port s) after_is_exact (with_known nothing_known (port_done s p)) (body_is_exact has_row nothing_known (port_done s p))
 
   next_is_exact : (next : Trying Tried) → IsExact has_row next → (t : Tried) → IsExact has_row (unless_fired next t)
   next_is_exact next exact (Fires note) = tt
@@ -158,9 +158,12 @@ waiting_is_scan v limit has_row = record {
   comes = λ t refused. absurd (nothing_tried has_row (outcome_of (by_try v Waits v)) t refused);
 }
 
+abbrev body_of : Reading → Trying Tried
+body_of s = ports_tried s s.machine.in_ports
+
 module _ (s : Reading) (v : LocalView) (limit : ℕ) (few : v.ctl.fired < limit) where
   abbrev body : Trying Tried
-  body = ports_tried s s.machine.in_ports
+  body = body_of s
 
   abbrev pairs : List Pair
   pairs = pairs_of body v
@@ -209,8 +212,8 @@ module _ (s : Reading) (v : LocalView) (limit : ℕ) (few : v.ctl.fired < limit)
 
 full_or_ran : (s : Reading) (v : LocalView) (limit : ℕ) (b : Bool) → nat_le limit v.ctl.fired ≡ b
     → IsScanOf v limit (has_row s) (record {
-      outcome = outcome_of (cond b (record { end = round.Full; view = v }) (by_outcome v (run_scan (body s v limit) v)));
-      tried = map tried (cond b [] (pairs_of (body s v limit) v));
+      outcome = outcome_of (cond b (record { end = round.Full; view = v }) (by_outcome v (run_scan (body_of s) v)));
+      tried = map tried (cond b [] (pairs_of (body_of s) v));
     })
 full_or_ran s v limit true is = full_is_scan v limit (has_row s)
 full_or_ran s v limit false is = ran_is_scan s v limit (leb-false limit v.ctl.fired is) _ refl

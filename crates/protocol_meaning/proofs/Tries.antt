@@ -97,10 +97,13 @@ module _ (has_row : ℕ → ℕ → Bool) where
     pub no_row : has_row pair.state pair.event ≡ false
     pub at_is : at ≡ invalid_at (tried pair)
 
-  module _ {A : Type 0} where
-    caused_later : (q : Pair) (pairs : List Pair) (at : StopAt) → Cause pairs at → Cause (q ∷ pairs) at
-    caused_later q pairs at c = record { pair = c.pair; among = Contains-cons_there q c.pair pairs c.among; no_row = c.no_row; at_is = c.at_is }
+  caused_later : (q : Pair) (pairs : List Pair) (at : StopAt) → Cause pairs at → Cause (q ∷ pairs) at
+  caused_later q pairs at c = record { pair = c.pair; among = Contains-cons_there q c.pair pairs c.among; no_row = c.no_row; at_is = c.at_is }
 
+  none_among : (q : Pair) → Contains [] q → ⊥
+  none_among q (k, within, is) = omega (arith, within)
+
+  module _ {A : Type 0} where
     act_caused : (k : Known) (a : Act) (v : LocalView) (more : answer a → Trying A) (at : StopAt) (r : Result (Done (answer a)) Fault)
         → does a v ≡ r → at.fault ≡ Invalid → ((x : answer a) (u : LocalView) → run_scan (more x) u ≡ Err at → Cause (pairs_of (more x) u) at)
         → follow_scan k r (λ x u. run_scan (more x) u) ≡ Err at → Cause (follow_pairs r (λ x u. pairs_of (more x) u)) at
@@ -127,9 +130,6 @@ module _ (has_row : ℕ → ℕ → Bool) where
         act_caused k a v more at (does a v) refl invalid (λ x u. caused (more x) u at (exact x) invalid) is
     caused (looks_up pair rest) v at exact invalid is =
         pair_caused pair.is_written pair rest v at (IsExact rest) exact.0 exact.1 (λ e. caused rest v at e invalid is) is
-
-    none_among : (q : Pair) → Contains [] q → ⊥
-    none_among q (k, within, is) = omega (arith, within)
 
     act_comes : (k : Known) (a : Act) (more : answer a → Trying A) (q : Pair) (r : Result (Done (answer a)) Fault)
         → ((x : answer a) (u : LocalView) → Contains (pairs_of (more x) u) q → run_scan (more x) u ≡ Err (invalid_at (tried q)))
