@@ -19,7 +19,6 @@ use Rattle.slicc_plan.specs.Setups.{parameter_table, range_values, setup_in, set
 use Rattle.slicc_plan.specs.SymbolsOf.{machines_from, symbols_of}
 use Rattle.slicc_plan.specs.SymbolsOfMachines.{machine_symbols, table_of_sort, table_symbol}
 use Rattle.slicc_plan.specs.Tables.{table_in, tables_of}
-use Rattle.slicc_plan.proofs.SetupParts.{tables_counted}
 use Rattle.built_in_acts.specs.declared.machines.KeptMachines.{KeptMachines}
 use Rattle.body_meaning.specs.Reading.{Reading}
 use Rattle.protocol_meaning.specs.Kept.{IsKept, KeepsRanges, kept_value}
@@ -103,6 +102,10 @@ count_at (q ∷ ranges) (suc k) r is =
     let next : 2 * suc k + 1 ≡ suc (suc (2 * k + 1)) = omega arith in
     ap (slice_get (flat_map both_values (q ∷ ranges))) next ∙ count_at ranges k r is
 
+lines_as_many : (trees : List Tree) (m : Machine) (sizes : Sizes) (n : ℕ) (ts : List TableSort) → length (tables_from trees m sizes n ts) ≡ length ts
+lines_as_many trees m sizes n [] = refl
+lines_as_many trees m sizes n (t ∷ ts) = ap suc (lines_as_many trees m sizes (n + 1) ts)
+
 module _ (trees : List Tree) (number : ℕ) (sizes : Sizes) (m : Machine) where
   abbrev kept : KeptMachines
   kept = kept_machines (length (symbols_of trees).machines) (machine_symbols trees number m)
@@ -117,7 +120,7 @@ module _ (trees : List Tree) (number : ℕ) (sizes : Sizes) (m : Machine) where
   values = parameter_table trees number m sizes
 
   lines_counted : length (machine_symbols trees number m).tables ≡ length lines
-  lines_counted = omega (arith, tables_as_symbols trees m number, tables_counted trees number sizes m, length-append lines (values ∷ []))
+  lines_counted = tables_as_symbols trees m number ∙ sym (lines_as_many trees m sizes 0 (tables_of trees m))
 
   values_there : slice_get setup.tables kept.table ≡ Some values
   values_there =

@@ -34,7 +34,7 @@ module _ {D : Type 0} (least : D → ℕ) (trees : List Tree) (t : Topology) (se
     machines = fit.machines;
     routes = fit.routes;
     cycles = few;
-    enough = subst (λ (n : ℕ). least driver ≤ n) (sym (length-map (seat_setup (symbols_of trees) (ranges_of t)) t.seats)) enough;
+    enough = subst (λ (n : ℕ). least driver ≤ n) (sym (length-map t.seats (seat_setup (symbols_of trees) (ranges_of t)))) enough;
     apart = λ i j d below within same. let less = fit.seats.ascending i j d below within in omega (arith, less, same);
     queues = All-weaker (IsSeat trees t) (λ (s : SeatSetup). IsSomeAnd (setup_of setting s.controller) (HasQueue s.queue)) seat_has_queue
         (seat_setups (symbols_of trees) t) fit.seats.each;
