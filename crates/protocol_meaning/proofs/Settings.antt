@@ -1,6 +1,5 @@
 -- What a run begins with, where its topology fits its protocol.
-use Rattle.std.proofs.Common.{◌≡◌, ◌<◌, ◌≤◌, ℕ, true, Option, None, Some, List, IsSomeAnd, length, sym, subst, arith}
-use Rattle.std.specs.Option.{option_and_then}
+use Rattle.std.proofs.Common.{◌≡◌, ◌≢◌, ◌≤◌, ℕ, true, Option, None, Some, List, [], ◌∷◌, IsSomeAnd, length, refl, sym, subst, arith}
 use Rattle.std.proofs.lemmas.List.{length-map}
 use Rattle.std.proofs.lemmas.List.Elements.{All-weaker}
 use Rattle.ruby_value.specs.declared.setup.MachineSetup.{MachineSetup}
@@ -19,6 +18,10 @@ use Rattle.protocol_meaning.specs.Setting.{setting_of}
 some_weaker : {X : Type 0} (P Q : X → Type 0) → ((x : X) → P x → Q x) → (o : Option X) → IsSomeAnd o P → IsSomeAnd o Q
 some_weaker P Q weaker None is = is
 some_weaker P Q weaker (Some x) is = weaker x is
+
+one_at_least : {X : Type 0} (xs : List X) → xs ≢ [] → 1 ≤ length xs
+one_at_least [] some = absurd (some refl)
+one_at_least (x ∷ xs) some = omega arith
 
 module _ {D : Type 0} (least : D → ℕ) (trees : List Tree) (t : Topology) (seed cycles limit : ℕ) (driver : D) (fit : FitsPlan trees t) where
   abbrev setting : Setting D
@@ -39,3 +42,6 @@ module _ {D : Type 0} (least : D → ℕ) (trees : List Tree) (t : Topology) (se
     queues = All-weaker (IsSeat trees t) (λ (s : SeatSetup). IsSomeAnd (setup_of setting s.controller) (HasQueue s.queue)) seat_has_queue
         (seat_setups (symbols_of trees) t) fit.seats.each;
   }
+
+  pub is_setting_of_one : cycles ≤ last_cycle → least driver ≤ 1 → IsSetting least setting
+  is_setting_of_one few one = let some = one_at_least t.seats fit.seats.some in is_setting few (omega (arith, one, some))

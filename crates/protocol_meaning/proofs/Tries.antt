@@ -1,7 +1,7 @@
 -- What a scan leaves and why it stops, over what it does as data: no syntax is looked at here. Where it ends, it leaves what acts
 -- leave. Where it is exact, which is so where it stops by itself at each pair that it looks up in vain and else gives no `invalid`,
 -- it stops as `invalid` exactly where it has looked up a pair for which no transition is written, and at that pair.
-use Rattle.std.proofs.Common.{◌≡◌, ◌<◌, ◌∙◌, ℕ, Bool, true, false, Option, Some, List, [], ◌∷◌, Result, Ok, Err, Contains, ⊎_elim, refl, sym, ap, subst, arith}
+use Rattle.std.proofs.Common.{◌≡◌, ◌∙◌, ℕ, Bool, true, false, List, [], ◌∷◌, Result, Ok, Err, Contains, ⊎_elim, refl, sym, ap, subst, arith}
 use Rattle.ruby_value.specs.declared.fault.Fault.{Fault}
 use Rattle.ruby_value.specs.declared.fault.Fault.TheVariants.{Invalid}
 use Rattle.ruby_value.proofs.Contained.{Contains-cons_cases, Contains-cons_here, Contains-cons_there}

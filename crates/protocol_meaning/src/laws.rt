@@ -27,10 +27,14 @@ pub fn meanings_are_lawful()
 {}
 
 /// A run of a protocol with a topology that fits it is one of which the laws of runs hold, where its bound on cycles is within that
-/// of all runs, and the driver finds the seats that it needs.
+/// of all runs, and the driver finds the seats that it needs. A driver that needs one seat finds it.
 pub fn settings_are_lawful<D: Driver>()
-    ensures { (trees : List TreeRecord) (t : TopologyRecord) (seed cycles limit : ℕ) (driver : D)
+    ensures enough { (trees : List TreeRecord) (t : TopologyRecord) (seed cycles limit : ℕ) (driver : D)
         → FitsPlan trees t → cycles ≤ last_cycle → D.least driver ≤ length t.seats
+        → IsSetting D.least (setting_of trees t seed cycles limit driver) }
+    ensures one_seat { (trees : List TreeRecord) (t : TopologyRecord) (seed cycles limit : ℕ)
+        (driver : D)
+        → FitsPlan trees t → cycles ≤ last_cycle → D.least driver ≤ 1
         → IsSetting D.least (setting_of trees t seed cycles limit driver) }
 {}
 
