@@ -2,3 +2,4 @@ pub mod Tries
 pub mod Scans
 pub mod Settings
 pub mod Kept
+pub mod Rounds

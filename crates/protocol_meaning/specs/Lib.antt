@@ -2,3 +2,4 @@ pub mod Readings
 pub mod Meaning
 pub mod Setting
 pub mod Kept
+pub mod Rounds

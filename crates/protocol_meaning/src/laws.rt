@@ -1,5 +1,5 @@
 // What holds of every protocol and of every topology that fits it. These functions do nothing: their contracts are the laws.
-ghost use Rattle.std.specs.Prelude.{◌≡◌, ◌≤◌, ℕ, List, Some, length};
+ghost use Rattle.std.specs.Prelude.{◌≡◌, ◌≤◌, ℕ, List, Ok, Some, length};
 ghost use Rattle.slicc_ast.specs.declared.tree.item.Tree.{Tree as TreeRecord};
 ghost use Rattle.ruby_value.specs.declared.setup.MachineSetup.{MachineSetup as SetupRecord};
 ghost use Rattle.ruby_value.specs.declared.setup.Sizes.{Sizes as SizesRecord};
@@ -7,13 +7,17 @@ ghost use Rattle.slicc_plan.specs.Declarations.{machines_of};
 ghost use Rattle.slicc_plan.specs.Setups.{setup_of};
 ghost use Rattle.ruby_topology.specs.declared.topology.Topology.{Topology as TopologyRecord};
 ghost use Rattle.ctl_face.specs.Fits.{last_cycle};
+ghost use Rattle.ctl_face.specs.LocalView.{LocalView};
 ghost use Rattle.body_meaning.specs.Reading.{Reading};
 ghost use Rattle.topology_fit.specs.FitsPlan.{FitsPlan};
 ghost use Rattle.protocol_runs.specs.IsSetting.{IsSetting};
 ghost use Rattle.protocol_runs.specs.Meaning.{IsMeaning};
+ghost use Rattle.scan_meaning.specs.declared.round.RoundEnd.{RoundEnd as RoundRecord};
+ghost use Rattle.scan_meaning.specs.Round.{IsRoundOf};
 ghost use Rattle.protocol_meaning.specs.Kept.{KeepsRanges};
-ghost use Rattle.protocol_meaning.specs.Meaning.{meaning_of};
+ghost use Rattle.protocol_meaning.specs.Meaning.{meaning_of, scan_of};
 ghost use Rattle.protocol_meaning.specs.Readings.{reading_of};
+ghost use Rattle.protocol_meaning.specs.Rounds.{outcome_told};
 ghost use Rattle.protocol_meaning.specs.Setting.{setting_of};
 
 use sequencer::Driver;
@@ -24,6 +28,15 @@ use sequencer::Driver;
 /// the trees.
 pub fn meanings_are_lawful()
     ensures { (trees : List TreeRecord) → IsMeaning (meaning_of trees) }
+{}
+
+/// What serves a protocol answers by a round what a run has of the scan: where the round began in this local, with the transitions
+/// that its controller has fired, and left that one.
+pub fn rounds_are_scans()
+    ensures { (trees : List TreeRecord) (machine limit : ℕ) (before after : LocalView)
+        (end : RoundRecord)
+        → IsRoundOf (scan_of trees machine limit before.ctl.fired before) (Ok end) after before
+        → ((meaning_of trees).scan machine before limit).outcome ≡ outcome_told end after before }
 {}
 
 /// A run of a protocol with a topology that fits it is one of which the laws of runs hold, where its bound on cycles is within that

@@ -5,5 +5,7 @@
 mod laws;
 mod protocol;
 
-pub use laws::{calls_find_the_machines, meanings_are_lawful, settings_are_lawful};
+pub use laws::{
+    calls_find_the_machines, meanings_are_lawful, rounds_are_scans, settings_are_lawful,
+};
 pub use protocol::Protocol;
