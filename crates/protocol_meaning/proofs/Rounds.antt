@@ -6,9 +6,9 @@ use Rattle.scan_meaning.specs.declared.round.RoundEnd.TheVariants as round
 use Rattle.scan_meaning.specs.Round.{IsRoundOf}
 use Rattle.scan_meaning.specs.Scan.{Scanned}
 use Rattle.protocol_meaning.specs.Meaning.{outcome_by, outcome_of}
-use Rattle.protocol_meaning.specs.Rounds.{outcome_told}
+use Rattle.protocol_meaning.specs.Rounds.{outcome_of_round}
 
-pub round_told : (s : Scanned) (end : RoundEnd) (after before : LocalView) → IsRoundOf s (Ok end) after before → outcome_of s ≡ outcome_told end after before
+pub round_told : (s : Scanned) (end : RoundEnd) (after before : LocalView) → IsRoundOf s (Ok end) after before → outcome_of s ≡ outcome_of_round end after before
 round_told s (round.Fired note) after before is = ap₂ outcome_by is.0 is.1
 round_told s round.Idle after before is = ap₂ outcome_by is.0 is.1
 round_told s round.Full after before is = ap (λ (end : RoundEnd). outcome_by end s.view) is

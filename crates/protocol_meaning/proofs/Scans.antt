@@ -33,7 +33,7 @@ use Rattle.scan_meaning.specs.declared.tried.Tried.TheVariants.{Fires, Waits}
 use Rattle.scan_meaning.specs.Scan.{after_port, by_outcome, by_try, left_idle, port_done, port_tried, ports_tried, unless_fired}
 use Rattle.scan_meaning.specs.Transition.{about, found_tried, is_for, known, read_state, row_tried, try}
 use Rattle.scan_meaning.specs.Trying.{Pair, Trying, nothing_known, pairs_of, run_scan, with_known}
-use Rattle.protocol_meaning.specs.Meaning.{has_row_in, lookups_by, lookups_of, meaning_of, outcome_of, scan_by, scan_of, tried}
+use Rattle.protocol_meaning.specs.Meaning.{has_row_in, lookups_by, lookups_of, meaning_of, outcome_of, scan_by, scan_of, tried_pair}
 use Rattle.protocol_meaning.specs.Readings.{reading_with}
 use Rattle.protocol_meaning.proofs.Tries.{Cause, IsExact, body_is_exact, caused, comes, scan_leaves, then_is_exact}
 
@@ -94,26 +94,26 @@ module _ (s : Reading) where
 
 -- Pairs, as runs have them.
 
-pub told_pair : (pairs : List Pair) (q : Pair) → Contains pairs q → Contains (map tried pairs) (tried q)
+pub told_pair : (pairs : List Pair) (q : Pair) → Contains pairs q → Contains (map tried_pair pairs) (tried_pair q)
 told_pair [] q (k, within, is) = absurd (omega (arith, within))
 told_pair (p ∷ ps) q has =
     ⊎_elim
-    (λ (same : p ≡ q). subst (λ (t : RunTried). Contains (map tried (p ∷ ps)) t) (ap tried same) (Contains-cons_here (tried p) (map tried ps)))
-    (λ there. Contains-cons_there (tried p) (tried q) (map tried ps) (told_pair ps q there)) (Contains-cons_cases p q ps has)
+    (λ (same : p ≡ q). subst (λ (t : RunTried). Contains (map tried_pair (p ∷ ps)) t) (ap tried_pair same) (Contains-cons_here (tried_pair p) (map tried_pair ps)))
+    (λ there. Contains-cons_there (tried_pair p) (tried_pair q) (map tried_pair ps) (told_pair ps q there)) (Contains-cons_cases p q ps has)
 
-pub pair_told : (pairs : List Pair) (t : RunTried) → Contains (map tried pairs) t → (q : Pair) × Contains pairs q × (tried q ≡ t)
+pub pair_told : (pairs : List Pair) (t : RunTried) → Contains (map tried_pair pairs) t → (q : Pair) × Contains pairs q × (tried_pair q ≡ t)
 pair_told [] t (k, within, is) = absurd (omega (arith, within))
 pair_told (p ∷ ps) t has =
-    ⊎_elim (λ (same : tried p ≡ t). (p, Contains-cons_here p ps, same))
+    ⊎_elim (λ (same : tried_pair p ≡ t). (p, Contains-cons_here p ps, same))
     (λ there. let found = pair_told ps t there in (found.0, Contains-cons_there p found.0 ps found.1, found.2))
-    (Contains-cons_cases (tried p) t (map tried ps) has)
+    (Contains-cons_cases (tried_pair p) t (map tried_pair ps) has)
 
 -- What a scan answers.
 
 abbrev Told : Option Reading → LocalView → ℕ → Scan Ctl Message
 Told o v limit = record {
   outcome = outcome_of (scan_by o limit v.ctl.fired v);
-  tried = map tried (lookups_by o limit v.ctl.fired v);
+  tried = map tried_pair (lookups_by o limit v.ctl.fired v);
 }
 
 nothing_tried : (has_row : ℕ → ℕ → Bool) (o : Outcome Ctl Message) (t : RunTried) → IsRefusedTry has_row (record { outcome = o; tried = [] }) t → ⊥
@@ -168,10 +168,10 @@ module _ (s : Reading) (v : LocalView) (limit : ℕ) (few : v.ctl.fired < limit)
   pairs = pairs_of body v
 
   abbrev AsScan : Result (Done Tried) StopAt → Type 0
-  AsScan r = IsScanOf v limit (has_row s) (record { outcome = outcome_of (by_outcome v r); tried = map tried pairs })
+  AsScan r = IsScanOf v limit (has_row s) (record { outcome = outcome_of (by_outcome v r); tried = map tried_pair pairs })
 
   -- it stops at each pair that it has tried in vain
-  refused_stops : (r : Result (Done Tried) StopAt) (t : RunTried) → run_scan body v ≡ r → Contains (map tried pairs) t → has_row s t.state t.event ≡ false
+  refused_stops : (r : Result (Done Tried) StopAt) (t : RunTried) → run_scan body v ≡ r → Contains (map tried_pair pairs) t → has_row s t.state t.event ≡ false
       → r ≡ Err (invalid_at t)
   refused_stops r t ran among no_row =
       let told = pair_told pairs t among in
@@ -190,8 +190,8 @@ module _ (s : Reading) (v : LocalView) (limit : ℕ) (few : v.ctl.fired < limit)
       }
 
   caused_by : (at : StopAt) → Cause (has_row s) pairs at → (o : Outcome Ctl Message)
-      → (t : RunTried) × (at ≡ invalid_at t) × IsRefusedTry (has_row s) (record { outcome = o; tried = map tried pairs }) t
-  caused_by at c o = (tried c.pair, c.at_is, record { tried = told_pair pairs c.pair c.among; no_row = c.no_row })
+      → (t : RunTried) × (at ≡ invalid_at t) × IsRefusedTry (has_row s) (record { outcome = o; tried = map tried_pair pairs }) t
+  caused_by at c o = (tried_pair c.pair, c.at_is, record { tried = told_pair pairs c.pair c.among; no_row = c.no_row })
 
   stopped_is_scan : (at : StopAt) → run_scan body v ≡ Err at → AsScan (Err at)
   stopped_is_scan at ran = record {
@@ -212,7 +212,7 @@ module _ (s : Reading) (v : LocalView) (limit : ℕ) (few : v.ctl.fired < limit)
 full_or_ran : (s : Reading) (v : LocalView) (limit : ℕ) (b : Bool) → nat_le limit v.ctl.fired ≡ b
     → IsScanOf v limit (has_row s) (record {
       outcome = outcome_of (cond b (record { end = round.Full; view = v }) (by_outcome v (run_scan (body_of s) v)));
-      tried = map tried (cond b [] (pairs_of (body_of s) v));
+      tried = map tried_pair (cond b [] (pairs_of (body_of s) v));
     })
 full_or_ran s v limit true is = full_is_scan v limit (has_row s)
 full_or_ran s v limit false is = ran_is_scan s v limit (leb-false limit v.ctl.fired is) _ refl

@@ -18,7 +18,7 @@ use Rattle.act_laws.proofs.Instances.{never_as_invalid}
 use Rattle.act_laws.proofs.Left.{left_by_act, left_here}
 use Rattle.scan_meaning.specs.declared.tried.Known.{Known}
 use Rattle.scan_meaning.specs.Trying.{Pair, Trying, ends, stops, acts, looks_up, follow_pairs, follow_scan, pairs_of, run_scan, stop_at, then_try, with_known}
-use Rattle.protocol_meaning.specs.Meaning.{tried}
+use Rattle.protocol_meaning.specs.Meaning.{tried_pair}
 
 -- What is left.
 
@@ -61,7 +61,7 @@ module _ (has_row : ℕ → ℕ → Bool) where
   -- after a pair that is written so it goes on as `exact` says, and after another it stops there
   abbrev pub GoesOn : {A : Type 0} → Bool → Pair → Trying A → Type 0 → Type 0
   GoesOn true pair rest exact = exact
-  GoesOn false pair rest exact = rest ≡ stops (invalid_at (tried pair))
+  GoesOn false pair rest exact = rest ≡ stops (invalid_at (tried_pair pair))
 
   abbrev pub IsExact : {A : Type 0} → Trying A → Type 0
   IsExact (ends x) = Unit {0}
@@ -95,7 +95,7 @@ module _ (has_row : ℕ → ℕ → Bool) where
     pub pair : Pair
     pub among : Contains pairs pair
     pub no_row : has_row pair.state pair.event ≡ false
-    pub at_is : at ≡ invalid_at (tried pair)
+    pub at_is : at ≡ invalid_at (tried_pair pair)
 
   caused_later : (q : Pair) (pairs : List Pair) (at : StopAt) → Cause pairs at → Cause (q ∷ pairs) at
   caused_later q pairs at c = record { pair = c.pair; among = Contains-cons_there q c.pair pairs c.among; no_row = c.no_row; at_is = c.at_is }
@@ -117,8 +117,8 @@ module _ (has_row : ℕ → ℕ → Bool) where
     unfolding run_scan
     pair_caused true pair rest v at exact row on go is = caused_later pair (pairs_of rest v) at (go on)
     pair_caused false pair rest v at exact row on go is =
-        let here : run_scan rest v ≡ Err (invalid_at (tried pair)) = ap (λ (r : Trying A). run_scan r v) on in
-        let same : ◌≡◌ {A = Result (Done A) StopAt} (Err at) (Err (invalid_at (tried pair))) = sym is ∙ here in
+        let here : run_scan rest v ≡ Err (invalid_at (tried_pair pair)) = ap (λ (r : Trying A). run_scan r v) on in
+        let same : ◌≡◌ {A = Result (Done A) StopAt} (Err at) (Err (invalid_at (tried_pair pair))) = sym is ∙ here in
         record { pair = pair; among = Contains-cons_here pair (pairs_of rest v); no_row = row; at_is = cc same }
 
     pub caused : (p : Trying A) (v : LocalView) (at : StopAt) → IsExact p → at.fault ≡ Invalid → run_scan p v ≡ Err at → Cause (pairs_of p v) at
@@ -132,14 +132,14 @@ module _ (has_row : ℕ → ℕ → Bool) where
         pair_caused pair.is_written pair rest v at (IsExact rest) exact.0 exact.1 (λ e. caused rest v at e invalid is) is
 
     act_comes : (k : Known) (a : Act) (more : answer a → Trying A) (q : Pair) (r : Result (Done (answer a)) Fault)
-        → ((x : answer a) (u : LocalView) → Contains (pairs_of (more x) u) q → run_scan (more x) u ≡ Err (invalid_at (tried q)))
-        → Contains (follow_pairs r (λ x u. pairs_of (more x) u)) q → follow_scan k r (λ x u. run_scan (more x) u) ≡ Err (invalid_at (tried q))
+        → ((x : answer a) (u : LocalView) → Contains (pairs_of (more x) u) q → run_scan (more x) u ≡ Err (invalid_at (tried_pair q)))
+        → Contains (follow_pairs r (λ x u. pairs_of (more x) u)) q → follow_scan k r (λ x u. run_scan (more x) u) ≡ Err (invalid_at (tried_pair q))
     act_comes k a more q (Ok e) rest among = rest e.value e.view among
     act_comes k a more q (Err f) rest among = absurd (none_among q among)
 
     pair_comes : (b : Bool) (pair : Pair) (rest : Trying A) (v : LocalView) (q : Pair) (exact : Type 0) → has_row pair.state pair.event ≡ b
-        → GoesOn b pair rest exact → (exact → Contains (pairs_of rest v) q → run_scan rest v ≡ Err (invalid_at (tried q)))
-        → Contains (pair ∷ pairs_of rest v) q → has_row q.state q.event ≡ false → run_scan rest v ≡ Err (invalid_at (tried q))
+        → GoesOn b pair rest exact → (exact → Contains (pairs_of rest v) q → run_scan rest v ≡ Err (invalid_at (tried_pair q)))
+        → Contains (pair ∷ pairs_of rest v) q → has_row q.state q.event ≡ false → run_scan rest v ≡ Err (invalid_at (tried_pair q))
     unfolding run_scan pairs_of
     pair_comes true pair rest v q exact row on go among no_row =
         ⊎_elim
@@ -148,14 +148,14 @@ module _ (has_row : ℕ → ℕ → Bool) where
         (Contains-cons_cases pair q (pairs_of rest v) among)
     pair_comes false pair rest v q exact row on go among no_row =
         let none : pairs_of rest v ≡ [] = ap (λ (r : Trying A). pairs_of r v) on in
-        let here : run_scan rest v ≡ Err (invalid_at (tried pair)) = ap (λ (r : Trying A). run_scan r v) on in
+        let here : run_scan rest v ≡ Err (invalid_at (tried_pair pair)) = ap (λ (r : Trying A). run_scan r v) on in
         ⊎_elim
-        (λ (same : pair ≡ q). here ∙ ap (λ (p : Pair). Err (invalid_at (tried p))) same)
+        (λ (same : pair ≡ q). here ∙ ap (λ (p : Pair). Err (invalid_at (tried_pair p))) same)
         (λ there. absurd (none_among q (subst (λ (ps : List Pair). Contains ps q) none there)))
         (Contains-cons_cases pair q (pairs_of rest v) among)
 
     pub comes : (p : Trying A) (v : LocalView) (q : Pair) → IsExact p → Contains (pairs_of p v) q → has_row q.state q.event ≡ false
-        → run_scan p v ≡ Err (invalid_at (tried q))
+        → run_scan p v ≡ Err (invalid_at (tried_pair q))
     unfolding run_scan pairs_of
     comes (ends x) v q exact among no_row = absurd (none_among q among)
     comes (stops at) v q exact among no_row = absurd (none_among q among)

@@ -1,5 +1,5 @@
 -- What built-in calls take for granted of what a machine is to its controllers: the table in which they look for the controllers of
--- machines is the last one, that of its values, and there each machine's range stands where they look for it.
+-- machines is the last one, that of its values, and each machine's range is at the place where they look for it.
 use Rattle.std.specs.Prelude.{ℕ, ◌≡◌, ◌+◌, ◌*◌, IfSome, Option, Some, List, length, pos, slice_get}
 use Rattle.std.specs.Option.{option_and_then}
 use Rattle.ruby_value.specs.declared.setup.MachineSetup.{MachineSetup}

@@ -20,7 +20,7 @@ use Rattle.scan_meaning.specs.Transition.{is_for}
 use Rattle.scan_meaning.specs.Trying.{Pair}
 use Rattle.protocol_meaning.specs.Readings.{reading_of}
 
--- Scans of a machine, of a controller that has fired this many transitions in this cycle and may fire so many.
+-- Scans of a controller that has fired `fired_before` transitions in this cycle and may fire `limit`.
 
 abbrev pub scan_by : Option Reading → (limit fired_before : ℕ) → LocalView → Scanned
 scan_by None limit fired_before v = by_try v Waits v
@@ -36,7 +36,7 @@ lookups_by (Some s) limit fired_before v = pairs_tried s limit fired_before v
 unfoldable pub lookups_of : List Tree → (machine limit fired_before : ℕ) → LocalView → List Pair
 lookups_of trees machine limit fired_before v = lookups_by (reading_of trees machine) limit fired_before v
 
--- The same, as runs have it: what was done to messages is told of a scan that fires.
+-- The same, as runs have it: with what was done to messages, where a transition has fired.
 
 abbrev pub outcome_by : RoundEnd → LocalView → Outcome Ctl Message
 outcome_by (round.Fired note) w = Fired note (acts_told w.acts) w.acts.posted w.ctl
@@ -47,8 +47,8 @@ outcome_by (round.Stop at) w = Stop at
 abbrev pub outcome_of : Scanned → Outcome Ctl Message
 outcome_of s = outcome_by s.end s.view
 
-abbrev pub tried : Pair → Tried
-tried p = record { address = p.address; state = p.state; event = p.event }
+abbrev pub tried_pair : Pair → Tried
+tried_pair p = record { address = p.address; state = p.state; event = p.event }
 
 abbrev pub has_row_in : Option MachineSymbols → (state event : ℕ) → Bool
 has_row_in None state event = false
@@ -57,7 +57,7 @@ has_row_in (Some m) state event = list_any (is_for state event) m.transitions
 abbrev pub run_scan_of : List Tree → (machine : ℕ) → LocalView → (limit : ℕ) → Scan Ctl Message
 run_scan_of trees machine v limit = record {
   outcome = outcome_of (scan_of trees machine limit v.ctl.fired v);
-  tried = map tried (lookups_of trees machine limit v.ctl.fired v);
+  tried = map tried_pair (lookups_of trees machine limit v.ctl.fired v);
 }
 
 abbrev pub meaning_of : List Tree → Meaning

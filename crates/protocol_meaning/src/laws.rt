@@ -17,7 +17,7 @@ ghost use Rattle.scan_meaning.specs.Round.{IsRoundOf};
 ghost use Rattle.protocol_meaning.specs.Kept.{KeepsRanges};
 ghost use Rattle.protocol_meaning.specs.Meaning.{meaning_of, scan_of};
 ghost use Rattle.protocol_meaning.specs.Readings.{reading_of};
-ghost use Rattle.protocol_meaning.specs.Rounds.{outcome_told};
+ghost use Rattle.protocol_meaning.specs.Rounds.{outcome_of_round};
 ghost use Rattle.protocol_meaning.specs.Setting.{setting_of};
 
 use sequencer::Driver;
@@ -30,13 +30,13 @@ pub fn meanings_are_lawful()
     ensures { (trees : List TreeRecord) → IsMeaning (meaning_of trees) }
 {}
 
-/// What serves a protocol answers by a round what a run has of the scan: where the round began in this local, with the transitions
-/// that its controller has fired, and left that one.
+/// What serves a protocol answers by a round what a run has of the scan, where the round began in the one local, with the transitions
+/// that its controller has fired in this cycle, and left the other.
 pub fn rounds_are_scans()
     ensures { (trees : List TreeRecord) (machine limit : ℕ) (before after : LocalView)
         (end : RoundRecord)
         → IsRoundOf (scan_of trees machine limit before.ctl.fired before) (Ok end) after before
-        → ((meaning_of trees).scan machine before limit).outcome ≡ outcome_told end after before }
+        → ((meaning_of trees).scan machine before limit).outcome ≡ outcome_of_round end after before }
 {}
 
 /// A run of a protocol with a topology that fits it is one of which the laws of runs hold, where its bound on cycles is within that

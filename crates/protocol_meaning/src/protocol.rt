@@ -12,8 +12,8 @@ use std::alloc::Global;
 pub trait Protocol {
     ghost serves: { Self → List TreeRecord → Type 0 };
 
-    /// One scan of a controller of this machine, in its local. The controller has fired so many transitions in this cycle and may
-    /// fire at most `limit`. What the scan leaves of the local counts only where it has fired, or for whether it stalled.
+    /// One scan of a controller of this machine, in its local. The controller has fired `fired` transitions in this cycle and may
+    /// fire `limit`. What the scan leaves of the local counts only where it has fired, and for whether a transition was stalled.
     fn round<T: Local>(
         &self,
         alloc: Global,
