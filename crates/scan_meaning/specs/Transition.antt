@@ -3,7 +3,7 @@
 -- statements for it, or where `z_stall` is among the actions, the transition is stalled: it runs no action, and the controller wakes
 -- in the next cycle. Else its actions are done in order, then the next state is set, and then the access permission, where the
 -- machine sets it. These see the line's entry and TBE as the actions have left them. Without a next state it is the state before.
-use Rattle.std.specs.Prelude.{ℕ, ◌+◌, ◌==◌, ◌&&◌, Bool, true, false, Option, None, Some, List, [], ◌∷◌, map, nat_lt, position, slice_get, unwrap_or}
+use Rattle.std.specs.Prelude.{ℕ, ◌+◌, ◌==◌, ◌&&◌, Bool, true, false, Option, None, Some, List, [], ◌∷◌, find, map, nat_lt, unwrap_or}
 use Rattle.std.specs.List.{list_any}
 use Rattle.slicc_ast.specs.declared.tree.statement.Block.{Block}
 use Rattle.ruby_value.specs.declared.fault.Fault.TheVariants.{Invalid}
@@ -77,12 +77,15 @@ permission_set s a next (Some function) =
 
 -- Stalls.
 
--- some of these tables, which have the numbers from this one on, has fewer free lines than are needed of it
+-- the table of this number has fewer free lines than are needed of it
+abbrev pub table_short : (ℕ → ℕ) → ℕ → Acting Bool
+table_short need table =
+    either (need table == 0) (ends_body false) (done (act.Free table) >>= (λ free. ends_body (nat_lt free (need table))))
+
+-- some of these tables has, which have the numbers from this one on
 abbrev pub is_short : (ℕ → ℕ) → ℕ → List TableSymbol → Acting Bool
 is_short need table [] = ends_body false
-is_short need table (t ∷ ts) =
-    either (need table == 0) (is_short need (table + 1) ts)
-    (done (act.Free table) >>= (λ free. either (nat_lt free (need table)) (ends_body true) (is_short need (table + 1) ts)))
+is_short need table (t ∷ ts) = table_short need table >>= (λ short. either short (ends_body true) (is_short need (table + 1) ts))
 
 abbrev pub is_stall_among : List ℕ → Option ℕ → Bool
 is_stall_among actions None = false
@@ -122,15 +125,14 @@ row_tried s t state row =
 abbrev pub known : Trigger → Option ℕ → Known
 known t state = record { address = Some t.address; state = state; event = Some t.event }
 
-abbrev pub found_tried : Reading → Trigger → ℕ → Option ℕ → Trying Tried
+-- by the written transition for the state, if there is one
+abbrev pub found_tried : Reading → Trigger → ℕ → Option TransitionSymbol → Trying Tried
 found_tried s t state None =
     looks_up (record { address = t.address; state = state; event = t.event; is_written = false }) (stops (stop_at (known t (Some state)) Invalid))
-found_tried s t state (Some number) =
-    looks_up (record { address = t.address; state = state; event = t.event; is_written = true })
-    (with_known (known t (Some state))
-    (found own.Reference (slice_get s.machine.transitions number) >>= row_tried s t state))
+found_tried s t state (Some row) =
+    looks_up (record { address = t.address; state = state; event = t.event; is_written = true }) (with_known (known t (Some state)) (row_tried s t state row))
 
 abbrev pub try : Reading → Trigger → Trying Tried
 try s t =
     then_try (with_known (known t None) (read_state s (about t)))
-    (λ state. found_tried s t state (position (is_for state t.event) s.machine.transitions))
+    (λ state. found_tried s t state (find (is_for state t.event) s.machine.transitions))

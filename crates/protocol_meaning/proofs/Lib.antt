@@ -1,0 +1,5 @@
+pub mod Tries
+pub mod Scans
+pub mod Settings
+pub mod Kept
+pub mod Rounds

@@ -1,0 +1,15 @@
+-- What code has done as a round is what a run has of the scan.
+use Rattle.std.proofs.Common.{◌≡◌, Ok, ap, ap₂}
+use Rattle.ctl_face.specs.LocalView.{LocalView}
+use Rattle.scan_meaning.specs.declared.round.RoundEnd.{RoundEnd}
+use Rattle.scan_meaning.specs.declared.round.RoundEnd.TheVariants as round
+use Rattle.scan_meaning.specs.Round.{IsRoundOf}
+use Rattle.scan_meaning.specs.Scan.{Scanned}
+use Rattle.protocol_meaning.specs.Meaning.{outcome_by, outcome_of}
+use Rattle.protocol_meaning.specs.Rounds.{outcome_of_round}
+
+pub round_told : (s : Scanned) (end : RoundEnd) (after before : LocalView) → IsRoundOf s (Ok end) after before → outcome_of s ≡ outcome_of_round end after before
+round_told s (round.Fired note) after before is = ap₂ outcome_by is.0 is.1
+round_told s round.Idle after before is = ap₂ outcome_by is.0 is.1
+round_told s round.Full after before is = ap (λ (end : RoundEnd). outcome_by end s.view) is
+round_told s (round.Stop at) after before is = ap (λ (end : RoundEnd). outcome_by end s.view) is

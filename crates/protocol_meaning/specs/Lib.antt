@@ -1,0 +1,5 @@
+pub mod Readings
+pub mod Meaning
+pub mod Setting
+pub mod Kept
+pub mod Rounds

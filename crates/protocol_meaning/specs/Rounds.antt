@@ -1,0 +1,18 @@
+-- What a run has of a scan that code has done, by how it ended and by the local after it and before it. Of one that fires this is what
+-- was done to messages; of one in which nothing fires it is the controller as it was, but for the mark of a stall.
+use Rattle.ruby_value.specs.declared.message.Message.{Message}
+use Rattle.ruby_runs.specs.Rules.{Outcome}
+use Rattle.ctl_face.specs.Ctl.{Ctl}
+use Rattle.ctl_face.specs.LocalView.{LocalView}
+use Rattle.scan_meaning.specs.declared.round.RoundEnd.{RoundEnd}
+use Rattle.scan_meaning.specs.declared.round.RoundEnd.TheVariants.{Idle}
+use Rattle.scan_meaning.specs.Scan.{left_idle}
+use Rattle.protocol_meaning.specs.Meaning.{outcome_by}
+
+-- the local that a scan leaves, where code that did it has left this one
+abbrev pub local_left : RoundEnd → (after before : LocalView) → LocalView
+local_left Idle after before = left_idle before after
+local_left _ after before = after
+
+abbrev pub outcome_of_round : RoundEnd → (after before : LocalView) → Outcome Ctl Message
+outcome_of_round end after before = outcome_by end (local_left end after before)
