@@ -1,0 +1,5 @@
+pub mod Adding
+pub mod Digits
+pub mod Listing
+pub mod Putting
+pub mod Written
