@@ -2,4 +2,5 @@ pub mod Adding
 pub mod Digits
 pub mod Listing
 pub mod Putting
+pub mod RowParts
 pub mod Written

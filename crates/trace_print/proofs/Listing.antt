@@ -1,6 +1,6 @@
 -- How lines follow one another.
-use Rattle.std.proofs.Common.{◌≡◌, ℕ, ◌+◌, ◌<◌, ◌≤◌, Bool, true, false, List, [], ◌∷◌, ◌++◌, length, map, drop, get_or, ap, subst, sym, ◌∙◌, true≢false}
-use Rattle.std.proofs.lemmas.List.{drop_more, drop_all}
+use Rattle.std.proofs.Common.{◌≡◌, ℕ, ◌+◌, ◌<◌, ◌≤◌, Bool, true, false, List, [], ◌∷◌, ◌++◌, length, map, drop, ap, subst, sym, ◌∙◌, true≢false}
+use Rattle.std.proofs.lemmas.List.{drop_all}
 use Rattle.ruby_outside.specs.declared.sink.Wrote.{Wrote}
 use Rattle.trace_print.specs.Pieces.{IsLinePut, AreLinesPut, all_put, line_put, line_cut}
 
@@ -8,16 +8,6 @@ module _ {S : Type 0} (writes : S → List ℕ → Wrote → S → Type 0) where
   pub one_line : (before after : S) (line : List ℕ) (whole : Bool) → IsLinePut writes before line whole after → AreLinesPut writes before (line ∷ []) whole after
   one_line before after line true put = line_put before after after line [] true put (all_put after)
   one_line before after line false put = line_cut before after line [] put
-
-  pub line_on : (before middle after : S) (line : List ℕ) (lines : List (List ℕ)) (first whole : Bool) → first ≡ true
-      → IsLinePut writes before line first middle → AreLinesPut writes middle lines whole after → AreLinesPut writes before (line ∷ lines) whole after
-  line_on before middle after line lines true whole is put rest = line_put before middle after line lines whole put rest
-  line_on before middle after line lines false whole is put rest = absurd (true≢false (sym is))
-
-  pub line_stopped : (before after : S) (line : List ℕ) (lines : List (List ℕ)) (first : Bool) → first ≡ false
-      → IsLinePut writes before line first after → AreLinesPut writes before (line ∷ lines) false after
-  line_stopped before after line lines true is put = absurd (true≢false is)
-  line_stopped before after line lines false is put = line_cut before after line lines put
 
   -- lines, and then others
   pub lines_on : (before : S) (xs : List (List ℕ)) (first : Bool) (middle : S) → AreLinesPut writes before xs first middle
@@ -35,21 +25,18 @@ module _ {S : Type 0} (writes : S → List ℕ → Wrote → S → Type 0) where
   lines_stopped _ _ _ _ (AreLinesPut.line_cut before last line lines put) ys is = line_cut before last line (lines ++ ys) put
 
   -- the line of one of several, and those of what comes after it
-  here : {X : Type 0} (f : X → List ℕ) (xs : List X) (i : ℕ) (x : X) → i < length xs → x ≡ get_or xs i x → f x ∷ map f (drop (i + 1) xs) ≡ map f (drop i xs)
-  here f xs i x below is = ap (map f) (sym (drop_more xs i x below ∙ ap (λ y. y ∷ drop (i + 1) xs) (sym is)))
-
-  pub next_line : {X : Type 0} (f : X → List ℕ) (xs : List X) (i : ℕ) (x : X) (before middle after : S) (first whole : Bool)
-      → i < length xs → x ≡ get_or xs i x → first ≡ true → IsLinePut writes before (f x) first middle
+  pub next_line : {X : Type 0} (f : X → List ℕ) (xs : List X) (i : ℕ) (x : X) (before middle after : S) (whole : Bool)
+      → drop i xs ≡ x ∷ drop (i + 1) xs → IsLinePut writes before (f x) true middle
       → AreLinesPut writes middle (map f (drop (i + 1) xs)) whole after → AreLinesPut writes before (map f (drop i xs)) whole after
-  next_line f xs i x before middle after first whole below item is put rest =
+  next_line f xs i x before middle after whole here put rest =
       let P : List (List ℕ) → Type 0 = λ lines. AreLinesPut writes before lines whole after in
-      subst P (here f xs i x below item) (line_on before middle after (f x) (map f (drop (i + 1) xs)) first whole is put rest)
+      subst P (ap (map f) (sym here)) (line_put before middle after (f x) (map f (drop (i + 1) xs)) whole put rest)
 
-  pub last_line : {X : Type 0} (f : X → List ℕ) (xs : List X) (i : ℕ) (x : X) (before after : S) (first : Bool)
-      → i < length xs → x ≡ get_or xs i x → first ≡ false → IsLinePut writes before (f x) first after → AreLinesPut writes before (map f (drop i xs)) false after
-  last_line f xs i x before after first below item is put =
+  pub last_line : {X : Type 0} (f : X → List ℕ) (xs : List X) (i : ℕ) (x : X) (before after : S)
+      → drop i xs ≡ x ∷ drop (i + 1) xs → IsLinePut writes before (f x) false after → AreLinesPut writes before (map f (drop i xs)) false after
+  last_line f xs i x before after here put =
       let P : List (List ℕ) → Type 0 = λ lines. AreLinesPut writes before lines false after in
-      subst P (here f xs i x below item) (line_stopped before after (f x) (map f (drop (i + 1) xs)) first is put)
+      subst P (ap (map f) (sym here)) (line_cut before after (f x) (map f (drop (i + 1) xs)) put)
 
   pub no_line : {X : Type 0} (f : X → List ℕ) (xs : List X) (i : ℕ) (before : S) → length xs ≤ i → AreLinesPut writes before (map f (drop i xs)) true before
   no_line f xs i before past =

@@ -54,3 +54,7 @@ module _ {S : Type 0} (writes : S → List ℕ → Wrote → S → Type 0) where
       let P : List ℕ → Type 0 = λ p. IsPut writes before p false after in
       subst L (regrouped held left rest room)
       (piece_cut before after (held ++ take room left) (drop room left ++ rest) (full held left room sum more) (some_left left rest room more) (subst P piece_is put))
+
+  -- nothing is held
+  pub from_nothing : (before after : S) (held more : List ℕ) (whole : Bool) → held ≡ [] → IsLinePut writes before (held ++ more) whole after → IsLinePut writes before more whole after
+  from_nothing before after held more whole empty put = let P : List ℕ → Type 0 = λ h. IsLinePut writes before (h ++ more) whole after in subst P empty put

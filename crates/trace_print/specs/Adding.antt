@@ -1,7 +1,7 @@
 -- How a line goes to a sink while it is made: its bytes are held until they are a piece. Adding bytes to those held leaves it so that
 -- whatever comes after them, putting the bytes then held and what comes is putting the line as it was to be; or a piece was cut off,
 -- and so is the line, whatever was to come.
-use Rattle.std.specs.Prelude.{ℕ, Bool, List, ◌++◌}
+use Rattle.std.specs.Prelude.{ℕ, Bool, false, List, ◌++◌}
 use Rattle.std.specs.Bool.{OnFalse, OnTrue}
 use Rattle.ruby_outside.specs.declared.sink.Wrote.{Wrote}
 use Rattle.trace_print.specs.Pieces.{IsLinePut}

@@ -26,7 +26,12 @@ pub struct RunText<'a> {
     pub verdict: &'a Verdict,
 }
 
-fn write_final<S: Sink>(sink: &mut S, symbols: &Symbols, names: &[Text], last: &Final) -> bool
+fn write_final<'a, S: Sink>(
+    sink: &mut S,
+    symbols: &'a Symbols,
+    names: &'a [Text],
+    last: &Final,
+) -> bool
     ensures { IsLinePut S.writes sink.old (final_line symbols.now names.now last.now) result sink.new }
 {
     let m = controller_machine(symbols, names, last.controller);

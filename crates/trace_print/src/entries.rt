@@ -5,6 +5,7 @@ ghost use Rattle.ruby_outside.specs.Sink.{IsWritten};
 ghost use Rattle.slicc_plan.specs.SymbolsOf.{symbols_of};
 ghost use Rattle.trace_print.specs.Entries.{end_lines, entry_lines, fault_word, fired_line, stop_line};
 ghost use Rattle.trace_print.specs.Lines.{hexadecimal, known};
+ghost use Rattle.trace_print.specs.Names.{event_word, state_word};
 ghost use Rattle.trace_print.specs.Pieces.{AreLinesPut, IsLinePut, text_of};
 ghost use Rattle.trace_print.specs.Words.{word_bytes};
 
@@ -18,12 +19,12 @@ use ruby_value::Fault;
 use run_journal::{End, Entry, FireNote, StopAt};
 use slicc_plan::Plan;
 
-fn write_fired<S: Sink>(
+fn write_fired<'a, S: Sink>(
     sink: &mut S,
-    symbols: &Symbols,
+    symbols: &'a Symbols,
     m: Option<&MachineSymbols>,
     cycle: u64,
-    name: &[u8],
+    name: &'a [u8],
     note: &FireNote,
 ) -> bool
     ensures { IsLinePut S.writes sink.old (fired_line symbols.now (option_copied m.entry) cycle name.now note.now) result sink.new }
@@ -98,13 +99,13 @@ fn known_event<'a>(
     }
 }
 
-fn write_stop<S: Sink>(
+fn write_stop<'a, S: Sink>(
     sink: &mut S,
-    symbols: &Symbols,
+    symbols: &'a Symbols,
     m: Option<&MachineSymbols>,
     cycle: u64,
-    name: &[u8],
-    at: &StopAt,
+    name: &'a [u8],
+    at: &'a StopAt,
 ) -> bool
     ensures { IsLinePut S.writes sink.old (stop_line symbols.now (option_copied m.entry) cycle name.now at.now) result sink.new }
 {
@@ -132,7 +133,8 @@ fn write_end<S: Sink>(
     ensures { AreLinesPut S.writes sink.old (end_lines symbols.now (option_copied m.entry) cycle name.now end.now) result sink.new }
 {
     match end {
-        End::Idle | End::Full => true,
+        End::Idle => true,
+        End::Full => true,
         End::Stop(at) => write_stop(sink, symbols, m, cycle, name, at),
     }
 }

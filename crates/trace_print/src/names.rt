@@ -1,8 +1,8 @@
 // Names by their numbers.
-ghost use Rattle.std.specs.Prelude.{◌≡◌, slice_get};
+ghost use Rattle.std.specs.Prelude.{◌≡◌, ◌==◌, ◌<◌, IfSome, length, position, slice_get};
 ghost use Rattle.std.specs.Option.{option_copied};
 ghost use Rattle.trace_print.specs.Lines.{or_dash};
-ghost use Rattle.trace_print.specs.Names.{action_word, controller_machine, controller_word, event_word, machine_at, machine_part, machine_word, member_name, state_word};
+ghost use Rattle.trace_print.specs.Names.{action_name, action_word, controller_machine, controller_word, event_word, machine_at, machine_of, machine_part, machine_word, member_name, state_word};
 
 use ruby_base::Text;
 use ruby_symbols::{MachineSymbols, Symbols, machine_named};
@@ -23,12 +23,19 @@ pub(crate) fn controller_word(names: &[Text], controller: u32) -> &[u8]
     word_at(names, controller as usize)
 }
 
+fn dash_in(name: &[u8]) -> Option<usize>
+    ensures value { result ≡ position (λ byte. byte == 45) name.now }
+    ensures within { IfSome result (λ place. place < length name.now) }
+{
+    name.iter().position(|byte| *byte == b'-')
+}
+
 fn machine_part(name: &[u8]) -> &[u8]
     ensures { result.now ≡ machine_part name.now }
 {
-    match name.iter().position(|byte| *byte == b'-') {
+    match dash_in(name) {
         None => name,
-        Some(end) => &name[..end],
+        Some(place) => &name[..place],
     }
 }
 
@@ -42,6 +49,12 @@ pub(crate) fn machine_at(symbols: &Symbols, number: Option<u16>) -> Option<&Mach
     }
 }
 
+fn machine_of<'a>(symbols: &'a Symbols, name: &[u8]) -> Option<&'a MachineSymbols>
+    ensures { option_copied result ≡ machine_of symbols.now name.now }
+{
+    machine_at(symbols, machine_named(symbols, machine_part(name)))
+}
+
 /// The machine of a controller.
 pub(crate) fn controller_machine<'a>(
     symbols: &'a Symbols,
@@ -52,10 +65,7 @@ pub(crate) fn controller_machine<'a>(
 {
     match names.get(controller as usize) {
         None => None,
-        Some(name) => {
-            let number = machine_named(symbols, machine_part(name.as_slice()));
-            machine_at(symbols, number)
-        }
+        Some(name) => machine_of(symbols, name.as_slice()),
     }
 }
 

@@ -69,6 +69,22 @@ fn write_row<S: Sink>(
     end_line(sink, &mut line)
 }
 
+fn write_each<S: Sink>(
+    sink: &mut S,
+    symbols: &Symbols,
+    m: Option<&MachineSymbols>,
+    rows: &[Row],
+) -> bool
+    ensures { AreLinesPut S.writes sink.old (map (row_line symbols.now (option_copied m.entry)) rows.now) result sink.new }
+{
+    for row in rows {
+        if !write_row(sink, symbols, m, row) {
+            return false;
+        }
+    }
+    true
+}
+
 /// Writes the lines of rows of a machine's table, each with the machine, its state, its event, the state after it and its actions, and
 /// answers whether all were written whole. It writes nothing after one that wasn't, of which a beginning is written. The machine is
 /// given by its number.
@@ -77,11 +93,5 @@ pub fn write_rows<S: Sink>(sink: &mut S, plan: &Plan, machine: u16, rows: &Seq<R
     ensures written { IsWritten (S.written sink.old) (S.faults sink.old) (text_of (row_lines (symbols_of plan.now) machine rows.now)) result (S.written sink.new) (S.faults sink.new) }
 {
     let symbols = plan.symbols();
-    let m = machine_at(symbols, Some(machine));
-    for row in rows {
-        if !write_row(sink, symbols, m, row) {
-            return false;
-        }
-    }
-    true
+    write_each(sink, symbols, machine_at(symbols, Some(machine)), rows)
 }

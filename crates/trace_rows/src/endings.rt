@@ -6,49 +6,37 @@ use slicc_plan::Plan;
 use std::alloc::Global;
 use trace_print::{RunText, write_rest};
 
+/// A final state: the controller, the address and the state.
+struct Last(u32, u64, u16);
+
+/// How many messages were sent, and how many of these are consumed, queued, stalled and recycled.
+struct Counts(u64, u64, u64, u64, u64);
+
 /// A run's final states, what its account counts, and its verdict.
-struct Ending(&'static [Final], Account, Verdict);
-
-const fn at(controller: u32, address: u64, state: u16) -> Final {
-    Final {
-        controller,
-        address,
-        state,
-    }
-}
-
-const fn account(sent: u64, consumed: u64, queued: u64, stalled: u64, recycled: u64) -> Account {
-    Account {
-        sent,
-        consumed,
-        queued,
-        stalled,
-        recycled,
-    }
-}
+struct Ending(&'static [Last], Counts, Verdict);
 
 const ENDINGS: &[Ending] = &[
     Ending(
-        &[at(0, 0, 1)],
-        account(3, 3, 0, 0, 0),
+        &[Last(0, 0, 1)],
+        Counts(3, 3, 0, 0, 0),
         Verdict::Quiet { cycle: 3 },
     ),
     Ending(
         &[],
-        account(0, 0, 0, 0, 0),
+        Counts(0, 0, 0, 0, 0),
         Verdict::Quiet { cycle: 0 },
     ),
     Ending(
-        &[at(0, 0x40, 1), at(1, 0, 0), at(1, 0xdead_bec0, 1), at(3, 0xffff_ffff_ffff_ffc0, 0)],
-        account(15, 10, 2, 1, 2),
+        &[Last(0, 0x40, 1), Last(1, 0, 0), Last(1, 0xdead_bec0, 1), Last(3, 0xffff_ffff_ffff_ffc0, 0)],
+        Counts(15, 10, 2, 1, 2),
         Verdict::Stop {
             cycle: 2,
             controller: 2,
         },
     ),
     Ending(
-        &[at(0, 0, 1)],
-        account(1, 1, 0, 0, 0),
+        &[Last(0, 0, 1)],
+        Counts(1, 1, 0, 0, 0),
         Verdict::Deadlock {
             cycle: 1000,
             controller: 0,
@@ -58,7 +46,7 @@ const ENDINGS: &[Ending] = &[
     ),
     Ending(
         &[],
-        account(20, 19, 1, 0, 0),
+        Counts(20, 19, 1, 0, 0),
         Verdict::Deadlock {
             cycle: 500_130,
             controller: 3,
@@ -68,7 +56,7 @@ const ENDINGS: &[Ending] = &[
     ),
     Ending(
         &[],
-        account(u64::MAX, 1, 2, 3, 4),
+        Counts(u64::MAX, 1, 2, 3, 4),
         Verdict::Incoherent {
             cycle: 77,
             controller: 1,
@@ -80,7 +68,7 @@ const ENDINGS: &[Ending] = &[
     ),
     Ending(
         &[],
-        account(900, 900, 0, 0, 0),
+        Counts(900, 900, 0, 0, 0),
         Verdict::Passed {
             cycle: 4210,
             checks: 100,
@@ -88,12 +76,12 @@ const ENDINGS: &[Ending] = &[
     ),
     Ending(
         &[],
-        account(2, 1, 0, 0, 1),
+        Counts(2, 1, 0, 0, 1),
         Verdict::Cycles { cycle: 2 },
     ),
     Ending(
         &[],
-        account(1, 0, 1, 0, 0),
+        Counts(1, 0, 1, 0, 0),
         Verdict::Journal {
             cycle: 29412,
             entries: 1_000_009,
@@ -101,7 +89,7 @@ const ENDINGS: &[Ending] = &[
     ),
     Ending(
         &[],
-        account(500_001, 0, 500_001, 0, 0),
+        Counts(500_001, 0, 500_001, 0, 0),
         Verdict::Mail {
             cycle: 12,
             messages: 500_001,
@@ -109,14 +97,37 @@ const ENDINGS: &[Ending] = &[
     ),
     // Numbers that name nothing: a controller, and a state.
     Ending(
-        &[at(0, 0, 2), at(4, 0, 0)],
-        account(0, 0, 0, 0, 0),
+        &[Last(0, 0, 2), Last(4, 0, 0)],
+        Counts(0, 0, 0, 0, 0),
         Verdict::Stop {
             cycle: 1,
             controller: 4,
         },
     ),
 ];
+
+fn finals(alloc: Global, lasts: &[Last]) -> Result<Seq<Final>, NoMemory> {
+    let mut finals = Seq::new(alloc);
+    for Last(controller, address, state) in lasts {
+        finals.push(Final {
+            controller: *controller,
+            address: *address,
+            state: *state,
+        })?;
+    }
+    Ok(finals)
+}
+
+fn account(counts: &Counts) -> Account {
+    let Counts(sent, consumed, queued, stalled, recycled) = counts;
+    Account {
+        sent: *sent,
+        consumed: *consumed,
+        queued: *queued,
+        stalled: *stalled,
+        recycled: *recycled,
+    }
+}
 
 fn write_ending<S: Sink>(
     alloc: Global,
@@ -125,15 +136,16 @@ fn write_ending<S: Sink>(
     names: &Seq<Text>,
     ending: &Ending,
 ) -> Result<bool, NoMemory> {
-    let Ending(finals, account, verdict) = ending;
-    let finals = Seq::copied(alloc, finals)?;
+    let Ending(lasts, counts, verdict) = ending;
+    let finals = finals(alloc, lasts)?;
+    let account = account(counts);
     let whole = write_rest(
         sink,
         &RunText {
             plan,
             names,
             finals: &finals,
-            account,
+            account: &account,
             verdict,
         },
     );

@@ -4,6 +4,7 @@ use Rattle.trace_print.proofs.hexadecimal.write_digits.Given as goal
 
 abbrev pub invariant-loop-left : goal.invariant-loop-left
 invariant-loop-left l = record {
+  some : 0 < l.at;
   within : l.at ≤ 16;
   long : length l.buffer ≡ 16;
   below : l.left < 16 ^ l.at;
