@@ -1,5 +1,5 @@
 -- How lines follow one another.
-use Rattle.std.proofs.Common.{◌≡◌, ℕ, ◌+◌, ◌<◌, ◌≤◌, Bool, true, false, List, [], ◌∷◌, ◌++◌, length, map, drop, ap, subst, sym, ◌∙◌, true≢false}
+use Rattle.std.proofs.Common.{◌≡◌, ℕ, ◌+◌, ◌≤◌, Bool, true, false, List, [], ◌∷◌, ◌++◌, length, map, drop, ap, subst, sym, true≢false}
 use Rattle.std.proofs.lemmas.List.{drop_all}
 use Rattle.ruby_outside.specs.declared.sink.Wrote.{Wrote}
 use Rattle.trace_print.specs.Pieces.{IsLinePut, AreLinesPut, all_put, line_put, line_cut}

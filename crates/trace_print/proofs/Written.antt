@@ -1,9 +1,8 @@
 -- What became of lines that went to a lawful sink.
-use Rattle.std.proofs.Common.{◌≡◌, ℕ, ◌≤◌, Bool, true, false, List, [], ◌∷◌, ◌++◌, Option, take, drop, subst}
+use Rattle.std.proofs.Common.{◌≡◌, ℕ, Bool, true, false, List, ◌++◌, Option, take, drop, subst}
 use Rattle.std.proofs.lemmas.List.{take-append-drop}
 use Rattle.ruby_outside.specs.declared.sink.Wrote.{Wrote}
-use Rattle.ruby_outside.specs.Put.{IsPut}
-use Rattle.ruby_outside.specs.Sink.{IsCutOff, IsLawfulWrite, IsWritten}
+use Rattle.ruby_outside.specs.Sink.{IsLawfulWrite, IsWritten}
 use Rattle.ruby_outside.proofs.Growth.{cut_before}
 use Rattle.ruby_outside.proofs.Puts.{nothing_written, put_written, written_on}
 use Rattle.trace_print.specs.Pieces.{IsLinePut, AreLinesPut, text_of}

@@ -46,12 +46,7 @@ fn write_final<'a, S: Sink>(
     )
 }
 
-fn write_finals<S: Sink>(
-    sink: &mut S,
-    symbols: &Symbols,
-    names: &[Text],
-    finals: &[Final],
-) -> bool
+fn write_finals<S: Sink>(sink: &mut S, symbols: &Symbols, names: &[Text], finals: &[Final]) -> bool
     ensures { AreLinesPut S.writes sink.old (map (final_line symbols.now names.now) finals.now) result sink.new }
 {
     for last in finals {
@@ -86,11 +81,7 @@ fn write_account<S: Sink>(sink: &mut S, account: &Account) -> bool
 fn write_cycle<S: Sink>(sink: &mut S, word: &[u8], cycle: u64) -> bool
     ensures { IsLinePut S.writes sink.old (line_of (codes "verdict" ∷ word.now ∷ decimal cycle ∷ [])) result sink.new }
 {
-    write_line(
-        sink,
-        b"verdict",
-        &[Word::Bytes(word), Word::Number(cycle)],
-    )
+    write_line(sink, b"verdict", &[Word::Bytes(word), Word::Number(cycle)])
 }
 
 // The line of a verdict that has a number beside its cycle.
@@ -100,11 +91,7 @@ fn write_number<S: Sink>(sink: &mut S, word: &[u8], cycle: u64, number: u64) -> 
     write_line(
         sink,
         b"verdict",
-        &[
-            Word::Bytes(word),
-            Word::Number(cycle),
-            Word::Number(number),
-        ],
+        &[Word::Bytes(word), Word::Number(cycle), Word::Number(number)],
     )
 }
 

@@ -73,11 +73,7 @@ fn known_address<'a>(address: Option<u64>) -> Word<'a>
     }
 }
 
-fn known_state<'a>(
-    symbols: &'a Symbols,
-    m: Option<&MachineSymbols>,
-    state: Option<u16>,
-) -> Word<'a>
+fn known_state<'a>(symbols: &'a Symbols, m: Option<&MachineSymbols>, state: Option<u16>) -> Word<'a>
     ensures { word_bytes result ≡ known (state_word symbols.now (option_copied m.entry)) state }
 {
     match state {
@@ -86,11 +82,7 @@ fn known_state<'a>(
     }
 }
 
-fn known_event<'a>(
-    symbols: &'a Symbols,
-    m: Option<&MachineSymbols>,
-    event: Option<u16>,
-) -> Word<'a>
+fn known_event<'a>(symbols: &'a Symbols, m: Option<&MachineSymbols>, event: Option<u16>) -> Word<'a>
     ensures { word_bytes result ≡ known (event_word symbols.now (option_copied m.entry)) event }
 {
     match event {
@@ -119,7 +111,11 @@ fn write_stop<'a, S: Sink>(
         return write_line(sink, b"stop", &[cycle, name, address, state, event, fault]);
     };
     let given = Word::Bytes(given.as_slice());
-    write_line(sink, b"stop", &[cycle, name, address, state, event, fault, given])
+    write_line(
+        sink,
+        b"stop",
+        &[cycle, name, address, state, event, fault, given],
+    )
 }
 
 fn write_end<S: Sink>(

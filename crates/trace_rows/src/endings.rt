@@ -21,13 +21,14 @@ const ENDINGS: &[Ending] = &[
         Counts(3, 3, 0, 0, 0),
         Verdict::Quiet { cycle: 3 },
     ),
+    Ending(&[], Counts(0, 0, 0, 0, 0), Verdict::Quiet { cycle: 0 }),
     Ending(
-        &[],
-        Counts(0, 0, 0, 0, 0),
-        Verdict::Quiet { cycle: 0 },
-    ),
-    Ending(
-        &[Last(0, 0x40, 1), Last(1, 0, 0), Last(1, 0xdead_bec0, 1), Last(3, 0xffff_ffff_ffff_ffc0, 0)],
+        &[
+            Last(0, 0x40, 1),
+            Last(1, 0, 0),
+            Last(1, 0xdead_bec0, 1),
+            Last(3, 0xffff_ffff_ffff_ffc0, 0),
+        ],
         Counts(15, 10, 2, 1, 2),
         Verdict::Stop {
             cycle: 2,
@@ -74,11 +75,7 @@ const ENDINGS: &[Ending] = &[
             checks: 100,
         },
     ),
-    Ending(
-        &[],
-        Counts(2, 1, 0, 0, 1),
-        Verdict::Cycles { cycle: 2 },
-    ),
+    Ending(&[], Counts(2, 1, 0, 0, 1), Verdict::Cycles { cycle: 2 }),
     Ending(
         &[],
         Counts(1, 0, 1, 0, 0),

@@ -38,10 +38,12 @@ fn write_all<S: Sink>(
     plan: &Plan,
     names: &Seq<Text>,
 ) -> Result<bool, NoMemory> {
-    Ok(journal::write_entries(alloc, sink, plan, names)?
-        && endings::write_endings(alloc, sink, plan, names)?
-        && tables::write_tables(alloc, sink, plan)?
-        && pieces::write_cut_lines(alloc, sink, plan, names)?)
+    Ok(
+        journal::write_entries(alloc, sink, plan, names)?
+            && endings::write_endings(alloc, sink, plan, names)?
+            && tables::write_tables(alloc, sink, plan)?
+            && pieces::write_cut_lines(alloc, sink, plan, names)?,
+    )
 }
 
 fn write_for<S: Sink>(alloc: Global, sink: &mut S, plan: &Plan) -> Result<bool, NoMemory> {

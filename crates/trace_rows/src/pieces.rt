@@ -55,7 +55,9 @@ fn write_cut<S: Sink>(
     held: usize,
 ) -> Result<bool, NoMemory> {
     let Cut(write, length) = row;
-    let text = format!(in alloc; "write {write} fails, a text of {length}: {whole}, {held} bytes\n")?;
+    let text = format!(in alloc;
+        "write {write} fails, a text of {length}: {whole}, {held} bytes\n"
+    )?;
     let is_put = put(sink, text.as_bytes());
     drop(text);
     Ok(is_put)

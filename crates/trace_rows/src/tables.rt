@@ -12,29 +12,12 @@ struct Pair(u16, u16, u16, &'static [u16]);
 struct Table(u16, &'static [Pair]);
 
 const TABLES: &[Table] = &[
-    Table(
-        0,
-        &[
-            Pair(0, 0, 1, &[0]),
-            Pair(1, 0, 0, &[1, 0, 0]),
-        ],
-    ),
-    Table(
-        1,
-        &[
-            Pair(0, 0, 0, &[]),
-            Pair(1, 0, 1, &[]),
-        ],
-    ),
+    Table(0, &[Pair(0, 0, 1, &[0]), Pair(1, 0, 0, &[1, 0, 0])]),
+    Table(1, &[Pair(0, 0, 0, &[]), Pair(1, 0, 1, &[])]),
     Table(1, &[]),
     Table(2, &[Pair(0, 0, 1, &[0, 1, 2, 3, 4, 5, 6, 7, 8])]),
     // Numbers that name nothing: a state, an event and an action, and a machine.
-    Table(
-        0,
-        &[
-            Pair(2, 2, 3, &[2, 0]),
-        ],
-    ),
+    Table(0, &[Pair(2, 2, 3, &[2, 0])]),
     Table(3, &[Pair(0, 0, 0, &[0])]),
 ];
 

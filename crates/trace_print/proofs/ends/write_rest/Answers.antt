@@ -1,4 +1,4 @@
-use Rattle.std.proofs.Common.{ℕ, List, [], ◌∷◌, map, true, false, refl, rules}
+use Rattle.std.proofs.Common.{[], ◌∷◌, map, true, false, refl, rules}
 use Rattle.slicc_plan.specs.SymbolsOf.{symbols_of}
 use Rattle.trace_print.specs.Ends.{account_line, final_line, rest_lines, verdict_line}
 use Rattle.trace_print.specs.Pieces.{AreLinesPut, IsLinePut, line_cut, line_put}

@@ -1,4 +1,4 @@
-use Rattle.std.proofs.Common.{◌-◌, length, arith, length-set, ◌∙◌}
+use Rattle.std.proofs.Common.{◌-◌, arith, length-set, ◌∙◌}
 use Rattle.trace_print.proofs.Digits.{at_first, one_more, shorter, the_first}
 use Rattle.trace_print.proofs.hexadecimal.write_digits.Goals as goal
 
