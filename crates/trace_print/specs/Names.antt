@@ -1,6 +1,7 @@
 -- Names by their numbers. A controller's name is that of its machine, a dash, and its place among the machine's controllers. No
 -- machine's name has a dash, so a controller's name tells of which machine it is, and by that what its states and events are named.
-use Rattle.std.specs.Prelude.{ℕ, ◌==◌, Option, None, Some, List, option_and_then, position, slice_get, take}
+use Rattle.std.specs.Prelude.{ℕ, ◌==◌, Option, List, option_and_then, slice_get}
+use Rattle.std.specs.List.{before_first}
 use Rattle.std.specs.Option.{option_map}
 use Rattle.ruby_symbols.specs.declared.machine.ActionSymbol.{ActionSymbol}
 use Rattle.ruby_symbols.specs.declared.machine.MachineSymbols.{MachineSymbols}
@@ -9,14 +10,9 @@ use Rattle.ruby_symbols.specs.declared.types.EnumerationSymbol.{EnumerationSymbo
 use Rattle.ruby_symbols.specs.Names.{machine_named}
 use Rattle.trace_print.specs.Lines.{or_dash}
 
--- what stands before this place, or all where there is none
-abbrev pub part_before : List ℕ → Option ℕ → List ℕ
-part_before name None = name
-part_before name (Some place) = take place name
-
 -- what stands before the first dash of a controller's name
 abbrev pub machine_part : List ℕ → List ℕ
-machine_part name = part_before name (position (λ byte. byte == 45) name)
+machine_part name = before_first (λ byte. byte == 45) name
 
 abbrev pub machine_at : Symbols → Option ℕ → Option MachineSymbols
 machine_at symbols number = option_and_then (slice_get symbols.machines) number

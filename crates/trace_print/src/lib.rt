@@ -5,6 +5,7 @@
 mod ends;
 mod entries;
 mod hexadecimal;
+mod laws;
 mod line;
 mod names;
 mod rows;
@@ -12,5 +13,6 @@ mod words;
 
 pub use ends::{RunText, write_rest};
 pub use entries::write_entry;
+pub use laws::machine_is_found_by_name;
 pub use rows::write_rows;
 pub use ruby_base::{Seq, Text};

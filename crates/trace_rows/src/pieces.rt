@@ -31,7 +31,7 @@ fn failing(alloc: Global, write: u64) -> Result<MemSink, NoMemory> {
 }
 
 // Whether the line was written whole, and how many bytes the sink then holds.
-fn cut(
+fn made_cut(
     alloc: Global,
     plan: &Plan,
     names: &Seq<Text>,
@@ -71,7 +71,7 @@ pub(crate) fn write_cut_lines<S: Sink>(
     names: &Seq<Text>,
 ) -> Result<bool, NoMemory> {
     for row in CUTS {
-        let (whole, held) = cut(alloc, plan, names, row)?;
+        let (whole, held) = made_cut(alloc, plan, names, row)?;
         if !write_cut(alloc, sink, row, whole, held)? {
             return Ok(false);
         }
