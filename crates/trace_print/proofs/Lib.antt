@@ -1,0 +1,7 @@
+pub mod Adding
+pub mod Digits
+pub mod Listing
+pub mod NameParts
+pub mod Putting
+pub mod RowParts
+pub mod Written

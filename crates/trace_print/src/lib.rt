@@ -1,0 +1,18 @@
+//! The text of a run and of a machine's table, line by line, to a sink. A line is put together on the stack, and one of at most 1,024
+//! bytes is one piece, so that the standard output is written to once for it. Nothing here takes memory.
+#![tactic(auto)]
+
+mod ends;
+mod entries;
+mod hexadecimal;
+mod laws;
+mod line;
+mod names;
+mod rows;
+mod words;
+
+pub use ends::{RunText, write_rest};
+pub use entries::write_entry;
+pub use laws::machine_is_found_by_name;
+pub use rows::write_rows;
+pub use ruby_base::{Seq, Text};
