@@ -86,5 +86,3 @@ module _ (s : Reading) (calls : Calls) (frame : Frame) where
 
   pub place_of_Postfix : (e : Expr) (suffixes : List Suffix) (span : Span) → place_of s calls frame (views.Postfix e suffixes span) ≡ place_behind s calls frame e suffixes
   place_of_Postfix e suffixes span = ap (place_of s calls frame) (Postfix_is e suffixes span) ∙ ap (place_behind s calls frame e) (suffixes_held suffixes)
-
-pub ruleset forms = (value_of_Operation, value_of_Not, value_of_Negate, value_of_Postfix, value_of_IsValid, value_of_IsInvalid, value_of_Cast, value_of_Group, value_of_Call, suffixed_of_Method, place_of_Group, place_of_Postfix)

@@ -16,7 +16,6 @@ use std::alloc::Global;
 
 /// What an expression gives in a body that has this of its own.
 #[cycle(value)]
-#[tactic(auto, using(acts::proofs::Walk::walk_steps, crate::proofs::Forms::forms))]
 pub fn value<T: Local, F: Fn(u16, Seq<Value>, &mut T) -> Result<Thing, Trouble>>(
     alloc: Global,
     s: Scope<'_>,
@@ -28,7 +27,8 @@ pub fn value<T: Local, F: Fn(u16, Seq<Value>, &mut T) -> Result<Thing, Trouble>>
 ) -> Result<Thing, Trouble>
     requires callable { F.IsAlwaysCallable calls.now }
     requires does { CallsDo T.view F.Fn calls.now (calls_within (reading s) depth) }
-    ensures { DoesAs itself (value (reading s.entry) (calls_within (reading s.entry) depth) frame.now e.now) result
+    ensures { DoesAs itself
+        (value (reading s.entry) (calls_within (reading s.entry) depth) frame.now e.now) result
         (T.view local.old) (T.view local.new) }
 {
     match e {
@@ -100,7 +100,8 @@ fn operated<T: Local, F: Fn(u16, Seq<Value>, &mut T) -> Result<Thing, Trouble>>(
 ) -> Result<Value, Trouble>
     requires callable { F.IsAlwaysCallable calls.now }
     requires does { CallsDo T.view F.Fn calls.now (calls_within (reading s) depth) }
-    ensures { DoesAs itself (operand_step (reading s.entry) (calls_within (reading s.entry) depth) frame.now left o.now)
+    ensures { DoesAs itself
+        (operand_step (reading s.entry) (calls_within (reading s.entry) depth) frame.now left o.now)
         result (T.view local.old) (T.view local.new) }
 {
     if let Some(v) = settled(o.operator, &left) {
@@ -125,8 +126,9 @@ fn operands<T: Local, F: Fn(u16, Seq<Value>, &mut T) -> Result<Thing, Trouble>>(
     requires callable { F.IsAlwaysCallable calls.now }
     requires does { CallsDo T.view F.Fn calls.now (calls_within (reading s) depth) }
     ensures { DoesAs itself
-        (each (operand_step (reading s.entry) (calls_within (reading s.entry) depth) frame.now) first others.now) result
-        (T.view local.old) (T.view local.new) }
+        (each (operand_step (reading s.entry) (calls_within (reading s.entry) depth) frame.now)
+        first others.now)
+        result (T.view local.old) (T.view local.new) }
 {
     let mut left = first;
     for o in others {
@@ -137,7 +139,6 @@ fn operands<T: Local, F: Fn(u16, Seq<Value>, &mut T) -> Result<Thing, Trouble>>(
 
 // A suffix of a thing.
 #[cycle(value)]
-#[tactic(auto, using(acts::proofs::Walk::walk_steps, crate::proofs::Forms::forms))]
 fn suffixed<T: Local, F: Fn(u16, Seq<Value>, &mut T) -> Result<Thing, Trouble>>(
     alloc: Global,
     s: Scope<'_>,
@@ -150,7 +151,8 @@ fn suffixed<T: Local, F: Fn(u16, Seq<Value>, &mut T) -> Result<Thing, Trouble>>(
 ) -> Result<Thing, Trouble>
     requires callable { F.IsAlwaysCallable calls.now }
     requires does { CallsDo T.view F.Fn calls.now (calls_within (reading s) depth) }
-    ensures { DoesAs itself (suffixed (reading s.entry) (calls_within (reading s.entry) depth) frame.now t suffix.now)
+    ensures { DoesAs itself
+        (suffixed (reading s.entry) (calls_within (reading s.entry) depth) frame.now t suffix.now)
         result (T.view local.old) (T.view local.new) }
 {
     match suffix {
@@ -185,8 +187,9 @@ fn suffixed_all<T: Local, F: Fn(u16, Seq<Value>, &mut T) -> Result<Thing, Troubl
     requires callable { F.IsAlwaysCallable calls.now }
     requires does { CallsDo T.view F.Fn calls.now (calls_within (reading s) depth) }
     ensures { DoesAs itself
-        (each (suffixed (reading s.entry) (calls_within (reading s.entry) depth) frame.now) first suffixes.now) result
-        (T.view local.old) (T.view local.new) }
+        (each (suffixed (reading s.entry) (calls_within (reading s.entry) depth) frame.now)
+        first suffixes.now)
+        result (T.view local.old) (T.view local.new) }
 {
     let mut t = first;
     for suffix in suffixes {
@@ -209,7 +212,8 @@ pub fn values_of<T: Local, F: Fn(u16, Seq<Value>, &mut T) -> Result<Thing, Troub
 ) -> Result<Seq<Value>, Trouble>
     requires callable { F.IsAlwaysCallable calls.now }
     requires does { CallsDo T.view F.Fn calls.now (calls_within (reading s) depth) }
-    ensures { DoesAs itself (values_of (reading s.entry) (calls_within (reading s.entry) depth) frame.now arguments.now)
+    ensures { DoesAs itself
+        (values_of (reading s.entry) (calls_within (reading s.entry) depth) frame.now arguments.now)
         result (T.view local.old) (T.view local.new) }
 {
     let mut values = Seq::new(alloc);
@@ -235,8 +239,9 @@ pub fn value_behind<T: Local, F: Fn(u16, Seq<Value>, &mut T) -> Result<Thing, Tr
     requires callable { F.IsAlwaysCallable calls.now }
     requires does { CallsDo T.view F.Fn calls.now (calls_within (reading s) depth) }
     ensures { DoesAs itself
-        (value_behind (reading s.entry) (calls_within (reading s.entry) depth) frame.now inner.now suffixes.now) result
-        (T.view local.old) (T.view local.new) }
+        (value_behind (reading s.entry) (calls_within (reading s.entry) depth) frame.now inner.now
+        suffixes.now)
+        result (T.view local.old) (T.view local.new) }
 {
     let t = value(alloc, s, depth, calls, frame, inner, local)?;
     suffixed_all(alloc, s, depth, calls, frame, t, suffixes, local)

@@ -60,7 +60,8 @@ fn part_place(
     structure: u16,
     name: &[u8],
 ) -> Result<Option<Place>, NoMemory>
-    ensures { IfOk result (λ p. p ≡ part_place (reading s.entry) (option_copied held.entry) structure name.now) }
+    ensures { IfOk result
+        (λ p. p ≡ part_place (reading s.entry) (option_copied held.entry) structure name.now) }
 {
     let Some(held) = held else {
         return Ok(None);
@@ -91,7 +92,8 @@ fn field_place<T: Local>(
     t: &Thing,
     local: &T,
 ) -> Result<Place, Trouble>
-    ensures { DoesAs itself (field_place (reading s.entry) (option_copied held.entry) name.now t.now) result
+    ensures { DoesAs itself
+        (field_place (reading s.entry) (option_copied held.entry) name.now t.now) result
         (T.view local.now) (T.view local.now) }
 {
     match t {
@@ -119,7 +121,8 @@ fn place_last<T: Local, F: Fn(u16, Seq<Value>, &mut T) -> Result<Thing, Trouble>
     requires callable { F.IsAlwaysCallable calls.now }
     requires does { CallsDo T.view F.Fn calls.now (calls_within (reading s) depth) }
     ensures { DoesAs itself
-        (place_last (reading s.entry) (calls_within (reading s.entry) depth) frame.now inner.now before.now (option_copied last.entry))
+        (place_last (reading s.entry) (calls_within (reading s.entry) depth) frame.now inner.now
+        before.now (option_copied last.entry))
         result (T.view local.old) (T.view local.new) }
 {
     let Some(last) = last else {
@@ -146,8 +149,9 @@ fn place_behind<T: Local, F: Fn(u16, Seq<Value>, &mut T) -> Result<Thing, Troubl
     requires callable { F.IsAlwaysCallable calls.now }
     requires does { CallsDo T.view F.Fn calls.now (calls_within (reading s) depth) }
     ensures { DoesAs itself
-        (place_behind (reading s.entry) (calls_within (reading s.entry) depth) frame.now inner.now suffixes.now) result
-        (T.view local.old) (T.view local.new) }
+        (place_behind (reading s.entry) (calls_within (reading s.entry) depth) frame.now inner.now
+        suffixes.now)
+        result (T.view local.old) (T.view local.new) }
 {
     let n = suffixes.len().saturating_sub(1);
     place_last(
@@ -163,6 +167,7 @@ fn place_behind<T: Local, F: Fn(u16, Seq<Value>, &mut T) -> Result<Thing, Troubl
     )
 }
 
+// The place of a local.
 fn named_place(alloc: Global, name: &[u8]) -> Result<Place, NoMemory>
     ensures { IfOk result (λ p. p ≡ place.Named name.now) }
 {
@@ -170,7 +175,6 @@ fn named_place(alloc: Global, name: &[u8]) -> Result<Place, NoMemory>
 }
 
 /// The place that an expression names.
-#[tactic(auto, using(acts::proofs::Walk::walk_steps, crate::proofs::Forms::forms))]
 pub fn place_of<T: Local, F: Fn(u16, Seq<Value>, &mut T) -> Result<Thing, Trouble>>(
     alloc: Global,
     s: Scope<'_>,
@@ -182,7 +186,8 @@ pub fn place_of<T: Local, F: Fn(u16, Seq<Value>, &mut T) -> Result<Thing, Troubl
 ) -> Result<Place, Trouble>
     requires callable { F.IsAlwaysCallable calls.now }
     requires does { CallsDo T.view F.Fn calls.now (calls_within (reading s) depth) }
-    ensures { DoesAs itself (place_of (reading s.entry) (calls_within (reading s.entry) depth) frame.now e.now) result
+    ensures { DoesAs itself
+        (place_of (reading s.entry) (calls_within (reading s.entry) depth) frame.now e.now) result
         (T.view local.old) (T.view local.new) }
 {
     match e {
@@ -211,8 +216,9 @@ pub fn place_with<T: Local, F: Fn(u16, Seq<Value>, &mut T) -> Result<Thing, Trou
     requires callable { F.IsAlwaysCallable calls.now }
     requires does { CallsDo T.view F.Fn calls.now (calls_within (reading s) depth) }
     ensures { DoesAs itself
-        (place_with (reading s.entry) (calls_within (reading s.entry) depth) frame.now e.now suffixes.now) result
-        (T.view local.old) (T.view local.new) }
+        (place_with (reading s.entry) (calls_within (reading s.entry) depth) frame.now e.now
+        suffixes.now)
+        result (T.view local.old) (T.view local.new) }
 {
     if suffixes.is_empty() {
         return place_of(alloc, s, depth, calls, frame, e, local);

@@ -57,7 +57,8 @@ fn found<T: Local>(v: Option<Value>, local: &T) -> Result<Value, Trouble>
 
 /// The value at a place.
 pub fn at_place<T: Local>(frame: &Frame, p: &Place, local: &T) -> Result<Value, Trouble>
-    ensures { DoesAs itself (at_place frame.now p.now) result (T.view local.now) (T.view local.now) }
+    ensures { DoesAs itself (at_place frame.now p.now) result (T.view local.now)
+        (T.view local.now) }
 {
     match p {
         Place::Named(name) => {
@@ -79,7 +80,8 @@ fn with_part(
     k: u16,
     v: Value,
 ) -> Result<(), NoMemory>
-    ensures { OnOk result (frame.new ≡ with_part name.now k v frame.old (thing_bound name.now frame.old.names)) }
+    ensures { OnOk result
+        (frame.new ≡ with_part name.now k v frame.old (thing_bound name.now frame.old.names)) }
 {
     let Some(Thing::Message(structure, fields)) = thing_bound(&frame.names, name) else {
         return Ok(());
