@@ -1,5 +1,5 @@
 -- What stands before the first of some bytes.
-use Rattle.std.proofs.Common.{◌≡◌, ◌≢◌, ◌==◌, ◌<◌, ◌≤◌, ℕ, Bool, true, false, Option, None, Some, List, ◌∷◌, ◌++◌, EachIndex, length, take, get_or, nat_lt, cond, position, refl, ap, sym, ◌∙◌, arith, length-append, ltb-false, ne_eqb}
+use Rattle.std.proofs.Common.{◌≡◌, ◌≢◌, ◌==◌, ℕ, Bool, true, false, None, Some, List, ◌∷◌, ◌++◌, EachIndex, length, take, get_or, nat_lt, cond, position, refl, ap, sym, ◌∙◌, arith, length-append, ltb-false, ne_eqb}
 use Rattle.std.proofs.lemmas.List.{get_or_append_left, get_or_at, take_all, take_at}
 use Rattle.std.proofs.lemmas.List.Sums.{position_or_len_is}
 use Rattle.std.specs.List.{before_first, position_or_len}
@@ -25,7 +25,7 @@ pub part_of_name : (name place : List ℕ) → EachIndex name (λ k. get_or name
 part_of_name name place none =
     let all = name ++ 45 ∷ place in
     let first : position_or_len (λ byte. byte == 45) all ≡ length name =
-        position_or_len_is (λ byte. byte == 45) all (length name) 0 (omega (arith, length-append name (45 ∷ place)))
-        (λ k below. ap (λ byte. byte == 45) (get_or_append_left name (45 ∷ place) 0 k below) ∙ ne_eqb (get_or name k 0) 45 (none k below))
-        (λ within. ap (λ byte. byte == 45) (get_or_at name 45 place 0 (length name) refl)) in
+    position_or_len_is (λ byte. byte == 45) all (length name) 0 (omega (arith, length-append name (45 ∷ place)))
+    (λ k below. ap (λ byte. byte == 45) (get_or_append_left name (45 ∷ place) 0 k below) ∙ ne_eqb (get_or name k 0) 45 (none k below))
+    (λ within. ap (λ byte. byte == 45) (get_or_at name 45 place 0 (length name) refl)) in
     ap (λ n. take n all) first ∙ take_at name (45 ∷ place) (length name) refl
