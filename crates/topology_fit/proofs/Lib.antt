@@ -1,0 +1,14 @@
+pub mod Alike
+pub mod Buffers
+pub mod Counts
+pub mod Fit
+pub mod Lines
+pub mod Machines
+pub mod Numbers
+pub mod Paths
+pub mod Places
+pub mod Queues
+pub mod Routes
+pub mod Seats
+pub mod Sizes
+pub mod Ways
