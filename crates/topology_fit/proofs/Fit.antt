@@ -1,5 +1,5 @@
 -- A topology fits its protocol.
-use Rattle.std.proofs.Common.{◌≡◌, ◌≢◌, ◌<◌, ◌≤◌, ◌+◌, ◌∙◌, ℕ, zero, suc, Bool, Option, None, Some, List, [], ◌∷◌, ap, refl, sym, subst, arith, length, map, sum, unwrap_or, option_and_then}
+use Rattle.std.proofs.Common.{◌≡◌, ◌≢◌, ◌<◌, ◌≤◌, ◌+◌, ◌∙◌, ℕ, zero, suc, Bool, Option, None, Some, List, [], ◌∷◌, ap, refl, sym, subst, arith, get_or, length, map, sum, unwrap_or, option_and_then}
 use Rattle.std.specs.Prelude.{IfSome, IsSomeAnd, slice_get}
 use Rattle.std.specs.List.{All, range_with_len}
 use Rattle.std.specs.Option.{option_map}
@@ -34,7 +34,7 @@ use Rattle.topology_fit.specs.Setups.{ranges_of, setups_of}
 use Rattle.topology_fit.proofs.Alike.{all_alike}
 use Rattle.topology_fit.proofs.Counts.{jitter_small}
 use Rattle.topology_fit.proofs.Lines.{AreKnown, IsSound}
-use Rattle.topology_fit.proofs.Machines.{IsSetupOf, setup_found, setups_counted, symbols_counted, symbols_found}
+use Rattle.topology_fit.proofs.ByNumber.{IsSetupOf, setup_found, setups_counted, symbols_counted, symbols_found}
 use Rattle.topology_fit.proofs.Numbers.{ranges_counted, ranges_numbered}
 use Rattle.topology_fit.proofs.Paths.{own_paths_none, rows_shaped, rows_small}
 use Rattle.topology_fit.proofs.Places.{all_at, all_from_gets, if_some, ranged_at, some_and}
@@ -111,7 +111,7 @@ module _ (trees : List Tree) (t : Topology) (said : List Statement) (laws : AreL
       (record {
         all_rows = length-map (members_from 0 t.counts) (λ (c : Member). receiving_of (symbols_of trees) c.machine) ∙ length_of_members 0 t.counts;
         all_items = All-map (λ (row : List (Option ℕ)). length row ≡ 16) (λ (c : Member). receiving_of (symbols_of trees) c.machine) (members_from 0 t.counts)
-            (λ k d lt. length-map-range_with_len (receiving_at (symbols_of trees) _) 0 16);
+            (λ k d lt. length-map-range_with_len (receiving_at (symbols_of trees) (get_or (members_from 0 t.counts) k d).machine) 0 16);
       })
 
   typed : (k : ℕ) (x : MachineSetup) → IsSetupOf trees t.sizes k x → All (HasTypeOf trees) x.buffers

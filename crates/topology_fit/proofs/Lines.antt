@@ -322,11 +322,11 @@ read_known symbols number said [] all known e = subst (AreKnown symbols) (all_is
     all_is : (a b : List Statement) → ◌≡◌ {A = Reading} (Ok a) (Ok b) → a ≡ b
     all_is a b e = cc e
 read_known symbols number said (line ∷ lines) all known e =
-    after (with_line symbols said line) (line_known symbols said line known) e
+    after (λ more. read_known symbols (number + 1) more lines all) (with_line symbols said line) (line_known symbols said line known) e
   where
-    after : (r : Result (List Statement) ℕ) → IfOk r (AreKnown symbols) → ◌≡◌ {A = Reading} (elim r [ | Ok more ↦ read_from symbols (number + 1) more lines | Err rule ↦ Err (rule, number) ]) (Ok all) → AreKnown symbols all
-    after (Ok more) h e = read_known symbols (number + 1) more lines all h e
-    after (Err rule) h e = absurd (cc e)
+    after : ((more : List Statement) → AreKnown symbols more → read_from symbols (number + 1) more lines ≡ Ok all → AreKnown symbols all) → (r : Result (List Statement) ℕ) → IfOk r (AreKnown symbols) → ◌≡◌ {A = Reading} (elim r [ | Ok more ↦ read_from symbols (number + 1) more lines | Err rule ↦ Err (rule, number) ]) (Ok all) → AreKnown symbols all
+    after later (Ok more) h e = later more h e
+    after later (Err rule) h e = absurd (cc e)
 
 pub all_known : (symbols : Symbols) (lines : List (List ℕ)) (said : List Statement) → reading symbols lines ≡ Ok said → AreKnown symbols said
 all_known symbols lines said e =

@@ -32,10 +32,10 @@ ranges_numbered first (count ∷ counts) some =
 
 members_counted : (machine count : ℕ) → length (members_of machine count) ≡ count
 members_counted machine count =
-    length-map (range_with_len 0 count) (λ index. record { machine = machine; index = index }) ∙ length-range_with_len 0 count
+    length-map {B = Member} (range_with_len 0 count) (λ index. record { machine = machine; index = index }) ∙ length-range_with_len 0 count
 
 member_at : (machine count n : ℕ) → n < count → slice_get (members_of machine count) n ≡ Some (record { machine = machine; index = n })
-member_at machine count n lt = ranged_at (λ index. record { machine = machine; index = index }) count n lt
+member_at machine count n lt = ranged_at {B = Member} (λ index. record { machine = machine; index = index }) count n lt
 
 inside : (first count n : ℕ) → n < count → is_in_range (first + n) (first, count) ≡ true
 inside first count n lt =

@@ -1,12 +1,13 @@
 -- What is found in a list, and where.
-use Rattle.std.proofs.Common.{◌≡◌, ◌<◌, ◌≤◌, ◌+◌, ◌∙◌, ℕ, zero, suc, Bool, true, false, cond, ltb, Option, None, Some, List, [], ◌∷◌, ◌++◌, ap, refl, sym, subst, arith, true≢false, length, get_or, map, lt-ltb, option_and_then}
+use Rattle.std.proofs.Common.{◌≡◌, ◌<◌, ◌≤◌, ◌+◌, ◌∙◌, ℕ, zero, suc, Bool, true, false, cond, ltb, Option, None, Some, List, [], ◌∷◌, ◌++◌, ◌||◌, ap, refl, sym, subst, arith, true≢false, length, get_or, map, lt-ltb, option_and_then}
 use Rattle.std.specs.Prelude.{AllPairs, IfSome, IsSomeAnd, count_by, position, slice_get}
-use Rattle.std.specs.List.{All, cons_option, enumerate_from, filter_map, position_or_len, range_with_len}
+use Rattle.std.specs.List.{All, cons_option, enumerate_from, filter_map, list_any, position_or_len, range_with_len}
 use Rattle.std.specs.Option.{option_map}
 use Rattle.std.proofs.lemmas.Bool.{false_from_ne_true}
 use Rattle.std.proofs.lemmas.List.{length-map}
 use Rattle.std.proofs.lemmas.List.Elements.{All-cons, All-head, All-nil, All-tail}
 use Rattle.std.proofs.lemmas.List.Kept.{AllPairs-cons}
+use Rattle.std.proofs.lemmas.List.Folds.{list_any_at}
 use Rattle.std.proofs.lemmas.List.FromFn.{length-range_with_len, get_or-range_with_len}
 use Rattle.std.proofs.lemmas.List.Quantifiers.{position-Some}
 use Rattle.std.proofs.lemmas.List.Sums.{position_or_len_is, sum_by-cons}
@@ -26,15 +27,15 @@ map_found f (Some x) y e = let same : f x ≡ y = cc e in (x, refl, same)
 pub mapped_at : {A B : Type 0} (f : A → B) (xs : List A) (k : ℕ) (x : A) → slice_get xs k ≡ Some x → slice_get (map f xs) k ≡ Some (f x)
 mapped_at f xs k x at = slice_get-map f xs k ∙ ap (option_map f) at
 
-pub counted_at : (f : ℕ → ℕ) (n k : ℕ) → k < n → slice_get (range_with_len 0 n) k ≡ Some k
-counted_at f n k lt =
+counted_at : (n k : ℕ) → k < n → slice_get (range_with_len 0 n) k ≡ Some k
+counted_at n k lt =
     let long : length (range_with_len 0 n) ≡ n = length-range_with_len 0 n in
     let item : get_or (range_with_len 0 n) k 0 ≡ 0 + k = get_or-range_with_len 0 n k 0 lt in
     let same : get_or (range_with_len 0 n) k 0 ≡ k = omega arith in
     slice_get-get_or (range_with_len 0 n) k 0 (omega arith) ∙ ap Some same
 
 pub ranged_at : {B : Type 0} (f : ℕ → B) (n k : ℕ) → k < n → slice_get (map f (range_with_len 0 n)) k ≡ Some (f k)
-ranged_at f n k lt = mapped_at f (range_with_len 0 n) k k (counted_at (λ j. j) n k lt)
+ranged_at f n k lt = mapped_at f (range_with_len 0 n) k k (counted_at n k lt)
 
 -- The first that passes a test.
 
@@ -115,6 +116,18 @@ position_next {X} p x xs k e found =
     earlier : (y : X) → ((j : ℕ) → j < k → p (get_or xs j y) ≡ false) → (j : ℕ) → j < suc k → p (get_or (x ∷ xs) j y) ≡ false
     earlier y before zero lt = e
     earlier y before (suc j) lt = before j (omega arith)
+
+pub any_position : {X : Type 0} (p : X → Bool) (xs : List X) → list_any p xs ≡ true → (k : ℕ) × (position p xs ≡ Some k)
+any_position p [] e = absurd (cc e)
+any_position {X} p (x ∷ xs) e = by_test (any_position p xs) (p x) refl e
+  where
+    by_test : (list_any p xs ≡ true → (k : ℕ) × (position p xs ≡ Some k)) → (b : Bool) → p x ≡ b → (b || list_any p xs) ≡ true → (k : ℕ) × (position p (x ∷ xs) ≡ Some k)
+    by_test later true is h = (0, position_first p x xs is)
+    by_test later false is h = let rest = later h in (suc rest.0, position_next p x xs rest.0 is rest.1)
+
+pub any_get : {X : Type 0} (p : X → Bool) (xs : List X) (k : ℕ) (x : X) → slice_get xs k ≡ Some x → p x ≡ true → list_any p xs ≡ true
+any_get p xs k x at e =
+    list_any_at p xs k x (slice_get_within xs k x at) (ap p (get_or_from_slice_get xs k x x at) ∙ e)
 
 -- Lists one after the other.
 

@@ -123,13 +123,13 @@ ports_ask_right trees e =
 
 found_has : {X : Type 0} (P : X → Type 0) (test : X → Bool) (xs : List X) (x : X) → All P xs → find test xs ≡ Some x → P x × (test x ≡ true)
 found_has P test [] x all e = absurd (cc e)
-found_has {X} P test (y ∷ xs) x all e = by_test (test y) refl e
+found_has {X} P test (y ∷ xs) x all e = by_test (found_has P test xs x (All-tail P y xs all)) (test y) refl e
   where
     same_item : (a b : X) → Some a ≡ Some b → a ≡ b
     same_item a b e = cc e
-    by_test : (b : Bool) → test y ≡ b → cond b (Some y) (find test xs) ≡ Some x → P x × (test x ≡ true)
-    by_test true passes e = subst (λ z. P z × (test z ≡ true)) (same_item y x e) (All-head P y xs all, passes)
-    by_test false fails e = found_has P test xs x (All-tail P y xs all) e
+    by_test : (find test xs ≡ Some x → P x × (test x ≡ true)) → (b : Bool) → test y ≡ b → cond b (Some y) (find test xs) ≡ Some x → P x × (test x ≡ true)
+    by_test later true passes e = subst (λ z. P z × (test z ≡ true)) (same_item y x e) (All-head P y xs all, passes)
+    by_test later false fails e = later e
 
 own_request : (trees : List Tree) (number : ℕ) (m : Machine) (b : BufferIn) → slice_get (machines_of trees) number ≡ Some m → All (λ (p : PortOn). (n : Machine) → slice_get (machines_of trees) p.machine ≡ Some n → is_no_request trees n p ≡ false) (all_ports trees) → has_sequencer trees m ≡ true → is_mandatory b ≡ true → own_type trees number b ≡ Some (built_in Request)
 own_request trees number m b at right has named = by_port (find (is_on number b) (all_ports trees)) refl
@@ -199,11 +199,11 @@ one_sequencer trees m _ text e = absurd (cc e)
 
 any_sequencer : (trees : List Tree) (m : Machine) (ds : List Declaration) → is_some (slice_get (filter_map (sequencer_in trees m) ds) 0) ≡ true → list_any (is_sequencer trees m) ds ≡ true
 any_sequencer trees m [] e = absurd (cc e)
-any_sequencer trees m (d ∷ ds) e = by_first (sequencer_in trees m d) refl e
+any_sequencer trees m (d ∷ ds) e = by_first (any_sequencer trees m ds) (sequencer_in trees m d) refl e
   where
-    by_first : (o : Option (List ℕ)) → sequencer_in trees m d ≡ o → is_some (slice_get (cons_option o (filter_map (sequencer_in trees m) ds)) 0) ≡ true → (is_sequencer trees m d || list_any (is_sequencer trees m) ds) ≡ true
-    by_first None is h = or_right (is_sequencer trees m d) (list_any (is_sequencer trees m) ds) (any_sequencer trees m ds h)
-    by_first (Some text) is h = or_left (is_sequencer trees m d) (list_any (is_sequencer trees m) ds) (one_sequencer trees m d text is)
+    by_first : (is_some (slice_get (filter_map (sequencer_in trees m) ds) 0) ≡ true → list_any (is_sequencer trees m) ds ≡ true) → (o : Option (List ℕ)) → sequencer_in trees m d ≡ o → is_some (slice_get (cons_option o (filter_map (sequencer_in trees m) ds)) 0) ≡ true → (is_sequencer trees m d || list_any (is_sequencer trees m) ds) ≡ true
+    by_first later None is h = or_right (is_sequencer trees m d) (list_any (is_sequencer trees m) ds) (later h)
+    by_first later (Some text) is h = or_left (is_sequencer trees m d) (list_any (is_sequencer trees m) ds) (one_sequencer trees m d text is)
 
 pub has_its_sequencer : (trees : List Tree) (number : ℕ) (m : Machine) → is_some (machine_symbols trees number m).sequencer ≡ true → has_sequencer trees m ≡ true
 unfolding machine_symbols

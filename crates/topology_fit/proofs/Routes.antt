@@ -34,13 +34,9 @@ use Rattle.ruby_topology.specs.declared.statement.Statement.{Statement}
 use Rattle.ruby_topology.specs.Said.{is_ordered_said}
 use Rattle.ruby_topology.specs.Topology.{calls_ordered, has_ordered, is_from, is_on, is_ordered_on, members_from, ranges_from, receiving_at, receiving_of}
 use Rattle.topology_fit.proofs.Buffers.{buffers_paired, from_is, is_from_it, on_it, setup_of_symbol, symbol_of}
-use Rattle.topology_fit.proofs.Machines.{symbols_found}
+use Rattle.topology_fit.proofs.ByNumber.{symbols_found}
 use Rattle.topology_fit.proofs.Numbers.{member_in_range}
-use Rattle.topology_fit.proofs.Places.{all_at, all_from_gets, and_then_found, at_number, if_some, number_is, only_position, mapped_at, ranged_at}
-
-any_get : {X : Type 0} (p : X → Bool) (xs : List X) (k : ℕ) (x : X) → slice_get xs k ≡ Some x → p x ≡ true → list_any p xs ≡ true
-any_get p xs k x at e =
-    list_any_at p xs k x (slice_get_within xs k x at) (ap p (get_or_from_slice_get xs k x x at) ∙ e)
+use Rattle.topology_fit.proofs.Places.{all_at, all_from_gets, and_then_found, any_get, at_number, if_some, number_is, only_position, mapped_at, ranged_at}
 
 -- Which networks keep order.
 

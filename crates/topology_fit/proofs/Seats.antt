@@ -32,7 +32,7 @@ use Rattle.topology_fit.specs.FitsPlan.{AtSetup, ComesBefore, IsSeat}
 use Rattle.topology_fit.specs.Seats.{queue_of, seat_setup}
 use Rattle.topology_fit.specs.Setups.{ranges_of, setups_of}
 use Rattle.topology_fit.proofs.Buffers.{buffers_paired, setup_of_symbol}
-use Rattle.topology_fit.proofs.Machines.{machine_found, setup_there}
+use Rattle.topology_fit.proofs.ByNumber.{machine_found, setup_there}
 use Rattle.topology_fit.proofs.Numbers.{located}
 use Rattle.topology_fit.proofs.Places.{at_number, pairs_picked, picked, some_and}
 use Rattle.topology_fit.proofs.Queues.{has_its_sequencer, takes_requests_of}
@@ -101,6 +101,18 @@ asked_is symbols k e = by_machine (slice_get symbols.machines k) refl e
         let queue = some_is (mandatory m) parts.1 in
         record { m = m; is_m = is; has = parts.0; queue = queue.0; is_queue = queue.1 }
 
+module _ (trees : List Tree) (t : Topology) where
+  pub queue_is : (controller k queue : ℕ) (x : MachineSymbols) → machine_of (ranges_of t) controller ≡ Some k → slice_get (symbols_of trees).machines k ≡ Some x → mandatory x ≡ Some queue → queue_of (symbols_of trees) (ranges_of t) controller ≡ Some queue
+  queue_is controller k queue x located at is =
+      ap (λ o. option_and_then mandatory (option_and_then (slice_get (symbols_of trees).machines) o)) located
+      ∙ ap (option_and_then mandatory) at ∙ is
+
+module _ (trees : List Tree) (t : Topology) (many : length t.sizes ≡ length (machines_of trees)) where
+  pub at_setup : (controller k : ℕ) (m : Machine) (own : Sizes) (P : MachineSetup → Type 0) → machine_of (ranges_of t) controller ≡ Some k → slice_get (machines_of trees) k ≡ Some m → slice_get t.sizes k ≡ Some own → P (setup_in trees k own m) → AtSetup trees t controller P
+  at_setup controller k m own P located at is_own h =
+      some_and P (option_and_then (λ machine. slice_get (setups_of trees t.sizes) machine) (machine_of (ranges_of t) controller)) (setup_in trees k own m)
+      (ap (option_and_then (λ machine. slice_get (setups_of trees t.sizes) machine)) located ∙ setup_there trees t.sizes k m own many at is_own) h
+
 module _ (trees : List Tree) (t : Topology) (kept : wrong_networks trees ≡ []) (many : length t.sizes ≡ length (machines_of trees)) where
   -- the queue of a machine takes requests where the machine has a sequencer
   queue_there : (k : ℕ) (m : Machine) (own : Sizes) (queue : ℕ) → slice_get (machines_of trees) k ≡ Some m → has_sequencer trees m ≡ true → mandatory (machine_symbols trees k m) ≡ Some queue → HasQueue queue (setup_in trees k own m)
@@ -109,16 +121,6 @@ module _ (trees : List Tree) (t : Topology) (kept : wrong_networks trees ≡ [])
       let setup = setup_of_symbol trees k (setup_in trees k own m).buffers (machine_symbols trees k m).buffers queue found.0 (buffers_paired trees k own m) found.1 in
       some_and TakesRequests (slice_get (setup_in trees k own m).buffers queue) setup.setup setup.at
       (takes_requests_of trees k m setup.setup found.0 kept at has setup.pair found.2)
-
-  pub at_setup : (controller k : ℕ) (m : Machine) (own : Sizes) (P : MachineSetup → Type 0) → machine_of (ranges_of t) controller ≡ Some k → slice_get (machines_of trees) k ≡ Some m → slice_get t.sizes k ≡ Some own → P (setup_in trees k own m) → AtSetup trees t controller P
-  at_setup controller k m own P located at is_own h =
-      some_and P (option_and_then (λ machine. slice_get (setups_of trees t.sizes) machine) (machine_of (ranges_of t) controller)) (setup_in trees k own m)
-      (ap (option_and_then (λ machine. slice_get (setups_of trees t.sizes) machine)) located ∙ setup_there trees t.sizes k m own many at is_own) h
-
-  pub queue_is : (controller k queue : ℕ) (x : MachineSymbols) → machine_of (ranges_of t) controller ≡ Some k → slice_get (symbols_of trees).machines k ≡ Some x → mandatory x ≡ Some queue → queue_of (symbols_of trees) (ranges_of t) controller ≡ Some queue
-  queue_is controller k queue x located at is =
-      ap (λ o. option_and_then mandatory (option_and_then (slice_get (symbols_of trees).machines) o)) located
-      ∙ ap (option_and_then mandatory) at ∙ is
 
   one_seat : ((k : ℕ) → k < length (machines_of trees) → (own : Sizes) × (slice_get t.sizes k ≡ Some own)) → (e : ℕ × Member) (x : Seat) → slice_get (members_from 0 t.counts) e.0 ≡ Some e.1 → seat_of (symbols_of trees) e ≡ Some x → IsSeat trees t (seat_setup (symbols_of trees) (ranges_of t) x)
   one_seat sized e x at is =
@@ -134,9 +136,9 @@ module _ (trees : List Tree) (t : Topology) (kept : wrong_networks trees ≡ [])
       let has : has_sequencer trees machine.tree ≡ true = has_its_sequencer trees place.place machine.tree (ap (λ (y : MachineSymbols). is_some y.sequencer) machine.symbols ∙ asked.has) in
       let queue = queue_there place.place machine.tree own.0 asked.queue machine.at has (ap mandatory machine.symbols ∙ asked.is_queue) in
       let same : asked.queue ≡ unwrap_or (queue_of (symbols_of trees) (ranges_of t) e.0) 0 =
-      sym (ap (λ o. unwrap_or o 0) (queue_is e.0 place.place asked.queue asked.m found asked.is_m asked.is_queue)) in
+      sym (ap (λ o. unwrap_or o 0) (queue_is trees t e.0 place.place asked.queue asked.m found asked.is_m asked.is_queue)) in
       subst (λ (s : Seat). IsSeat trees t (seat_setup (symbols_of trees) (ranges_of t) s)) seat.1
-      (at_setup e.0 place.place machine.tree own.0
+      (at_setup trees t many e.0 place.place machine.tree own.0
       (λ m. HasQueue (unwrap_or (queue_of (symbols_of trees) (ranges_of t) e.0) 0) m × (true ≡ true → m.has_sequencer ≡ true)) found machine.at own.1
       (subst (λ q. HasQueue q (setup_in trees place.place own.0 machine.tree)) same queue, λ yes. has))
 

@@ -30,33 +30,33 @@ filtered_short p (x ∷ s) = by_test (p x) (filtered_short p s)
 
 shorter_without : (c : ℕ) (s : List ℕ) → is_in c s ≡ true → length (without c s) < length s
 shorter_without c [] e = absurd (cc e)
-shorter_without c (x ∷ s) e = by_test (eqb x c) e
+shorter_without c (x ∷ s) e = by_test (shorter_without c s) (eqb x c) e
   where
-    by_test : (b : Bool) → (b || is_in c s) ≡ true → length (cond (not b) (x ∷ without c s) (without c s)) < length (x ∷ s)
-    by_test true h = omega (arith, filtered_short (λ u. not (eqb u c)) s)
-    by_test false h = omega (arith, shorter_without c s h)
+    by_test : (is_in c s ≡ true → length (without c s) < length s) → (b : Bool) → (b || is_in c s) ≡ true → length (cond (not b) (x ∷ without c s) (without c s)) < length (x ∷ s)
+    by_test later true h = let short = filtered_short (λ u. not (eqb u c)) s in omega (arith, short)
+    by_test later false h = let short = later h in omega (arith, short)
 
 in_without : (v c : ℕ) (s : List ℕ) → v ≢ c → is_in v s ≡ true → is_in v (without c s) ≡ true
 in_without v c [] other e = absurd (cc e)
-in_without v c (x ∷ s) other e = by_tests (eqb x v) (eqb x c) refl refl e
+in_without v c (x ∷ s) other e = by_tests (in_without v c s other) (eqb x v) (eqb x c) refl refl e
   where
-    by_tests : (a b : Bool) → eqb x v ≡ a → eqb x c ≡ b → (a || is_in v s) ≡ true → is_in v (cond (not b) (x ∷ without c s) (without c s)) ≡ true
-    by_tests true true is_v is_c h =
+    by_tests : (is_in v s ≡ true → is_in v (without c s) ≡ true) → (a b : Bool) → eqb x v ≡ a → eqb x c ≡ b → (a || is_in v s) ≡ true → is_in v (cond (not b) (x ∷ without c s) (without c s)) ≡ true
+    by_tests later true true is_v is_c h =
         absurd (other (sym (eqb-true x v is_v) ∙ eqb-true x c is_c))
-    by_tests true false is_v is_c h = or_left (eqb x v) (is_in v (without c s)) is_v
-    by_tests false true is_v is_c h = in_without v c s other h
-    by_tests false false is_v is_c h = or_right (eqb x v) (is_in v (without c s)) (in_without v c s other h)
+    by_tests later true false is_v is_c h = or_left (eqb x v) (is_in v (without c s)) is_v
+    by_tests later false true is_v is_c h = later h
+    by_tests later false false is_v is_c h = or_right (eqb x v) (is_in v (without c s)) (later h)
 
 in_more : (v c : ℕ) (s : List ℕ) → is_in v (without c s) ≡ true → is_in v s ≡ true
 in_more v c [] e = e
-in_more v c (x ∷ s) e = by_test (eqb x c) e
+in_more v c (x ∷ s) e = by_test (in_more v c s) (eqb x c) e
   where
-    either : (a b b' : Bool) → (b ≡ true → b' ≡ true) → (a || b) ≡ true → (a || b') ≡ true
-    either true b b' h e = refl
-    either false b b' h e = h e
-    by_test : (b : Bool) → is_in v (cond (not b) (x ∷ without c s) (without c s)) ≡ true → is_in v (x ∷ s) ≡ true
-    by_test true h = or_right (eqb x v) (is_in v s) (in_more v c s h)
-    by_test false h = either (eqb x v) (is_in v (without c s)) (is_in v s) (in_more v c s) h
+    either : (a b d : Bool) → (b ≡ true → d ≡ true) → (a || b) ≡ true → (a || d) ≡ true
+    either true b d h e = refl
+    either false b d h e = h e
+    by_test : (is_in v (without c s) ≡ true → is_in v s ≡ true) → (b : Bool) → is_in v (cond (not b) (x ∷ without c s) (without c s)) ≡ true → is_in v (x ∷ s) ≡ true
+    by_test later true h = or_right (eqb x v) (is_in v s) (later h)
+    by_test later false h = either (eqb x v) (is_in v (without c s)) (is_in v s) later h
 
 -- Ways that come only to controllers of a list.
 

@@ -1,11 +1,10 @@
-//! Reads the topologies of a list, each for one of three small protocols, and prints what each says or which rule it breaks at
-//! which line. The topologies are the lines of the file `topologies` in the folder that it is run in, and their answers stand in
-//! `stdout`: the faults as they were worked out by hand, and the rest as a second implementation gave it, which is
-//! `bench/topology-rows`.
+//! Reads the topologies of a list, each for one of a few small protocols, and prints what each says or which rule it breaks at
+//! which line. The topologies are the lines of the file `topologies` in the folder that it is run in, where the protocols are, and
+//! their answers stand in `stdout`: the faults as they were worked out by hand, and the rest as a second implementation gave it,
+//! which is `bench/topology-rows`.
 #![tactic(auto)]
 
 mod answer;
-mod protocols;
 mod table;
 
 use ruby_outside::{FileLibrary, Got, Library, StdSink};
@@ -23,10 +22,10 @@ fn main(rt: HostRuntime) -> ExitCode {
     let Got::Bytes(list) = library.read(TOPOLOGIES, TOPOLOGIES_LIMIT) else {
         return ExitCode::FAILURE;
     };
-    let Ok(list) = str::from_utf8(list.as_slice()) else {
+    let Ok(rows) = str::from_utf8(list.as_slice()) else {
         return ExitCode::FAILURE;
     };
-    match write_rows(rt.alloc(), list, &mut sink) {
+    match write_rows(rt.alloc(), &mut library, rows, &mut sink) {
         Ok(true) => ExitCode::SUCCESS,
         _ => ExitCode::FAILURE,
     }

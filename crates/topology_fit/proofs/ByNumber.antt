@@ -1,5 +1,5 @@
 -- The machines of a protocol: as trees, as symbols, and as what they are to their controllers, by one number.
-use Rattle.std.proofs.Common.{◌≡◌, ◌<◌, ◌≤◌, ◌+◌, ◌∙◌, ℕ, zero, suc, Option, None, Some, List, [], ◌∷◌, ap, refl, sym, subst, arith, length, option_and_then}
+use Rattle.std.proofs.Common.{◌≡◌, ◌<◌, ◌≤◌, ◌+◌, ◌∙◌, ℕ, zero, suc, Option, None, Some, List, [], ◌∷◌, ap, refl, sym, subst, arith, get_or, length, option_and_then}
 use Rattle.std.specs.Prelude.{slice_get}
 use Rattle.std.specs.List.{All, enumerate_from, filter_map}
 use Rattle.std.specs.Option.{option_map}
@@ -58,7 +58,7 @@ symbols_found trees k m at = symbols_at trees k ∙ ap (option_map (machine_symb
 
 some_at : {X : Type 0} (xs : List X) (k : ℕ) → k < length xs → (x : X) × (slice_get xs k ≡ Some x)
 some_at [] k lt = absurd (omega arith)
-some_at (x ∷ xs) k lt = (_, slice_get-get_or (x ∷ xs) k x lt)
+some_at (x ∷ xs) k lt = (get_or (x ∷ xs) k x, slice_get-get_or (x ∷ xs) k x lt)
 
 setups_there : (trees : List Tree) (sizes : List Sizes) → length sizes ≡ length (machines_of trees) → AreThere (setup_of trees) 0 sizes
 setups_there trees sizes many k s at =
