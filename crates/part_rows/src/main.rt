@@ -5,6 +5,7 @@
 #![tactic(auto)]
 
 mod calls;
+mod protocols;
 mod symbols;
 mod tester;
 mod topologies;

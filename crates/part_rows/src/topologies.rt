@@ -1,8 +1,7 @@
-// Reads the topologies of a list, each for one of three small protocols, and prints what each says or which rule it breaks at
-// which line. The topologies are the lines of the file `rows` in the folder `topologies`. What is expected of the faults was worked
-// out by hand, and of the rest a second implementation gave it, which is `bench/topology-rows`.
+// Reads the topologies of a list, each for one of a few small protocols, and prints what each says or which rule it breaks at
+// which line. The topologies are the lines of the file `rows` in the folder `topologies`, where the protocols are. What is expected of
+// the faults was worked out by hand, and of the rest a second implementation gave it, which is `bench/topology-rows`.
 mod answer;
-mod protocols;
 mod table;
 
 use ruby_outside::{FileLibrary, Got, Library, StdSink};
@@ -20,10 +19,10 @@ pub(crate) fn print(rt: &HostRuntime) -> bool {
     let Got::Bytes(list) = library.read(ROWS, ROWS_LIMIT) else {
         return false;
     };
-    let Ok(list) = str::from_utf8(list.as_slice()) else {
+    let Ok(rows) = str::from_utf8(list.as_slice()) else {
         return false;
     };
-    match write_rows(rt.alloc(), list, &mut sink) {
+    match write_rows(rt.alloc(), &mut library, rows, &mut sink) {
         Ok(whole) => whole,
         Err(_) => false,
     }

@@ -6,42 +6,59 @@ use std::alloc::Global;
 // More controllers than these have their paths printed as a sum and a number that tells two tables apart.
 const FEW: usize = 4;
 
-fn add_number(alloc: Global, text: &mut Text, before: &str, number: u64) -> Result<(), NoMemory> {
-    let digits = format!(in alloc; "{before}{number}")?;
-    text.append(digits.as_bytes())
+/// A line that is made piece by piece. Where memory runs out it loses the piece, and is no longer whole.
+struct Line {
+    alloc: Global,
+    text: Text,
+    whole: bool,
 }
 
-fn add_counts(alloc: Global, text: &mut Text, counts: &[u32]) -> Result<(), NoMemory> {
-    text.append(b"counts")?;
-    for count in counts {
-        add_number(alloc, text, " ", u64::from(*count))?;
+impl Line {
+    fn new(alloc: Global) -> Line {
+        Line {
+            alloc,
+            text: Text::new(alloc),
+            whole: true,
+        }
     }
-    Ok(())
+
+    fn add(&mut self, word: &str) {
+        if self.text.append(word.as_bytes()).is_err() {
+            self.whole = false;
+        }
+    }
+
+    fn add_number(&mut self, before: &str, number: u64) {
+        match format!(in self.alloc; "{before}{number}") {
+            Ok(digits) => self.add(digits.as_str()),
+            Err(_) => self.whole = false,
+        }
+    }
+
+    /// The text, if none of it was lost.
+    fn text(self) -> Result<Text, NoMemory> {
+        if self.whole { Ok(self.text) } else { Err(NoMemory) }
+    }
 }
 
-fn add_names(text: &mut Text, names: &[Text]) -> Result<(), NoMemory> {
-    text.append(b"; names")?;
+fn add_names(line: &mut Line, names: &[Text]) {
+    line.add("; names");
     for name in names {
-        text.append(b" ")?;
-        text.append(name.as_slice())?;
+        line.add(" ");
+        if line.text.append(name.as_slice()).is_err() {
+            line.whole = false;
+        }
     }
-    Ok(())
 }
 
-fn add_row(alloc: Global, text: &mut Text, row: &[u64]) -> Result<(), NoMemory> {
-    text.append(b" /")?;
-    for path in row {
-        add_number(alloc, text, " ", *path)?;
-    }
-    Ok(())
-}
-
-fn add_paths(alloc: Global, text: &mut Text, paths: &[Seq<u64>]) -> Result<(), NoMemory> {
-    text.append(b"; paths")?;
+fn add_paths(line: &mut Line, paths: &[Seq<u64>]) {
+    line.add("; paths");
     for row in paths {
-        add_row(alloc, text, row.as_slice())?;
+        line.add(" /");
+        for path in row {
+            line.add_number(" ", *path);
+        }
     }
-    Ok(())
 }
 
 // The sum of paths, and a number from all of them in their order.
@@ -53,116 +70,106 @@ fn mixed(row: &[u64], mut all: (u64, u64)) -> (u64, u64) {
     all
 }
 
-fn add_sums(alloc: Global, text: &mut Text, paths: &[Seq<u64>]) -> Result<(), NoMemory> {
+fn add_sums(line: &mut Line, paths: &[Seq<u64>]) {
     let mut all = (0, 0);
     for row in paths {
         all = mixed(row.as_slice(), all);
     }
-    add_number(alloc, text, "; sum ", all.0)?;
-    add_number(alloc, text, " mixed ", all.1)
+    line.add_number("; sum ", all.0);
+    line.add_number(" mixed ", all.1);
 }
 
-fn add_ordered(alloc: Global, text: &mut Text, ordered: &[bool]) -> Result<(), NoMemory> {
-    text.append(b"; ordered")?;
-    for (network, keeps) in ordered.iter().enumerate() {
-        if *keeps {
-            add_number(alloc, text, " ", network as u64)?;
-        }
-    }
-    Ok(())
-}
-
-fn add_receivers(
-    alloc: Global,
-    text: &mut Text,
-    controller: usize,
-    buffers: &[Option<u16>],
-) -> Result<(), NoMemory> {
+fn add_receivers(line: &mut Line, controller: usize, buffers: &[Option<u16>]) {
     for (network, buffer) in buffers.iter().enumerate() {
         if let Some(number) = buffer {
-            add_number(alloc, text, " ", controller as u64)?;
-            add_number(alloc, text, ".", network as u64)?;
-            add_number(alloc, text, ".", u64::from(*number))?;
+            line.add_number(" ", controller as u64);
+            line.add_number(".", network as u64);
+            line.add_number(".", u64::from(*number));
         }
     }
-    Ok(())
 }
 
-fn add_routes(alloc: Global, text: &mut Text, routes: &Routes) -> Result<(), NoMemory> {
+fn add_routes(line: &mut Line, routes: &Routes) {
     if routes.paths.len() <= FEW {
-        add_paths(alloc, text, &routes.paths)?;
+        add_paths(line, &routes.paths);
     } else {
-        add_sums(alloc, text, &routes.paths)?;
+        add_sums(line, &routes.paths);
     }
-    add_number(alloc, text, "; jitter ", routes.jitter)?;
-    add_ordered(alloc, text, &routes.ordered)?;
-    text.append(b"; receiving")?;
-    if routes.paths.len() <= FEW {
-        for (controller, buffers) in routes.receiving.iter().enumerate() {
-            add_receivers(alloc, text, controller, buffers.as_slice())?;
+    line.add_number("; jitter ", routes.jitter);
+    line.add("; ordered");
+    for (network, keeps) in routes.ordered.iter().enumerate() {
+        if *keeps {
+            line.add_number(" ", network as u64);
         }
     }
-    Ok(())
+    line.add("; receiving");
+    for (controller, buffers) in routes.receiving.iter().enumerate() {
+        if routes.paths.len() <= FEW {
+            add_receivers(line, controller, buffers.as_slice());
+        }
+    }
 }
 
-fn add_sizes(alloc: Global, text: &mut Text, sizes: &Sizes) -> Result<(), NoMemory> {
-    text.append(b"; sizes")?;
+fn add_sizes(line: &mut Line, sizes: &Sizes) {
+    line.add("; sizes");
     for (first, count) in &sizes.machines {
-        add_number(alloc, text, " ", u64::from(*first))?;
-        add_number(alloc, text, "+", u64::from(*count))?;
+        line.add_number(" ", u64::from(*first));
+        line.add_number("+", u64::from(*count));
     }
     for (table, sets, ways) in &sizes.caches {
-        add_number(alloc, text, " cache ", u64::from(*table))?;
-        add_number(alloc, text, " ", u64::from(*sets))?;
-        add_number(alloc, text, " ", u64::from(*ways))?;
+        line.add_number(" cache ", u64::from(*table));
+        line.add_number(" ", u64::from(*sets));
+        line.add_number(" ", u64::from(*ways));
     }
     for (table, entries) in &sizes.tbes {
-        add_number(alloc, text, " tbes ", u64::from(*table))?;
-        add_number(alloc, text, " ", u64::from(*entries))?;
+        line.add_number(" tbes ", u64::from(*table));
+        line.add_number(" ", u64::from(*entries));
     }
     for (value, number) in &sizes.parameters {
-        add_number(alloc, text, " set ", u64::from(*value))?;
-        let digits = format!(in alloc; " {number}")?;
-        text.append(digits.as_bytes())?;
+        line.add_number(" set ", u64::from(*value));
+        line.add_number(" ", number.unsigned_abs());
     }
-    Ok(())
 }
 
-fn add_seats(alloc: Global, text: &mut Text, seats: &[Seat]) -> Result<(), NoMemory> {
-    text.append(b"; seats")?;
+fn add_seats(line: &mut Line, seats: &[Seat]) {
+    line.add("; seats");
     for seat in seats {
-        add_number(alloc, text, " ", u64::from(seat.controller))?;
+        line.add_number(" ", u64::from(seat.controller));
         if !seat.sequencer {
-            text.append(b" without")?;
+            line.add(" without");
         }
     }
-    Ok(())
 }
 
-fn add_topology(alloc: Global, text: &mut Text, topology: &Topology) -> Result<(), NoMemory> {
-    add_counts(alloc, text, &topology.counts)?;
+fn add_topology(line: &mut Line, topology: &Topology) {
+    line.add("counts");
+    for count in &topology.counts {
+        line.add_number(" ", u64::from(*count));
+    }
     if topology.names().len() <= FEW {
-        add_names(text, topology.names().as_slice())?;
+        add_names(line, topology.names().as_slice());
     }
-    add_routes(alloc, text, &topology.routes)?;
+    add_routes(line, &topology.routes);
     for sizes in &topology.sizes {
-        add_sizes(alloc, text, sizes)?;
+        add_sizes(line, sizes);
     }
-    add_seats(alloc, text, &topology.seats)
+    add_seats(line, &topology.seats);
 }
 
-/// Adds what is printed of an answer: a topology's parts, or the line and the rule that it breaks.
-pub(crate) fn add_answer(
+/// What is printed of an answer: a topology's parts, or the line and the rule that it breaks.
+pub(crate) fn answer_line(
     alloc: Global,
-    text: &mut Text,
     answer: Result<Topology, TopoFault>,
-) -> Result<(), NoMemory> {
+) -> Result<Text, NoMemory> {
+    let mut line = Line::new(alloc);
     match answer {
-        Ok(topology) => add_topology(alloc, text, &topology),
-        Err(TopoFault::NoMemory) => Err(NoMemory),
-        Err(TopoFault::Line { rule, line }) => {
-            add_number(alloc, text, "", u64::from(line))?;
-            add_number(alloc, text, " T", u64::from(rule))
+        Ok(topology) => add_topology(&mut line, &topology),
+        Err(TopoFault::NoMemory) => return Err(NoMemory),
+        Err(TopoFault::Line { rule, line: number }) => {
+            line.add_number("", u64::from(number));
+            line.add_number(" T", u64::from(rule));
         }
     }
+    line.add("\n");
+    line.text()
 }

@@ -1,10 +1,11 @@
 // The rows of the table.
-use crate::topologies::answer::add_answer;
-use crate::topologies::protocols::{asked, caches, ticker};
+use crate::protocols::front_in;
+use crate::topologies::answer::answer_line;
 use ruby_base::{NoMemory, Seq, Text};
-use ruby_outside::{Sink, put};
-use ruby_symbols::Symbols;
+use ruby_outside::{Library, Sink, put};
 use ruby_topology::{TopoFault, Topology, plain, read_topology};
+use slicc_front::Front;
+use slicc_plan::Plan;
 use std::alloc::Global;
 
 // The most bytes that a topology may have.
@@ -34,75 +35,58 @@ fn comment(alloc: Global) -> Result<Text, NoMemory> {
     Ok(Text::of(bytes))
 }
 
-fn read(alloc: Global, file: &[u8], symbols: &Symbols) -> Result<Topology, TopoFault> {
+fn read(alloc: Global, file: &[u8], plan: &Plan) -> Result<Topology, TopoFault> {
     if LARGEST < file.len() {
         return Err(TopoFault::NoMemory);
     }
-    read_topology(alloc, file, symbols)
+    read_topology(alloc, file, plan)
 }
 
 // The answer for a row: a plain run, a comment, or a topology.
-fn answer(alloc: Global, row: &str, symbols: &Symbols) -> Result<Topology, TopoFault> {
+fn answer(alloc: Global, row: &str, plan: &Plan) -> Result<Topology, TopoFault> {
     if row == "plain" {
-        return plain(alloc, symbols);
+        return plain(alloc, plan);
     }
     let file = if row == "comment" {
         comment(alloc)?
     } else {
         file_of(alloc, row.as_bytes())?
     };
-    let topology = read(alloc, file.as_slice(), symbols);
+    let topology = read(alloc, file.as_slice(), plan);
     drop(file);
     topology
 }
 
-// What is printed of a row, for a protocol with these symbols.
-fn line_for(alloc: Global, row: &str, symbols: &Symbols) -> Result<Text, NoMemory> {
-    let mut text = Text::new(alloc);
-    add_answer(alloc, &mut text, answer(alloc, row, symbols))?;
-    text.append(b"\n")?;
-    Ok(text)
+// What is printed of a row, for the protocol of the file of this name.
+fn line_in<L: Library>(
+    alloc: Global,
+    library: &mut L,
+    protocol: &str,
+    row: &str,
+) -> Result<Text, NoMemory> {
+    match front_in(alloc, library, "topologies", protocol)? {
+        Front::Plan(plan) => answer_line(alloc, answer(alloc, row, &plan)),
+        _ => Text::copied(alloc, b"no plan\n"),
+    }
 }
 
-fn caches_line(alloc: Global, row: &str) -> Result<Text, NoMemory> {
-    let symbols = caches(alloc)?;
-    let line = line_for(alloc, row, &symbols);
-    drop(symbols);
-    line
-}
-
-fn asked_line(alloc: Global, row: &str) -> Result<Text, NoMemory> {
-    let symbols = asked(alloc)?;
-    let line = line_for(alloc, row, &symbols);
-    drop(symbols);
-    line
-}
-
-fn ticker_line(alloc: Global, row: &str) -> Result<Text, NoMemory> {
-    let symbols = ticker(alloc)?;
-    let line = line_for(alloc, row, &symbols);
-    drop(symbols);
-    line
-}
-
-// A row names its protocol, and after a colon stands its topology.
-fn line_of(alloc: Global, row: &str) -> Result<Text, NoMemory> {
+// A row names the file of its protocol, and after a colon stands its topology.
+fn line_of<L: Library>(alloc: Global, library: &mut L, row: &str) -> Result<Text, NoMemory> {
     match row.split_once(':') {
-        Some(("caches", file)) => caches_line(alloc, file),
-        Some(("asked", file)) => asked_line(alloc, file),
-        Some(("ticker", file)) => ticker_line(alloc, file),
+        Some((protocol, file)) => line_in(alloc, library, protocol, file),
         _ => Text::copied(alloc, b"no row\n"),
     }
 }
 
 /// Writes what is printed of each row to a sink, until one isn't written whole, and answers whether all were.
-pub(crate) fn write_rows<S: Sink>(
+pub(crate) fn write_rows<L: Library, S: Sink>(
     alloc: Global,
+    library: &mut L,
     list: &str,
     sink: &mut S,
 ) -> Result<bool, NoMemory> {
     for row in list.lines() {
-        let line = line_of(alloc, row)?;
+        let line = line_of(alloc, library, row)?;
         if !put(sink, line.as_slice()) {
             return Ok(false);
         }

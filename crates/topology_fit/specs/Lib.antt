@@ -1,0 +1,3 @@
+pub mod FitsPlan
+pub mod Seats
+pub mod Setups
