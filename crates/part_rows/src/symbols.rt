@@ -4,9 +4,10 @@ mod machines;
 mod parts;
 mod types;
 
+use crate::protocols::front_in;
 use ruby_outside::{FileLibrary, Library};
-use ruby_symbols::{NoMemory, Symbols, Text};
-use slicc_front::{Front, front};
+use ruby_symbols::Symbols;
+use slicc_front::Front;
 use std::alloc::Global;
 use std::io::{self, Print};
 
@@ -18,20 +19,15 @@ fn print_symbols<R: Print>(rt: &R, symbols: &Symbols) -> io::Result<()> {
     machines::print_machines(rt, symbols)
 }
 
-fn print_front<R: Print>(rt: &R, front: Front) -> io::Result<()> {
+fn print_front<R: Print>(rt: &R, front: Front) -> io::Result<bool> {
     match front {
-        Front::Plan(plan) => print_symbols(rt, plan.symbols()),
-        _ => println!(rt; "no plan"),
+        Front::Plan(plan) => print_symbols(rt, plan.symbols())?,
+        _ => println!(rt; "no plan")?,
     }
+    Ok(true)
 }
 
-fn path_of(alloc: Global, file: &str) -> Result<Text, NoMemory> {
-    let mut path = Text::copied(alloc, b"symbols/")?;
-    path.append(file.as_bytes())?;
-    Ok(path)
-}
-
-// Prints the symbols of a protocol, and answers whether there was memory for its path.
+// Prints the symbols of a protocol, and answers whether there was memory for its name.
 fn print_file<R: Print, L: Library>(
     rt: &R,
     alloc: Global,
@@ -39,11 +35,10 @@ fn print_file<R: Print, L: Library>(
     file: &str,
 ) -> io::Result<bool> {
     println!(rt; "== {file}")?;
-    let Ok(path) = path_of(alloc, file) else {
-        return Ok(false);
-    };
-    print_front(rt, front(alloc, library, &path))?;
-    Ok(true)
+    match front_in(alloc, library, "symbols", file) {
+        Ok(front) => print_front(rt, front),
+        Err(_) => Ok(false),
+    }
 }
 
 /// Prints the symbols of all protocols, and answers whether all were printed.
