@@ -1,7 +1,7 @@
-//! Prints rows of parts of the program, which a whole call doesn't show as they are: for each part a line `# NAME`, and below it
-//! its rows. What has to be printed is in `stdout`, and each module says where that is from. A further part is a module with one
-//! function, which prints the rows and answers whether all were printed; the two lines below that call it; its folder in `data/`
-//! if it reads files; and its text in `stdout`, which `bench/part` puts there.
+//! Prints rows of parts of the program that no whole call shows: of each part a line `# NAME`, and below it the part's rows. What has
+//! to be printed is in `stdout`, and each module says where that is from. A further part is a module with one function, which prints
+//! its rows and answers whether all were printed; the two lines below that call it; its folder in `data/` if it reads files; and its
+//! text in `stdout`, which `bench/part` puts there.
 #![tactic(auto)]
 
 mod calls;
