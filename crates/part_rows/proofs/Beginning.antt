@@ -1,5 +1,5 @@
 -- The controller of a store fits its machine after what happens to it before the calls.
-use Rattle.std.proofs.Common.{◌≡◌, ◌≢◌, ℕ, Option, Some, List, [], Result, Ok, Err, OnOk, OnErr, refl, sym, subst, ap, ◌∙◌, All}
+use Rattle.std.proofs.Common.{◌≡◌, ◌≢◌, ℕ, Option, Some, List, [], Result, Ok, Err, OnOk, OnErr, sym, subst, ap, ◌∙◌, All}
 use Rattle.std.proofs.lemmas.List.Elements.{All-nil}
 use Rattle.ruby_value.specs.declared.asked.Asked.{Asked}
 use Rattle.ruby_value.specs.declared.message.Message.{Message}

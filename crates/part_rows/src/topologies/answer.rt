@@ -37,7 +37,11 @@ impl Line {
 
     /// The text, if none of it was lost.
     fn text(self) -> Result<Text, NoMemory> {
-        if self.whole { Ok(self.text) } else { Err(NoMemory) }
+        if self.whole {
+            Ok(self.text)
+        } else {
+            Err(NoMemory)
+        }
     }
 }
 
