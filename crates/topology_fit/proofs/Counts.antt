@@ -14,7 +14,6 @@ use Rattle.ruby_topology.specs.Topology.{counts_of, lacks_line}
 use Rattle.ruby_topology.specs.Within.{IsWithin}
 use Rattle.topology_fit.proofs.Lines.{none_passes}
 
-
 some_count : (said : List Statement) (machine : ℕ) → All IsWithin said → is_none (count_of said machine) ≡ false → 1 ≤ unwrap_or (count_of said machine) 0
 some_count [] machine within e = absurd (cc e)
 some_count (s ∷ said) machine within e =
@@ -23,6 +22,7 @@ some_count (s ∷ said) machine within e =
     by_test : (b : Bool) (count : ℕ) → 1 ≤ count → (is_none (count_of said machine) ≡ false → 1 ≤ unwrap_or (count_of said machine) 0) → is_none (option_or (cond b (Some count) None) (count_of said machine)) ≡ false → 1 ≤ unwrap_or (option_or (cond b (Some count) None) (count_of said machine)) 0
     by_test true count some rest e = some
     by_test false count some rest e = rest e
+
     first : (s : Statement) → IsWithin s → (is_none (count_of said machine) ≡ false → 1 ≤ unwrap_or (count_of said machine) 0) → is_none (option_or (count_in machine s) (count_of said machine)) ≡ false → 1 ≤ unwrap_or (option_or (count_in machine s) (count_of said machine)) 0
     first (Machine m count) here rest e = by_test (eqb m machine) count here.0 rest e
     first (Network n) here rest e = rest e

@@ -1,7 +1,7 @@
 -- What is known of all that the lines of a file say: it is within the ranges, it is of the machine's own tables and numbers, it is
 -- said once, and there are 64 controllers at most.
-use Rattle.std.proofs.Common.{◌≡◌, ◌<◌, ◌≤◌, ◌+◌, ◌*◌, ◌∙◌, ◌&&◌, ℕ, Bool, true, false, cond, eqb, leb, ltb, Option, None, Some, Result, Ok, Err, IfOk, List, [], ◌∷◌, ◌++◌, ap, refl, sym, subst, arith, true≢false, length, get_or, leb-true, ltb-false}
-use Rattle.std.specs.Prelude.{AllPairs, pos, slice_get}
+use Rattle.std.proofs.Common.{◌≡◌, ◌<◌, ◌≤◌, ◌+◌, ◌*◌, ◌∙◌, ◌&&◌, ℕ, Bool, true, false, cond, eqb, leb, ltb, Option, None, Some, Result, Ok, Err, IfOk, List, [], ◌∷◌, ◌++◌, ap, refl, sym, subst, arith, true≢false, length, get_or, le→leb, leb-true, ltb-false}
+use Rattle.std.specs.Prelude.{AllPairs, pos, ◌≤ℤ◌, slice_get}
 use Rattle.std.specs.List.{All, list_all, list_any}
 use Rattle.std.specs.Option.{option_map}
 use Rattle.std.proofs.lemmas.Bool.{and_parts, false_from_ne_true}
@@ -138,6 +138,9 @@ owns_number symbols machine value word e =
       is_number = is.2;
     }
 
+not_negative : (n : ℕ) → pos 0 ≤ℤ pos n
+not_negative n = record { le = le→leb 0 n (omega arith) }
+
 -- Lines.
 
 module _ (symbols : Symbols) (words : List (List ℕ)) (s : Statement) where
@@ -227,7 +230,7 @@ module _ (symbols : Symbols) (words : List (List ℕ)) (s : Statement) where
       let value = needs_found T3_NAME (in_machine symbols machine.0 (λ x. number_named x (word_at words 2))) (λ v. Ok (Set machine.0 v (pos number.0))) s machine.2 in
       subst (IsSound symbols) (said_is (Set machine.0 value.0 (pos number.0)) s value.2)
       (record {
-        within = (bounded words 3 0 0x7fff_ffff_ffff_ffff number.0 number.1).0;
+        within = not_negative number.0;
         own = owns_number symbols machine.0 value.0 (word_at words 2) value.1;
       })
 
@@ -287,9 +290,11 @@ judged_parts symbols said words s e = by_says (says_in symbols said words (form_
     by_room t is new false many e =
         subst (IsJudged symbols said words) (said_is t s e)
         (record { says = is; new = new; room = ltb-false 64 (controllers said + counted t) many })
+
     by_twice : (t : Statement) → says_in symbols said words (form_of words) ≡ Ok t → (b : Bool) → is_said said t ≡ b → ◌≡◌ {A = Says} (cond b (Err T4_TWICE) (cond (ltb 64 (controllers said + counted t)) (Err T6_TOO_MANY) (Ok t))) (Ok s) → IsJudged symbols said words s
     by_twice t is true twice e = absurd (cc e)
     by_twice t is false twice e = by_room t is twice (ltb 64 (controllers said + counted t)) refl e
+
     by_says : (r : Says) → says_in symbols said words (form_of words) ≡ r → after_those said r ≡ Ok s → IsJudged symbols said words s
     by_says (Err rule) is e = absurd (cc e)
     by_says (Ok t) is e = by_twice t is (is_said said t) refl e
@@ -324,7 +329,7 @@ read_known symbols number said [] all known e = subst (AreKnown symbols) (all_is
 read_known symbols number said (line ∷ lines) all known e =
     after (λ more. read_known symbols (number + 1) more lines all) (with_line symbols said line) (line_known symbols said line known) e
   where
-    after : ((more : List Statement) → AreKnown symbols more → read_from symbols (number + 1) more lines ≡ Ok all → AreKnown symbols all) → (r : Result (List Statement) ℕ) → IfOk r (AreKnown symbols) → ◌≡◌ {A = Reading} (elim r [ | Ok more ↦ read_from symbols (number + 1) more lines | Err rule ↦ Err (rule, number) ]) (Ok all) → AreKnown symbols all
+    after : ((more : List Statement) → AreKnown symbols more → read_from symbols (number + 1) more lines ≡ Ok all → AreKnown symbols all) → (r : Result (List Statement) ℕ) → IfOk r (AreKnown symbols) → ◌≡◌ {A = Reading} (elim r [ Ok more ↦ read_from symbols (number + 1) more lines | Err rule ↦ Err (rule, number) ]) (Ok all) → AreKnown symbols all
     after later (Ok more) h e = later more h e
     after later (Err rule) h e = absurd (cc e)
 

@@ -22,8 +22,7 @@ pub ranges_numbered : (first : ℕ) (counts : List ℕ) → All (λ (c : ℕ). 1
 ranges_numbered first [] some = omega arith
 ranges_numbered first (count ∷ counts) some =
     let all = sum_by-cons (λ (x : ℕ). x) count counts in
-    let end : first + count + sum counts ≡ first + sum (count ∷ counts) = omega (arith, all) in
-    (
+    let end : first + count + sum counts ≡ first + sum (count ∷ counts) = omega (arith, all) in (
       refl,
       All-head (λ (c : ℕ). 1 ≤ c) count counts some,
       subst (λ n. AreNumbered (first + count) n (ranges_from (first + count) counts)) end

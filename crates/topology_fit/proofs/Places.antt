@@ -77,7 +77,7 @@ one_there : {X : Type 0} (p : X → Bool) (xs : List X) (j : ℕ) (d : X) → j 
 one_there p [] j d lt e = absurd (omega arith)
 one_there p (x ∷ xs) zero d lt e =
     let all = sum_by-cons (λ y. cond (p y) 1 0) x xs in
-    let here : cond (p x) 1 0 ≡ 1 = ap (λ b. cond b 1 0) e in
+    let here : ◌≡◌ {A = ℕ} (cond (p x) 1 0) 1 = ap (λ b. cond b 1 0) e in
     omega (arith, all, here)
 one_there p (x ∷ xs) (suc j) d lt e =
     let all = sum_by-cons (λ y. cond (p y) 1 0) x xs in
@@ -89,7 +89,7 @@ two_there p [] i j d lt inside e f = absurd (omega arith)
 two_there p (x ∷ xs) i zero d lt inside e f = absurd (omega arith)
 two_there p (x ∷ xs) zero (suc j) d lt inside e f =
     let all = sum_by-cons (λ y. cond (p y) 1 0) x xs in
-    let here : cond (p x) 1 0 ≡ 1 = ap (λ b. cond b 1 0) e in
+    let here : ◌≡◌ {A = ℕ} (cond (p x) 1 0) 1 = ap (λ b. cond b 1 0) e in
     let rest = one_there p xs j d (omega arith) f in
     omega (arith, all, here, rest)
 two_there p (x ∷ xs) (suc i) (suc j) d lt inside e f =

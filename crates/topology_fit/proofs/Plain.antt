@@ -77,6 +77,7 @@ asked_plainly symbols e = by_machine (slice_get symbols.machines 0) refl e
         let at = at_number (λ (b : BufferSymbol). is_mandatory b && carries_requests symbols b) m.buffers place found in
         let parts = and_parts (is_mandatory at.0) (carries_requests symbols at.0) at.2 in
         record { m = m; is_m = is; place = place; buffer = at.0; is_buffer = at.1; named = parts.0; carries = parts.1 }
+
     by_machine : (o : Option MachineSymbols) → slice_get symbols.machines 0 ≡ o → option_map_or (takes_requests symbols) o false ≡ true → IsAskedPlainly symbols
     by_machine None is e = absurd (cc e)
     by_machine (Some m) is e = by_place m is (number_of (λ (b : BufferSymbol). is_mandatory b && carries_requests symbols b) m.buffers) refl e

@@ -116,8 +116,8 @@ pub ports_ask_right : (trees : List Tree) → wrong_networks trees ≡ [] → Al
 ports_ask_right trees e =
     all_right trees 0 (machines_of trees)
     (λ j m at. let same : 0 + j ≡ j = omega arith in ap (slice_get (machines_of trees)) same ∙ at)
-    (left_none (in_each (wrong_ports_in trees) trees) (in_each (doubled_in trees) trees)
-    (right_none (differing_after [] (all_ports trees)) (in_each (wrong_ports_in trees) trees ++ in_each (doubled_in trees) trees) e))
+    (right_none (differing_after [] (all_ports trees)) (in_each (wrong_ports_in trees) trees)
+    (left_none (differing_after [] (all_ports trees) ++ in_each (wrong_ports_in trees) trees) (in_each (doubled_in trees) trees) e))
 
 -- Types of own buffers.
 
@@ -127,6 +127,7 @@ found_has {X} P test (y ∷ xs) x all e = by_test (found_has P test xs x (All-ta
   where
     same_item : (a b : X) → Some a ≡ Some b → a ≡ b
     same_item a b e = cc e
+
     by_test : (find test xs ≡ Some x → P x × (test x ≡ true)) → (b : Bool) → test y ≡ b → cond b (Some y) (find test xs) ≡ Some x → P x × (test x ≡ true)
     by_test later true passes e = subst (λ z. P z × (test z ≡ true)) (same_item y x e) (All-head P y xs all, passes)
     by_test later false fails e = later e
@@ -139,6 +140,7 @@ own_request trees number m b at right has named = by_port (find (is_on number b)
         let parts = and_parts (eqb p.machine number) (bytes_eq p.buffer.name.text b.name.text) on in
         let same : p.buffer.name.text ≡ b.name.text = (bytes_eq-Decides p.buffer.name.text b.name.text).0 parts.1 in
         ap (λ text. bytes_eq text (codes "mandatoryQueue")) same ∙ named
+
     asks : (p : PortOn) → is_on number b p ≡ true → ((n : Machine) → slice_get (machines_of trees) p.machine ≡ Some n → is_no_request trees n p ≡ false) → p.message ≡ built_in Request
     asks p on h =
         let parts = and_parts (eqb p.machine number) (bytes_eq p.buffer.name.text b.name.text) on in
@@ -147,6 +149,7 @@ own_request trees number m b at right has named = by_port (find (is_on number b)
         is_request p.message
         (not_false (is_built_in Request (Some p.message))
         (last_false (has_sequencer trees m) (is_mandatory p.buffer) (not (is_built_in Request (Some p.message))) has (mandatory_port p on) no))
+
     by_port : (o : Option PortOn) → find (is_on number b) (all_ports trees) ≡ o → option_or (port_message o) (cond (is_mandatory b) (Some (built_in Request)) None) ≡ Some (built_in Request)
     by_port None e = ap (λ t. cond t (Some (built_in Request)) None) named
     by_port (Some p) e =

@@ -114,11 +114,11 @@ both_same a b c d e f none =
 
 module _ (machine : ℕ) where
   caches_apart : (a b : Statement) (x y : ℕ × ℕ × ℕ) → IsNewAfter a b → cache_of machine a ≡ Some x → cache_of machine b ≡ Some y → x.0 ≢ y.0
-  caches_apart (Cache n table sets ways) (Cache k other s w) x y new e f same =
+  caches_apart (Cache n table sets ways) (Cache k other s w) x y new e f =
       let h = cond_some (eqb n machine) (table, sets, ways) x e in
       let g = cond_some (eqb k machine) (other, s, w) y f in
       let one : n ≡ k = eqb-true n machine h.0 ∙ sym (eqb-true k machine g.0) in
-      both_same n k table other one (ap (λ (c : ℕ × ℕ × ℕ). c.0) h.1 ∙ same ∙ sym (ap (λ (c : ℕ × ℕ × ℕ). c.0) g.1)) new
+      λ same. both_same n k table other one (ap (λ (c : ℕ × ℕ × ℕ). c.0) h.1 ∙ same ∙ sym (ap (λ (c : ℕ × ℕ × ℕ). c.0) g.1)) new
   caches_apart a (Machine k count) x y new e f = absurd (cc f)
   caches_apart a (Network k) x y new e f = absurd (cc f)
   caches_apart a (Link one other k) x y new e f = absurd (cc f)
@@ -135,11 +135,11 @@ module _ (machine : ℕ) where
   caches_apart (Set n value number) b x y new e f = absurd (cc e)
 
   tbes_apart : (a b : Statement) (x y : ℕ × ℕ) → IsNewAfter a b → tbes_of machine a ≡ Some x → tbes_of machine b ≡ Some y → x.0 ≢ y.0
-  tbes_apart (Tbes n table entries) (Tbes k other some) x y new e f same =
+  tbes_apart (Tbes n table entries) (Tbes k other some) x y new e f =
       let h = cond_some (eqb n machine) (table, entries) x e in
       let g = cond_some (eqb k machine) (other, some) y f in
       let one : n ≡ k = eqb-true n machine h.0 ∙ sym (eqb-true k machine g.0) in
-      both_same n k table other one (ap (λ (c : ℕ × ℕ). c.0) h.1 ∙ same ∙ sym (ap (λ (c : ℕ × ℕ). c.0) g.1)) new
+      λ same. both_same n k table other one (ap (λ (c : ℕ × ℕ). c.0) h.1 ∙ same ∙ sym (ap (λ (c : ℕ × ℕ). c.0) g.1)) new
   tbes_apart a (Machine k count) x y new e f = absurd (cc f)
   tbes_apart a (Network k) x y new e f = absurd (cc f)
   tbes_apart a (Link one other k) x y new e f = absurd (cc f)
@@ -156,11 +156,11 @@ module _ (machine : ℕ) where
   tbes_apart (Set n value number) b x y new e f = absurd (cc e)
 
   numbers_apart : (a b : Statement) (x y : ℕ × ℤ) → IsNewAfter a b → value_of machine a ≡ Some x → value_of machine b ≡ Some y → x.0 ≢ y.0
-  numbers_apart (Set n value number) (Set k other some) x y new e f same =
+  numbers_apart (Set n value number) (Set k other some) x y new e f =
       let h = cond_some (eqb n machine) (value, number) x e in
       let g = cond_some (eqb k machine) (other, some) y f in
       let one : n ≡ k = eqb-true n machine h.0 ∙ sym (eqb-true k machine g.0) in
-      both_same n k value other one (ap (λ (c : ℕ × ℤ). c.0) h.1 ∙ same ∙ sym (ap (λ (c : ℕ × ℤ). c.0) g.1)) new
+      λ same. both_same n k value other one (ap (λ (c : ℕ × ℤ). c.0) h.1 ∙ same ∙ sym (ap (λ (c : ℕ × ℤ). c.0) g.1)) new
   numbers_apart a (Machine k count) x y new e f = absurd (cc f)
   numbers_apart a (Network k) x y new e f = absurd (cc f)
   numbers_apart a (Link one other k) x y new e f = absurd (cc f)

@@ -54,6 +54,7 @@ in_more v c (x ∷ s) e = by_test (in_more v c s) (eqb x c) e
     either : (a b d : Bool) → (b ≡ true → d ≡ true) → (a || b) ≡ true → (a || d) ≡ true
     either true b d h e = refl
     either false b d h e = h e
+
     by_test : (is_in v (without c s) ≡ true → is_in v s ≡ true) → (b : Bool) → is_in v (cond (not b) (x ∷ without c s) (without c s)) ≡ true → is_in v (x ∷ s) ≡ true
     by_test later true h = or_right (eqb x v) (is_in v s) (later h)
     by_test later false h = either (eqb x v) (is_in v (without c s)) (is_in v s) later h
@@ -74,8 +75,7 @@ module _ (links : List Link) where
   way_in s ends [] a b listed leads = leads
   way_in s ends (l ∷ way) a b listed leads =
       let here = All-head (Contains links) l way listed in
-      let both = All-contains (λ (x : Link). (is_in x.one s ≡ true) × (is_in x.other s ≡ true)) links l ends here in
-      (
+      let both = All-contains (λ (x : Link). (is_in x.one s ≡ true) × (is_in x.other s ≡ true)) links l ends here in (
         leads.0,
         here,
         leads.1,

@@ -16,7 +16,7 @@ pub fn setups(alloc: Global, plan: &Plan, sizes: &[Sizes]) -> Result<Seq<Machine
     let mut setups = Seq::new(alloc);
     for (number, of_machine) in sizes.iter().enumerate() {
         match setup(alloc, plan, number as u16, of_machine)? {
-            None => return Ok(setups),
+            None => {}
             Some(machine) => setups.push(machine)?,
         }
     }
