@@ -1,5 +1,5 @@
 -- The buffers of a machine, as symbols and as what they are to its controllers, one by one.
-use Rattle.std.proofs.Common.{◌≡◌, ◌<◌, ◌≤◌, ◌∙◌, ◌++◌, ◌&&◌, ℕ, zero, suc, Bool, true, false, eqb, Option, None, Some, List, [], ◌∷◌, ap, refl, sym, subst, arith, flat_map, eqb-true, eq-eqb, true≢false}
+use Rattle.std.proofs.Common.{◌≡◌, ◌∙◌, ◌++◌, ℕ, zero, suc, true, Option, None, Some, List, [], ◌∷◌, ap, refl, sym, subst, flat_map, eqb-true, eq-eqb}
 use Rattle.std.specs.Prelude.{option_and_then, slice_get}
 use Rattle.ruby_value.specs.declared.setup.BufferPlace.{BufferPlace}
 use Rattle.ruby_value.specs.declared.setup.BufferPlace.TheVariants as place
@@ -13,7 +13,7 @@ use Rattle.slicc_ast.specs.declared.tree.machine.Machine.{Machine}
 use Rattle.slicc_plan.specs.Buffers.{BufferIn, buffer_in}
 use Rattle.slicc_plan.specs.Declarations.{Declaration, machine_declarations}
 use Rattle.slicc_plan.specs.MessageTypes.{message_type}
-use Rattle.slicc_plan.specs.Setups.{attributes_of, buffer_by, buffer_place, buffer_setups, is_ordered, kinds_on, setup_in}
+use Rattle.slicc_plan.specs.Setups.{attributes_of, buffer_by, buffer_place, buffer_setups, kinds_on, setup_in}
 use Rattle.slicc_plan.specs.SymbolsOfMachines.{buffer_of_place, buffer_symbol, buffer_symbols, machine_symbols}
 use Rattle.slicc_plan.specs.TypeNumbers.{structure_number}
 use Rattle.ruby_topology.specs.Topology.{is_from, is_on}

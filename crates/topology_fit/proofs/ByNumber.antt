@@ -1,7 +1,6 @@
 -- The machines of a protocol: as trees, as symbols, and as what they are to their controllers, by one number.
-use Rattle.std.proofs.Common.{◌≡◌, ◌<◌, ◌≤◌, ◌+◌, ◌∙◌, ℕ, zero, suc, Option, None, Some, List, [], ◌∷◌, ap, refl, sym, subst, arith, get_or, length, option_and_then}
+use Rattle.std.proofs.Common.{◌≡◌, ◌<◌, ◌+◌, ◌∙◌, ℕ, zero, suc, Some, List, [], ◌∷◌, ap, refl, sym, arith, get_or, length, option_and_then}
 use Rattle.std.specs.Prelude.{slice_get}
-use Rattle.std.specs.List.{All, enumerate_from, filter_map}
 use Rattle.std.specs.Option.{option_map}
 use Rattle.std.proofs.lemmas.Option.{slice_get-get_or, slice_get_within}
 use Rattle.ruby_value.specs.declared.setup.MachineSetup.{MachineSetup}

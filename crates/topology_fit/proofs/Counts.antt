@@ -1,7 +1,7 @@
 -- What lines say once: how many controllers a machine has, and the jitter.
-use Rattle.std.proofs.Common.{◌≡◌, ◌<◌, ◌≤◌, ◌+◌, ◌∙◌, ℕ, zero, suc, Bool, true, false, cond, eqb, Option, None, Some, List, [], ◌∷◌, ap, refl, sym, subst, arith, length, get_or, map, unwrap_or}
-use Rattle.std.specs.Prelude.{is_none, slice_get}
-use Rattle.std.specs.List.{All, list_any, range_with_len}
+use Rattle.std.proofs.Common.{◌≡◌, ◌<◌, ◌≤◌, ◌+◌, ◌∙◌, ℕ, Bool, true, false, cond, eqb, None, Some, List, [], ◌∷◌, ap, sym, arith, length, get_or, unwrap_or}
+use Rattle.std.specs.Prelude.{is_none}
+use Rattle.std.specs.List.{All, range_with_len}
 use Rattle.std.specs.Option.{option_or}
 use Rattle.std.proofs.lemmas.List.Elements.{All-head, All-tail}
 use Rattle.std.proofs.lemmas.List.FromFn.{get_or-map-range_with_len, get_or-range_with_len, length-map-range_with_len, length-range_with_len}

@@ -1,25 +1,22 @@
 -- A topology fits its protocol.
-use Rattle.std.proofs.Common.{◌≡◌, ◌≢◌, ◌<◌, ◌≤◌, ◌+◌, ◌∙◌, ℕ, zero, suc, Bool, Option, None, Some, List, [], ◌∷◌, ap, refl, sym, subst, arith, get_or, length, map, sum, unwrap_or, option_and_then}
-use Rattle.std.specs.Prelude.{IfSome, IsSomeAnd, slice_get}
-use Rattle.std.specs.List.{All, range_with_len}
+use Rattle.std.proofs.Common.{◌≡◌, ◌<◌, ◌≤◌, ◌+◌, ◌∙◌, ℕ, Bool, Option, Some, List, ap, refl, sym, subst, arith, get_or, length, sum}
+use Rattle.std.specs.Prelude.{IsSomeAnd, slice_get}
+use Rattle.std.specs.List.{All}
 use Rattle.std.specs.Option.{option_map}
 use Rattle.std.proofs.lemmas.List.{length-map}
 use Rattle.std.proofs.lemmas.List.Elements.{All-map, All-weaker}
 use Rattle.std.proofs.lemmas.List.FromFn.{length-map-range_with_len}
 use Rattle.std.proofs.lemmas.Option.{slice_get_within}
-use Rattle.ruby_value.specs.declared.setup.BufferSetup.{BufferSetup}
 use Rattle.ruby_value.specs.declared.setup.MachineSetup.{MachineSetup}
 use Rattle.ruby_value.specs.declared.setup.Sizes.{Sizes}
-use Rattle.ruby_symbols.specs.declared.machine.MachineSymbols.{MachineSymbols}
 use Rattle.slicc_ast.specs.declared.tree.item.Tree.{Tree}
 use Rattle.slicc_ast.specs.declared.tree.machine.Machine.{Machine}
-use Rattle.slicc_plan.specs.AllRules.{IsAccepted}
 use Rattle.slicc_plan.specs.Declarations.{machines_of}
 use Rattle.slicc_plan.specs.Setups.{AreSizesOf, HasTypeOf, setup_in, setup_of}
 use Rattle.slicc_plan.specs.SymbolsOf.{symbols_of}
 use Rattle.slicc_plan.specs.SymbolsOfMachines.{machine_symbols}
 use Rattle.symbol_laws.specs.Lawful.{HasNetworks, HasNumbers, ReceivesOnce}
-use Rattle.ctl_face.specs.IsMachine.{AgreeOnType, IsMachine}
+use Rattle.ctl_face.specs.IsMachine.{IsMachine}
 use Rattle.ctl_face.specs.RoutesFit.{AgreeOnTypes, AreNumbered, HasShape, IsOfMachine, KeepsOrder, NamesBuffers, ReceivesFrom, RoutesFit}
 use Rattle.ruby_topology.specs.declared.statement.Member.{Member}
 use Rattle.ruby_topology.specs.declared.statement.Statement.{Statement}

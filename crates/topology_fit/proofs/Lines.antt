@@ -3,7 +3,6 @@
 use Rattle.std.proofs.Common.{◌≡◌, ◌<◌, ◌≤◌, ◌+◌, ◌*◌, ◌∙◌, ◌&&◌, ℕ, Bool, true, false, cond, eqb, leb, ltb, Option, None, Some, Result, Ok, Err, IfOk, List, [], ◌∷◌, ◌++◌, ap, refl, sym, subst, arith, true≢false, length, get_or, le→leb, leb-true, ltb-false}
 use Rattle.std.specs.Prelude.{AllPairs, pos, ◌≤ℤ◌, slice_get}
 use Rattle.std.specs.List.{All, list_all, list_any}
-use Rattle.std.specs.Option.{option_map}
 use Rattle.std.proofs.lemmas.Bool.{and_parts, false_from_ne_true}
 use Rattle.std.proofs.lemmas.List.Elements.{All-nil, All-push}
 use Rattle.std.proofs.lemmas.List.Folds.{list_any_at}
@@ -21,7 +20,6 @@ use Rattle.ruby_symbols.specs.Names.{machine_named, stands_for}
 use Rattle.ruby_topology.specs.declared.forms.Form.{Form}
 use Rattle.ruby_topology.specs.declared.forms.Form.TheVariants as form
 use Rattle.ruby_topology.specs.declared.rules.TheConstants.{T2_NUMBER, T3_NAME, T4_TWICE, T6_TOO_MANY}
-use Rattle.ruby_topology.specs.declared.statement.Member.{Member}
 use Rattle.ruby_topology.specs.declared.statement.Network.TheVariants.{PointToPoint, Crossbar, Mesh, Links}
 use Rattle.ruby_topology.specs.declared.statement.Statement.{Statement}
 use Rattle.ruby_topology.specs.declared.statement.Statement.TheVariants.{Machine, Network, Link, Jitter, Ordered, Cache, Tbes, Set}

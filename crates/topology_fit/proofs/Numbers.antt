@@ -1,7 +1,7 @@
 -- The numbers of controllers: the ranges of machines follow on one another, and a controller is of the machine in whose range its
 -- number is.
-use Rattle.std.proofs.Common.{◌≡◌, ◌<◌, ◌≤◌, ◌+◌, ◌-◌, ◌∙◌, ℕ, zero, suc, Bool, true, false, Option, None, Some, List, [], ◌∷◌, ◌++◌, ap, refl, sym, subst, arith, ⊎_elim, length, map, sum, le-ltb, le-leb, lt-ltb, leb, ltb}
-use Rattle.std.specs.Prelude.{IsSomeAnd, position, slice_get}
+use Rattle.std.proofs.Common.{◌≡◌, ◌<◌, ◌≤◌, ◌+◌, ◌-◌, ◌∙◌, ℕ, zero, suc, true, false, Some, List, [], ◌∷◌, ap, refl, sym, subst, arith, ⊎_elim, length, sum, le-ltb, le-leb, lt-ltb, leb, ltb}
+use Rattle.std.specs.Prelude.{position, slice_get}
 use Rattle.std.specs.List.{All, range_with_len}
 use Rattle.std.proofs.lemmas.Bool.{and_from, and_right, cases_lt}
 use Rattle.std.proofs.lemmas.List.{length-map}
@@ -9,7 +9,7 @@ use Rattle.std.proofs.lemmas.List.Elements.{All-head, All-tail}
 use Rattle.std.proofs.lemmas.List.FromFn.{length-range_with_len}
 use Rattle.std.proofs.lemmas.List.Sums.{sum_by-cons}
 use Rattle.ctl_face.specs.RoutesFit.{AreNumbered, IsOfMachine}
-use Rattle.protocol_runs.specs.Machines.{is_in_range, machine_of}
+use Rattle.protocol_runs.specs.Machines.{is_in_range}
 use Rattle.ruby_topology.specs.declared.statement.Member.{Member}
 use Rattle.ruby_topology.specs.Topology.{members_from, members_of, ranges_from}
 use Rattle.topology_fit.proofs.Places.{get_left, get_right, position_first, position_next, ranged_at}

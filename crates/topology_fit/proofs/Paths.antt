@@ -1,5 +1,5 @@
 -- Paths are within the limits, and the one to oneself takes no cycle.
-use Rattle.std.proofs.Common.{◌≡◌, ◌<◌, ◌≤◌, ◌+◌, ◌-◌, ◌*◌, ◌/◌, ◌%◌, ◌∙◌, ◌⊎◌, ℕ, zero, suc, Bool, true, false, cond, eqb, Option, None, Some, List, [], ◌∷◌, ap, refl, sym, subst, arith, ⊎_elim, length, get_or, unwrap_or, option_and_then, mod-lt, div-lt_iff_lt-mul, mul-pos, mul-le-mul, eq-eqb}
+use Rattle.std.proofs.Common.{◌≡◌, ◌<◌, ◌≤◌, ◌*◌, ◌%◌, ◌∙◌, ℕ, Bool, true, false, cond, eqb, List, [], ap, refl, subst, arith, ⊎_elim, length, get_or, unwrap_or, option_and_then, mod-lt, div-lt_iff_lt-mul, mul-pos, mul-le-mul, eq-eqb}
 use Rattle.std.specs.Prelude.{All, slice_get}
 use Rattle.std.proofs.lemmas.Bool.{cases_lt}
 use Rattle.std.proofs.lemmas.List.{get_or_default}

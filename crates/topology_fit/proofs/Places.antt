@@ -1,17 +1,16 @@
 -- What is found in a list, and where.
-use Rattle.std.proofs.Common.{◌≡◌, ◌<◌, ◌≤◌, ◌+◌, ◌∙◌, ℕ, zero, suc, Bool, true, false, cond, ltb, Option, None, Some, List, [], ◌∷◌, ◌++◌, ◌||◌, ap, refl, sym, subst, arith, true≢false, length, get_or, map, lt-ltb, option_and_then}
+use Rattle.std.proofs.Common.{◌≡◌, ◌<◌, ◌≤◌, ◌+◌, ◌∙◌, ℕ, zero, suc, Bool, true, false, cond, ltb, Option, None, Some, List, [], ◌∷◌, ◌++◌, ◌||◌, ap, refl, sym, subst, arith, length, get_or, map, lt-ltb, option_and_then}
 use Rattle.std.specs.Prelude.{AllPairs, IfSome, IsSomeAnd, count_by, position, slice_get}
 use Rattle.std.specs.List.{All, cons_option, enumerate_from, filter_map, list_any, position_or_len, range_with_len}
 use Rattle.std.specs.Option.{option_map}
 use Rattle.std.proofs.lemmas.Bool.{false_from_ne_true}
-use Rattle.std.proofs.lemmas.List.{length-map}
 use Rattle.std.proofs.lemmas.List.Elements.{All-cons, All-head, All-nil, All-tail}
 use Rattle.std.proofs.lemmas.List.Kept.{AllPairs-cons}
 use Rattle.std.proofs.lemmas.List.Folds.{list_any_at}
 use Rattle.std.proofs.lemmas.List.FromFn.{length-range_with_len, get_or-range_with_len}
 use Rattle.std.proofs.lemmas.List.Quantifiers.{position-Some}
 use Rattle.std.proofs.lemmas.List.Sums.{position_or_len_is, sum_by-cons}
-use Rattle.std.proofs.lemmas.Option.{cond_some, get_or_from_slice_get, slice_get-get_or, slice_get_past, slice_get_within, slice_get-map}
+use Rattle.std.proofs.lemmas.Option.{cond_some, get_or_from_slice_get, slice_get-get_or, slice_get_within, slice_get-map}
 use Rattle.ruby_symbols.specs.Numbers.{number_of, short_number}
 
 -- what is there and gives an answer

@@ -1,14 +1,13 @@
 -- The topology of a plain run fits its protocol.
-use Rattle.std.proofs.Common.{◌≡◌, ◌<◌, ◌≤◌, ◌∙◌, ◌&&◌, ℕ, zero, suc, Bool, true, false, cond, eqb, Option, None, Some, List, [], ◌∷◌, ap, refl, sym, subst, arith, length, map, sum, unwrap_or, option_and_then, eqb-true}
-use Rattle.std.specs.Prelude.{AllPairs, codes, find, position, slice_get}
-use Rattle.std.specs.List.{All, list_any}
+use Rattle.std.proofs.Common.{◌≡◌, ◌≤◌, ◌∙◌, ◌&&◌, ℕ, true, false, cond, eqb, Option, None, Some, List, [], ◌∷◌, ap, refl, sym, subst, arith, length, map, sum, unwrap_or, eqb-true}
+use Rattle.std.specs.Prelude.{AllPairs, codes, find, slice_get}
+use Rattle.std.specs.List.{All}
 use Rattle.std.specs.Option.{option_map_or, option_or}
 use Rattle.std.specs.Str.{bytes_eq}
 use Rattle.std.proofs.lemmas.Bool.{and_parts}
 use Rattle.std.proofs.lemmas.List.Elements.{All-cons, All-nil}
 use Rattle.std.proofs.lemmas.Option.{slice_get_within}
 use Rattle.std.proofs.lemmas.Slice.Eq.{bytes_eq-Decides}
-use Rattle.ruby_value.specs.declared.setup.MachineSetup.{MachineSetup}
 use Rattle.ruby_value.specs.declared.setup.Sizes.{Sizes}
 use Rattle.ruby_symbols.specs.declared.machine.BufferSymbol.{BufferSymbol}
 use Rattle.ruby_symbols.specs.declared.machine.MachineSymbols.{MachineSymbols}
@@ -37,13 +36,12 @@ use Rattle.ruby_topology.specs.Topology.{HasParts, IsPlainOf, ranges_from}
 use Rattle.topology_fit.specs.FitsPlan.{ComesBefore, FitsPlan, IsSeat}
 use Rattle.topology_fit.specs.Seats.{queue_of, seat_setup}
 use Rattle.topology_fit.specs.Setups.{ranges_of}
-use Rattle.topology_fit.proofs.Buffers.{IsPair, buffers_paired, setup_of_symbol}
+use Rattle.topology_fit.proofs.Buffers.{buffers_paired, setup_of_symbol}
 use Rattle.topology_fit.proofs.Fit.{AreLawful, fits_with, sized, sizes_counted}
 use Rattle.topology_fit.proofs.Lines.{none_known}
 use Rattle.topology_fit.proofs.ByNumber.{machine_found, symbols_counted}
-use Rattle.topology_fit.proofs.Numbers.{ranges_counted}
 use Rattle.topology_fit.proofs.Places.{all_at, any_get, any_position, at_number, at_position, number_is, position_first, some_and}
-use Rattle.topology_fit.proofs.Queues.{IsOwnQueue, own_queue, takes_by_type}
+use Rattle.topology_fit.proofs.Queues.{own_queue, takes_by_type}
 use Rattle.topology_fit.proofs.Requests.{request_by_number}
 use Rattle.topology_fit.proofs.Seats.{at_setup, queue_is}
 

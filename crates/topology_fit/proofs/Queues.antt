@@ -1,10 +1,10 @@
 -- The messages of a machine's own buffer `mandatoryQueue` are of the type `RubyRequest` where the machine has a sequencer.
-use Rattle.std.proofs.Common.{◌≡◌, ◌<◌, ◌≤◌, ◌+◌, ◌∙◌, ◌++◌, ◌&&◌, ◌||◌, ℕ, zero, suc, Bool, true, false, cond, not, eqb, Option, None, Some, List, [], ◌∷◌, ap, refl, sym, subst, arith, flat_map, eqb-true, true≢false}
+use Rattle.std.proofs.Common.{◌≡◌, ◌+◌, ◌∙◌, ◌++◌, ◌&&◌, ◌||◌, ℕ, suc, Bool, true, false, cond, not, eqb, Option, None, Some, List, [], ◌∷◌, ap, refl, sym, subst, arith, flat_map, eqb-true}
 use Rattle.std.specs.Prelude.{codes, filter_map, find, is_some, slice_get}
 use Rattle.std.specs.List.{All, cons_option, list_any}
-use Rattle.std.specs.Option.{option_map, option_or}
+use Rattle.std.specs.Option.{option_or}
 use Rattle.std.specs.Str.{bytes_eq}
-use Rattle.std.proofs.lemmas.Bool.{and_from, and_parts, or_left, or_right}
+use Rattle.std.proofs.lemmas.Bool.{and_parts, or_left, or_right}
 use Rattle.std.proofs.lemmas.List.Elements.{All-append, All-cons, All-head, All-nil, All-tail}
 use Rattle.std.proofs.lemmas.Option.{cond_some}
 use Rattle.std.proofs.lemmas.Slice.Eq.{bytes_eq-Decides}
@@ -15,24 +15,21 @@ use Rattle.ruby_symbols.specs.declared.machine.BufferSymbol.{BufferSymbol}
 use Rattle.ruby_symbols.specs.Names.{is_local, is_mandatory as is_mandatory_symbol}
 use Rattle.slicc_ast.specs.declared.tree.item.Tree.{Tree}
 use Rattle.slicc_ast.specs.declared.tree.machine.Machine.{Machine}
-use Rattle.slicc_plan.specs.declared.broken.Broken.{Broken}
 use Rattle.slicc_plan.specs.declared.built_in.BuiltInType.{BuiltInType}
 use Rattle.slicc_plan.specs.declared.built_in.BuiltInType.TheVariants.{Request}
-use Rattle.slicc_plan.specs.AllRules.{IsAccepted}
 use Rattle.slicc_plan.specs.BuiltIn.{type_number}
 use Rattle.slicc_plan.specs.Buffers.{BufferIn, Place, own, to_network, from_network, PortOn, port_in, port_on, ports_of}
 use Rattle.slicc_plan.specs.Declarations.{Declaration, in_port, out_port, parameter, object, machine_declarations, machines_of}
 use Rattle.slicc_plan.specs.Limits.{is_sequencer}
 use Rattle.slicc_plan.specs.Machines.{in_each, in_each_from}
 use Rattle.slicc_plan.specs.MessageTypes.{is_on, message_type, own_type, port_message, type_at}
-use Rattle.slicc_plan.specs.Networks.{all_ports, all_ports_from, differing_after, doubled_in, has_sequencer, is_mandatory, is_no_request, is_sent_nowhere, is_wrong_way, networks_broken, port_broken, wrong_networks, wrong_ports_in}
+use Rattle.slicc_plan.specs.Networks.{all_ports, all_ports_from, differing_after, doubled_in, has_sequencer, is_mandatory, is_no_request, is_sent_nowhere, is_wrong_way, port_broken, wrong_networks, wrong_ports_in}
 use Rattle.slicc_plan.specs.Setups.{buffer_place, kinds_on}
-use Rattle.slicc_plan.specs.SymbolsOfMachines.{machine_symbols, sequencer_in, sequencer_name}
+use Rattle.slicc_plan.specs.SymbolsOfMachines.{machine_symbols, sequencer_in}
 use Rattle.slicc_plan.specs.Types.{KnownType, built_in, enumerated, structured, is_built_in}
 use Rattle.slicc_plan.proofs.Room.{left_none, right_none}
 use Rattle.protocol_runs.specs.IsSetting.{TakesRequests}
 use Rattle.topology_fit.proofs.Buffers.{IsPair}
-use Rattle.topology_fit.proofs.Places.{and_then_found}
 
 -- Tests.
 

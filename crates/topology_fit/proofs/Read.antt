@@ -7,7 +7,6 @@ use Rattle.std.proofs.lemmas.List.FromFn.{length-map-range_with_len}
 use Rattle.slicc_ast.specs.declared.tree.item.Tree.{Tree}
 use Rattle.slicc_plan.specs.AllRules.{IsAccepted}
 use Rattle.slicc_plan.specs.BodySizes.{large_bodies}
-use Rattle.slicc_plan.specs.BrokenMachines.{broken_machines}
 use Rattle.slicc_plan.specs.CallsBetween.{call_circles}
 use Rattle.slicc_plan.specs.Declarations.{machines_of}
 use Rattle.slicc_plan.specs.MachineParts.{missing_machine, missing_parts}
@@ -22,7 +21,7 @@ use Rattle.ruby_topology.specs.declared.topology.Seat.{Seat}
 use Rattle.ruby_topology.specs.declared.topology.Topology.{Topology}
 use Rattle.ruby_topology.specs.Members.{count_or_none}
 use Rattle.ruby_topology.specs.Text.{lines_of}
-use Rattle.ruby_topology.specs.Topology.{HasParts, IsTopologyOf, IsTopologySaid, counts_of, members_from, seats_of}
+use Rattle.ruby_topology.specs.Topology.{HasParts, IsTopologyOf, IsTopologySaid, members_from, seats_of}
 use Rattle.ruby_topology.specs.Within.{IsWithin}
 use Rattle.ruby_topology.proofs.Ends.{few_counts}
 use Rattle.topology_fit.specs.FitsPlan.{ComesBefore, FitsPlan, IsSeat}

@@ -1,34 +1,32 @@
 -- The number of `RubyRequest` is that of no structure that a protocol declares: its name can't be declared right in the protocol.
-use Rattle.std.proofs.Common.{◌≡◌, ◌<◌, ◌≤◌, ◌+◌, ◌∙◌, ◌++◌, ◌&&◌, ◌||◌, ℕ, zero, suc, Bool, true, false, cond, not, eqb, Option, None, Some, List, [], ◌∷◌, ap, refl, sym, subst, arith, flat_map, length, get_or, map, true≢false, eqb-true, option_and_then}
-use Rattle.std.specs.Prelude.{Contains, codes, filter, is_some, position, slice_get}
+use Rattle.std.proofs.Common.{◌≡◌, ◌<◌, ◌∙◌, ◌++◌, ◌&&◌, ℕ, zero, suc, Bool, true, false, cond, not, Option, None, Some, List, [], ◌∷◌, ap, refl, sym, subst, arith, flat_map, length, get_or, map, true≢false, option_and_then}
+use Rattle.std.specs.Prelude.{Contains, codes, filter, is_some, position}
 use Rattle.std.specs.List.{All, list_any}
 use Rattle.std.specs.Str.{bytes_eq}
-use Rattle.std.proofs.lemmas.Bool.{and_left, and_parts, and_right, false_from_ne_true, not_from_false, or_left, or_right}
-use Rattle.std.proofs.lemmas.List.Elements.{All-append, All-cons, All-contains_itself, All-head, All-map, All-nil, All-tail, All-weaker}
+use Rattle.std.proofs.lemmas.Bool.{false_from_ne_true, or_left, or_right}
+use Rattle.std.proofs.lemmas.List.Elements.{All-append, All-cons, All-contains_itself, All-head, All-map, All-nil, All-tail}
 use Rattle.std.proofs.lemmas.List.Folds.{list_any-append}
 use Rattle.std.proofs.lemmas.List.Quantifiers.{position-Some}
 use Rattle.std.proofs.lemmas.Option.{slice_get_within}
 use Rattle.std.proofs.lemmas.Slice.Eq.{bytes_eq-Decides}
 use Rattle.ruby_symbols.specs.declared.types.StructureSymbol.{StructureSymbol}
-use Rattle.ruby_symbols.specs.Numbers.{is_number, number_of}
 use Rattle.ruby_symbols.specs.Types.{is_owner, request}
 use Rattle.slicc_ast.specs.declared.tree.declaration.Structure.{Structure}
 use Rattle.slicc_ast.specs.declared.tree.item.Tree.{Tree}
 use Rattle.slicc_ast.specs.declared.tree.machine.Machine.{Machine}
 use Rattle.slicc_ast.specs.declared.tree.name.Name.{Name}
-use Rattle.slicc_plan.specs.declared.broken.Broken.{Broken}
 use Rattle.slicc_plan.specs.declared.built_in.BuiltInType.{BuiltInType}
 use Rattle.slicc_plan.specs.declared.built_in.BuiltInType.TheVariants.{Request}
 use Rattle.slicc_plan.specs.AllRules.{IsAccepted}
 use Rattle.slicc_plan.specs.BuiltIn.{built_in_type}
-use Rattle.slicc_plan.specs.Declarations.{Declaration, machine, structure, Scope, everywhere, within, global_declarations, is_external, machine_declarations, machine_in, machines_of, name_of}
+use Rattle.slicc_plan.specs.Declarations.{Declaration, machine, structure, everywhere, within, global_declarations, is_external, machine_declarations, machine_in, machines_of, name_of}
 use Rattle.slicc_plan.specs.FieldTypes.{refused_field_types}
 use Rattle.slicc_plan.specs.Limits.{is_counted_structure, limits_passed}
 use Rattle.slicc_plan.specs.Prototypes.{unknown_built_ins}
 use Rattle.slicc_plan.specs.Scopes.{scopes_within}
 use Rattle.slicc_plan.specs.SymbolsOf.{symbols_of}
-use Rattle.slicc_plan.specs.SymbolsOfTypes.{field_symbols, owner, request_symbol, structure_declared, structure_symbol, structure_symbols}
-use Rattle.slicc_plan.specs.TwiceDeclared.{declaration_told, globally_repeated_after, listed, names_twice_declared, repeated, stands_for_built_in, takes_built_in_name, told_globally, twice_declared}
+use Rattle.slicc_plan.specs.SymbolsOfTypes.{field_symbols, owner, request_symbol, structure_symbol, structure_symbols}
+use Rattle.slicc_plan.specs.TwiceDeclared.{declaration_told, globally_repeated_after, listed, names_twice_declared, repeated, takes_built_in_name, told_globally}
 use Rattle.slicc_plan.specs.TypeNumbers.{ScopedDeclaration, declared_structures, declares, made_in, made_with_its_own, request_number, scoped_declarations, structure_number}
 use Rattle.slicc_plan.specs.Types.{KnownType, built_in, enumerated, structured}
 use Rattle.slicc_plan.specs.UnknownTypes.{unknown_types}

@@ -1,17 +1,14 @@
 -- The routes of a topology fit the machines of its protocol.
-use Rattle.std.proofs.Common.{◌≡◌, ◌<◌, ◌≤◌, ◌+◌, ◌-◌, ◌∙◌, ◌⊎◌, ◌&&◌, ◌||◌, ℕ, zero, suc, Bool, true, false, Option, None, Some, List, [], ◌∷◌, ap, refl, sym, subst, arith, ⊎_elim, length, get_or, map, sum, unwrap_or, option_and_then}
+use Rattle.std.proofs.Common.{◌≡◌, ◌<◌, ◌≤◌, ◌-◌, ◌∙◌, ℕ, Bool, true, false, Option, None, Some, List, ap, refl, sym, subst, arith, ⊎_elim, map, unwrap_or, option_and_then}
 use Rattle.std.specs.Prelude.{IfSome, IsTrue, slice_get}
 use Rattle.std.specs.List.{All, list_any, range_with_len}
 use Rattle.std.specs.Option.{option_flatten, option_map}
 use Rattle.std.proofs.lemmas.Bool.{and_from, cases_lt, or_right}
-use Rattle.std.proofs.lemmas.List.{length-map}
 use Rattle.std.proofs.lemmas.List.FromFn.{length-map-range_with_len}
-use Rattle.std.proofs.lemmas.List.Folds.{list_any_at}
-use Rattle.std.proofs.lemmas.Option.{get_or_from_slice_get, slice_get_past, slice_get_within}
+use Rattle.std.proofs.lemmas.Option.{slice_get_past, slice_get_within}
 use Rattle.ruby_value.specs.declared.setup.BufferPlace.{BufferPlace}
 use Rattle.ruby_value.specs.declared.setup.BufferPlace.TheVariants as place
 use Rattle.ruby_value.specs.declared.setup.BufferSetup.{BufferSetup}
-use Rattle.ruby_value.specs.declared.setup.MachineSetup.{MachineSetup}
 use Rattle.ruby_value.specs.declared.setup.Sizes.{Sizes}
 use Rattle.ruby_value.specs.NetworkOf.{network_of}
 use Rattle.ruby_symbols.specs.declared.machine.BufferSymbol.{BufferSymbol}
@@ -21,7 +18,7 @@ use Rattle.ruby_symbols.specs.Numbers.{number_of}
 use Rattle.slicc_ast.specs.declared.tree.item.Tree.{Tree}
 use Rattle.slicc_ast.specs.declared.tree.machine.Machine.{Machine}
 use Rattle.slicc_plan.specs.Declarations.{machines_of}
-use Rattle.slicc_plan.specs.Setups.{HasTypeOf, setup_in}
+use Rattle.slicc_plan.specs.Setups.{setup_in}
 use Rattle.slicc_plan.specs.SymbolsOf.{symbols_of}
 use Rattle.slicc_plan.specs.SymbolsOfMachines.{machine_symbols}
 use Rattle.symbol_laws.specs.Lawful.{HasNetworks, HasNumbers, ReceivesOnce}
@@ -36,7 +33,7 @@ use Rattle.ruby_topology.specs.Topology.{calls_ordered, has_ordered, is_from, is
 use Rattle.topology_fit.proofs.Buffers.{buffers_paired, from_is, is_from_it, on_it, setup_of_symbol, symbol_of}
 use Rattle.topology_fit.proofs.ByNumber.{symbols_found}
 use Rattle.topology_fit.proofs.Numbers.{member_in_range}
-use Rattle.topology_fit.proofs.Places.{all_at, all_from_gets, and_then_found, any_get, at_number, if_some, number_is, only_position, mapped_at, ranged_at}
+use Rattle.topology_fit.proofs.Places.{all_at, all_from_gets, any_get, at_number, if_some, number_is, only_position, mapped_at, ranged_at}
 
 -- Which networks keep order.
 

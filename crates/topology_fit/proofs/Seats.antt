@@ -1,14 +1,13 @@
 -- The seats of a topology: in increasing number, each at a controller whose machine has a sequencer and takes requests.
-use Rattle.std.proofs.Common.{◌≡◌, ◌≢◌, ◌<◌, ◌≤◌, ◌+◌, ◌∙◌, ◌&&◌, ℕ, zero, suc, Bool, true, false, cond, Option, None, Some, List, [], ◌∷◌, ap, refl, sym, subst, arith, true≢false, length, get_or, map, unwrap_or, option_and_then}
-use Rattle.std.specs.Prelude.{AllPairs, IsSomeAnd, is_some, position, slice_get}
-use Rattle.std.specs.List.{All, enumerate_from, filter_map}
+use Rattle.std.proofs.Common.{◌≡◌, ◌<◌, ◌+◌, ◌∙◌, ℕ, suc, true, false, Option, None, Some, List, [], ◌∷◌, ap, refl, sym, subst, arith, length, get_or, map, unwrap_or, option_and_then}
+use Rattle.std.specs.Prelude.{AllPairs, is_some, position, slice_get}
+use Rattle.std.specs.List.{All, enumerate_from}
 use Rattle.std.specs.Option.{option_map_or}
 use Rattle.std.proofs.lemmas.Bool.{and_parts}
 use Rattle.std.proofs.lemmas.List.Elements.{All-map}
 use Rattle.std.proofs.lemmas.List.FromFn.{get_or-enumerate_from, length-enumerate_from}
 use Rattle.std.proofs.lemmas.List.Kept.{AllPairs-cons}
 use Rattle.std.proofs.lemmas.Option.{cond_some, slice_get-get_or, slice_get_within}
-use Rattle.ruby_value.specs.declared.setup.BufferSetup.{BufferSetup}
 use Rattle.ruby_value.specs.declared.setup.MachineSetup.{MachineSetup}
 use Rattle.ruby_value.specs.declared.setup.Sizes.{Sizes}
 use Rattle.ruby_symbols.specs.declared.machine.MachineSymbols.{MachineSymbols}
@@ -23,11 +22,10 @@ use Rattle.slicc_plan.specs.SymbolsOf.{symbols_of}
 use Rattle.slicc_plan.specs.SymbolsOfMachines.{machine_symbols}
 use Rattle.protocol_runs.specs.IsSetting.{HasQueue, TakesRequests}
 use Rattle.protocol_runs.specs.Machines.{is_in_range, machine_of}
-use Rattle.protocol_runs.specs.Setting.{SeatSetup}
 use Rattle.ruby_topology.specs.declared.statement.Member.{Member}
 use Rattle.ruby_topology.specs.declared.topology.Seat.{Seat}
 use Rattle.ruby_topology.specs.declared.topology.Topology.{Topology}
-use Rattle.ruby_topology.specs.Topology.{can_be_asked, is_seat, members_from, ranges_from, seat_of, seats_of}
+use Rattle.ruby_topology.specs.Topology.{can_be_asked, is_seat, members_from, seat_of, seats_of}
 use Rattle.topology_fit.specs.FitsPlan.{AtSetup, ComesBefore, IsSeat}
 use Rattle.topology_fit.specs.Seats.{queue_of, seat_setup}
 use Rattle.topology_fit.specs.Setups.{ranges_of, setups_of}

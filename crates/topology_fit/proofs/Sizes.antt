@@ -1,11 +1,10 @@
 -- The sizes that a topology sets are those of its machines' own tables and numbers, each once, within the ranges of topologies.
-use Rattle.std.proofs.Common.{◌≡◌, ◌≢◌, ◌<◌, ◌≤◌, ◌*◌, ◌∙◌, ◌&&◌, ℕ, Bool, true, false, cond, eqb, Option, None, Some, List, ap, refl, sym, subst, arith, true≢false, length, map, eqb-true, eq-eqb}
-use Rattle.std.specs.Prelude.{AllPairs, IsSomeAnd, ℤ, pos, ◌≤ℤ◌, slice_get}
-use Rattle.std.specs.List.{All, filter_map, range_with_len}
+use Rattle.std.proofs.Common.{◌≡◌, ◌≢◌, ◌∙◌, ◌&&◌, ℕ, false, eqb, Option, None, Some, List, ap, refl, sym, subst, true≢false, length, eqb-true, eq-eqb}
+use Rattle.std.specs.Prelude.{IsSomeAnd, ℤ, slice_get}
 use Rattle.std.specs.Option.{option_map}
 use Rattle.std.proofs.lemmas.Bool.{and_from}
 use Rattle.std.proofs.lemmas.List.Elements.{All-weaker}
-use Rattle.std.proofs.lemmas.Option.{cond_some, slice_get_within}
+use Rattle.std.proofs.lemmas.Option.{cond_some}
 use Rattle.ruby_value.specs.declared.kind.Kind.TheVariants as kind
 use Rattle.ruby_value.specs.declared.setup.Sizes.{Sizes}
 use Rattle.ruby_symbols.specs.declared.machine.MachineSymbols.{MachineSymbols}
@@ -17,12 +16,11 @@ use Rattle.ruby_symbols.specs.declared.types.FieldSymbol.{FieldSymbol}
 use Rattle.ruby_topology.specs.declared.statement.Statement.{Statement}
 use Rattle.ruby_topology.specs.declared.statement.Statement.TheVariants.{Machine, Network, Link, Jitter, Ordered, Cache, Tbes, Set}
 use Rattle.ruby_topology.specs.Lines.{sort_at}
-use Rattle.ruby_topology.specs.Said.{sets_value, sizes_table}
 use Rattle.ruby_topology.specs.Topology.{cache_of, sizes_of, tbes_of, value_of}
 use Rattle.slicc_ast.specs.declared.tree.item.Tree.{Tree}
 use Rattle.slicc_plan.specs.Declarations.{machines_of}
 use Rattle.slicc_plan.specs.Setups.{AreSizesOf, HasRoom, cache_size, tbe_size}
-use Rattle.topology_fit.specs.FitsPlan.{AreSizesIn, HasTable, IsCacheSize, IsNumberOf, IsTbe, IsTbesSize}
+use Rattle.topology_fit.specs.FitsPlan.{AreSizesIn, IsCacheSize, IsNumberOf, IsTbe, IsTbesSize}
 use Rattle.topology_fit.proofs.Lines.{AreKnown, IsNewAfter, IsSound}
 use Rattle.topology_fit.proofs.Places.{pairs_picked, picked, some_and}
 

@@ -1,6 +1,6 @@
 -- Among few controllers a least sum is small: a way along links that comes to a controller twice can be made shorter, so some way
 -- has no more links than there are controllers.
-use Rattle.std.proofs.Common.{◌≡◌, ◌≢◌, ◌⊎◌, ◌<◌, ◌≤◌, ◌+◌, ◌*◌, ◌∙◌, ◌||◌, ℕ, zero, suc, Bool, true, false, cond, not, eqb, List, [], ◌∷◌, ap, refl, sym, subst, arith, inl, inr, ⊎_elim, true≢false, length, mul-le-mul_right, eq-eqb, ne_eqb, eqb-true}
+use Rattle.std.proofs.Common.{◌≡◌, ◌≢◌, ◌⊎◌, ◌<◌, ◌≤◌, ◌*◌, ◌∙◌, ◌||◌, ℕ, zero, suc, Bool, true, false, cond, not, eqb, List, [], ◌∷◌, refl, sym, subst, arith, inl, inr, ⊎_elim, length, mul-le-mul_right, eq-eqb, eqb-true}
 use Rattle.std.specs.Prelude.{All, Contains, filter, sum_by}
 use Rattle.std.specs.List.{list_any, range_with_len}
 use Rattle.std.proofs.lemmas.Bool.{cases_eq, or_left, or_right}
@@ -8,7 +8,7 @@ use Rattle.std.proofs.lemmas.List.Elements.{All-cons, All-contains, All-head, Al
 use Rattle.std.proofs.lemmas.List.FromFn.{length-range_with_len}
 use Rattle.std.proofs.lemmas.List.Sums.{sum_by-le}
 use Rattle.ruby_topology.specs.declared.statement.Link.{Link}
-use Rattle.ruby_topology.specs.Paths.{HasWay, IsLeastSum, Joins, LeadsTo}
+use Rattle.ruby_topology.specs.Paths.{IsLeastSum, Joins, LeadsTo}
 use Rattle.ruby_topology.specs.Search.{IsBetween}
 use Rattle.ruby_topology.proofs.Totals.{any_at}
 

@@ -7,6 +7,7 @@ use std::alloc::Global;
 const FEW: usize = 4;
 
 /// A line that is made piece by piece. Where memory runs out it loses the piece, and is no longer whole.
+#[derive(Drop)]
 struct Line {
     alloc: Global,
     text: Text,
@@ -37,11 +38,8 @@ impl Line {
 
     /// The text, if none of it was lost.
     fn text(self) -> Result<Text, NoMemory> {
-        if self.whole {
-            Ok(self.text)
-        } else {
-            Err(NoMemory)
-        }
+        let Line { text, whole, .. } = self;
+        if whole { Ok(text) } else { Err(NoMemory) }
     }
 }
 
