@@ -1,5 +1,5 @@
 -- What a topology is made of, and what it lacks.
-use Rattle.std.proofs.Common.{◌≡◌, ◌≤◌, ◌+◌, ◌∙◌, ℕ, true, false, eqb, Option, Result, Ok, Err, List, [], ◌∷◌, ap, refl, sym, subst, arith, length, sum, get_or, MatchOption, IfErr, IfOk, OnOk}
+use Rattle.std.proofs.Common.{◌≡◌, ◌≤◌, ◌+◌, ◌∙◌, ℕ, true, false, eqb, Option, Result, Ok, Err, List, [], ◌∷◌, ap, refl, sym, subst, arith, length, sum, get_or, MatchOption, IfErr, IfOk}
 use Rattle.std.specs.List.{All}
 use Rattle.std.proofs.lemmas.Bool.{eqb-true}
 use Rattle.ruby_symbols.specs.declared.symbols.Symbols.{Symbols}
@@ -54,10 +54,6 @@ pub found_rows : {E : Type 0} (links : List Link) (total from : ℕ) (marks lent
 found_rows links total from marks lent same searched (Ok o) sums =
     found_row links total from marks searched o (subst (λ ms. SumsOf ms o) same sums)
 found_rows links total from marks lent same searched (Err e) sums = sums
-
-pub on_ok : {A E : Type 0} (P : Type 0) (r : Result A E) → P → OnOk r P
-on_ok P (Ok x) h = h
-on_ok P (Err e) h = tt
 
 nil_if_none : {A : Type 0} (xs : List A) → eqb (length xs) 0 ≡ true → xs ≡ []
 nil_if_none [] none = refl

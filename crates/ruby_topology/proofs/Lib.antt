@@ -1,6 +1,7 @@
 pub mod Digits
 pub mod Ends
 pub mod Names
+pub mod One
 pub mod Ranges
 pub mod Rows
 pub mod Searches

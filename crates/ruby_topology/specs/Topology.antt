@@ -27,7 +27,6 @@ use Rattle.ruby_topology.specs.Members.{controller_name, count_or_none, machine_
 use Rattle.ruby_topology.specs.Paths.{AreRows, HasIsland}
 use Rattle.ruby_topology.specs.Said.{controllers, count_of, is_member, is_ordered_said, jitter_said, network_said}
 use Rattle.ruby_topology.specs.Text.{lines_of}
-use Rattle.ruby_topology.specs.Within.{IsWithin}
 
 -- Controllers.
 
@@ -184,13 +183,6 @@ pub record IsTopologyOf (symbols : Symbols) (bytes : List ℕ) (t : Topology) : 
   pub said : List Statement
   pub is_said : reading symbols (lines_of bytes) ≡ Ok said
   pub topology : IsTopologySaid symbols said t
-
--- what the lines of a file say is within the ranges of topologies, with 64 controllers at most
-pub record IsSaidWithin (symbols : Symbols) (bytes : List ℕ) : Type 0 where
-  pub said : List Statement
-  pub is_said : reading symbols (lines_of bytes) ≡ Ok said
-  pub within : All IsWithin said
-  pub few : controllers said ≤ 64
 
 -- a file is no topology, by this rule at this line: the first line that breaks one, and the least that it breaks; what no line
 -- breaks but all together is told at the line after the last

@@ -4,6 +4,7 @@
 
 mod counts;
 mod forms;
+mod laws;
 mod lines;
 mod members;
 mod paths;
@@ -16,6 +17,7 @@ mod text;
 mod topology;
 
 pub use ctl_face::Routes;
+pub use laws::answers_are_one;
 pub use ruby_base::{NoMemory, Seq, Text};
 pub use ruby_value::Sizes;
 pub use rules::TopoFault;

@@ -1,7 +1,6 @@
 //! Links by numbers, buffers on virtual networks, sizes and seats.
-ghost use Rattle.std.specs.Prelude.{◌≡◌, ◌≤◌, IfOk, length, map, option_and_then};
+ghost use Rattle.std.specs.Prelude.{◌≡◌, ◌≤◌, IfOk, length, map};
 ghost use Rattle.std.specs.List.{filter_map, list_any, position, range_with_len};
-ghost use Rattle.ruby_symbols.specs.Numbers.{short_number};
 ghost use Rattle.ruby_symbols.specs.declared.machine.BufferSymbol.{BufferSymbol as BufferRecord};
 ghost use Rattle.ruby_topology.specs.declared.statement.Member.{Member as MemberRecord};
 ghost use Rattle.ruby_topology.specs.Topology.{cache_of, calls_ordered, can_be_asked, has_ordered, is_from, is_on, is_ordered_on, is_seat, link_in, links_of, number_in, receiving_at, receiving_of, seat_of, seats_of, sizes_of, tbes_of, value_of};
@@ -65,22 +64,13 @@ fn receiving_place(m: &MachineSymbols, network: u16) -> Option<usize>
     m.buffers.iter().position(|b| is_from(b, network))
 }
 
-// A place as a number of 16 bits.
-fn short_number(place: Option<usize>) -> Option<u16>
-    ensures { result ≡ option_and_then short_number place }
-{
-    match place {
-        None => None,
-        Some(n) => { if n < 65536 { Some(n as u16) } else { None } }
-    }
-}
-
 // The number of the buffer that takes the messages of a virtual network at the controllers of a machine.
 fn receiving_at(symbols: &Symbols, machine: usize, network: u16) -> Option<u16>
     ensures { result ≡ receiving_at symbols.now machine network }
 {
     let m = symbols.machines.get(machine)?;
-    short_number(receiving_place(m, network))
+    let place = receiving_place(m, network)?;
+    u16::try_from(place).ok()
 }
 
 fn receiving_of(

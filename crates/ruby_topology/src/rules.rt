@@ -26,7 +26,7 @@ pub const T7_NO_PATH: u8 = 7;
 pub const T8_NO_SEAT: u8 = 8;
 
 /// Why there is no topology.
-#[derive(Clone, Copy, Debug, PartialEq, Eq)]
+#[derive(Clone, Copy)]
 pub enum TopoFault {
     /// The first line that breaks a rule, and the least rule that it breaks. Lines count from 1. What no line breaks but all
     /// together is told at the line after the last; a plain run has no lines, and what it lacks is told at line 0.

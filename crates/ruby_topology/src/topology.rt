@@ -1,12 +1,13 @@
 //! The topology of a file, and that of a plain run.
-ghost use Rattle.std.specs.Prelude.{◌≡◌, ◌≤◌, ◌∷◌, [], All, IfErr, IfOk, MatchOption, OnOk, false, length, map, sum};
+ghost use Rattle.std.specs.Prelude.{◌≡◌, ◌≤◌, ◌∷◌, [], All, IfErr, IfOk, MatchOption, false, length, map, sum};
 ghost use Rattle.std.specs.List.{range_with_len};
 ghost use Rattle.ruby_topology.specs.declared.statement.Network.TheVariants.{PointToPoint};
 ghost use Rattle.ruby_topology.specs.Faults.{ForLine};
 ghost use Rattle.ruby_topology.specs.Paths.{AreRows, HasIsland};
 ghost use Rattle.ruby_topology.specs.Said.{controllers};
-ghost use Rattle.ruby_topology.specs.Topology.{HasParts, HasRoutes, IsLackingSaid, IsPlainOf, IsRefused, IsRefusedPlain, IsSaidWithin, IsTopologyOf, IsTopologySaid, can_be_plain, counts_of, lacks_line, links_of, members_from, network_of, ranges_from, sizes_of};
+ghost use Rattle.ruby_topology.specs.Topology.{HasParts, HasRoutes, IsLackingSaid, IsPlainOf, IsRefused, IsRefusedPlain, IsTopologyOf, IsTopologySaid, can_be_plain, counts_of, lacks_line, links_of, members_from, network_of, ranges_from, sizes_of};
 ghost use Rattle.ruby_topology.specs.Within.{IsWithin};
+ghost use Rattle.slicc_plan.specs.SymbolsOf.{symbols_of};
 
 use crate::counts::{counts, members, names, ranges};
 use crate::lines::read_lines;
@@ -19,6 +20,7 @@ use ctl_face::Routes;
 use ruby_base::{NoMemory, Seq, Text};
 use ruby_symbols::{Symbols, takes_requests};
 use ruby_value::Sizes;
+use slicc_plan::Plan;
 use std::alloc::Global;
 
 /// A controller that a driver asks.
@@ -240,14 +242,14 @@ fn said_topology(
     }
 }
 
-/// The topology that a file says for a protocol with these symbols, or the first line that breaks a rule with the least rule that
-/// it breaks; what no line breaks but all together is told at the line after the last. docs/LANGUAGE.md has the lines and the rules.
-pub fn read_topology(alloc: Global, bytes: &[u8], symbols: &Symbols) -> Result<Topology, TopoFault>
+/// The topology that a file says for a protocol, or the first line that breaks a rule with the least rule that it breaks; what no
+/// line breaks but all together is told at the line after the last. docs/LANGUAGE.md has the lines and the rules.
+pub fn read_topology(alloc: Global, bytes: &[u8], plan: &Plan) -> Result<Topology, TopoFault>
     requires { length bytes.now ≤ 1048576 }
-    ensures ok { IfOk result (IsTopologyOf symbols.now bytes.now) }
-    ensures within { OnOk result (IsSaidWithin symbols.now bytes.now) }
-    ensures err { IfErr result (λ fault. ForLine fault (IsRefused symbols.now bytes.now)) }
+    ensures ok { IfOk result (IsTopologyOf (symbols_of plan.now) bytes.now) }
+    ensures err { IfErr result (λ fault. ForLine fault (IsRefused (symbols_of plan.now) bytes.now)) }
 {
+    let symbols = plan.symbols();
     let read = read_lines(alloc, symbols, bytes)?;
     let topology = said_topology(alloc, symbols, read.said.as_slice(), read.after);
     drop(read);
@@ -274,12 +276,13 @@ fn lone_paths(alloc: Global) -> Result<Seq<Seq<u64>>, NoMemory>
     Ok(paths)
 }
 
-/// The topology of a plain run of a protocol with these symbols: one controller, which is asked without a sequencer. There is none
-/// where there isn't exactly one machine, or it has no buffer `mandatoryQueue` of its own on which a port of type `RubyRequest` is.
-pub fn plain(alloc: Global, symbols: &Symbols) -> Result<Topology, TopoFault>
-    ensures ok { IfOk result (IsPlainOf symbols.now) }
-    ensures err { IfErr result (λ fault. ForLine fault (IsRefusedPlain symbols.now)) }
+/// The topology of a plain run of a protocol: one controller, which is asked without a sequencer. There is none where there isn't
+/// exactly one machine, or it has no buffer `mandatoryQueue` of its own on which a port of type `RubyRequest` is.
+pub fn plain(alloc: Global, plan: &Plan) -> Result<Topology, TopoFault>
+    ensures ok { IfOk result (IsPlainOf (symbols_of plan.now)) }
+    ensures err { IfErr result (λ fault. ForLine fault (IsRefusedPlain (symbols_of plan.now))) }
 {
+    let symbols = plan.symbols();
     if !can_be_plain(symbols) {
         return Err(TopoFault::Line {
             rule: T8_NO_SEAT,

@@ -3,7 +3,7 @@
 -- know all machines' controllers; the controllers have their names; the routes fit the machines, as they ask for it; and there is
 -- a seat, the seats are in increasing number, so that each has another controller, and each controller that has one has a buffer
 -- `mandatoryQueue` of its own with messages of type `RubyRequest`, and a sequencer where the seat says so.
-use Rattle.std.specs.Prelude.{ℕ, ◌≡◌, ◌≢◌, ◌<◌, ◌≤◌, ◌≤ℤ◌, All, IfSome, IsSomeAnd, true, ℤ, pos, Some, List, [], length, map, option_and_then, slice_get}
+use Rattle.std.specs.Prelude.{ℕ, ◌≡◌, ◌≢◌, ◌<◌, ◌≤◌, ◌*◌, ◌≤ℤ◌, All, IfSome, IsSomeAnd, true, ℤ, pos, List, [], length, map, option_and_then, slice_get}
 use Rattle.std.specs.List.{AllPairs}
 use Rattle.ruby_value.specs.declared.kind.Kind.TheVariants.{Int}
 use Rattle.ruby_value.specs.declared.setup.MachineSetup.{MachineSetup}

@@ -3,8 +3,8 @@
 #![tactic(auto)]
 
 mod laws;
-mod setups;
+mod machines;
 
 pub use laws::{plain_topologies_fit, topologies_fit};
+pub use machines::setups;
 pub use ruby_base::{NoMemory, Seq};
-pub use setups::setups;

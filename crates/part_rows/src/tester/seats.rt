@@ -1,0 +1,68 @@
+// The sequencers of some controllers, which are moved to seats for the length of a turn and back again.
+ghost use Rattle.std.specs.Prelude.{◌≡◌, ◌≤◌, ◌^◌, IfOk, length};
+
+use crate::tester::lines::write_requests;
+use random_tester::Tester;
+use ruby_base::{NoMemory, Text};
+use sequencer::{Driver, DriverEnd, OwnedSeat, OwnedSeats, Sequencer};
+use std::alloc::Global;
+use std::mem;
+
+// Takes the sequencers from where they are to seats that own them. Seat k is at controller 2 k + 1.
+fn seats_of(alloc: Global, sequencers: &mut [Sequencer]) -> Result<OwnedSeats, NoMemory>
+    requires { length sequencers.old ≤ 3 }
+    ensures { IfOk result (λ s. length s.kept.seats ≡ length sequencers.old) }
+{
+    let mut seats = Vec::new(alloc);
+    for sequencer in sequencers.iter_mut() {
+        let controller = 2 * seats.len() as u32 + 1;
+        let sequencer = Some(mem::replace(sequencer, Sequencer::new(alloc)));
+        seats.push(OwnedSeat {
+            controller,
+            sequencer,
+        })?;
+    }
+    Ok(OwnedSeats::new(alloc, seats))
+}
+
+// Puts the sequencers back where they were.
+fn put_back(seats: Vec<OwnedSeat>, sequencers: &mut [Sequencer]) {
+    let mut k = 0;
+    for seat in seats {
+        if let Some(sequencer) = seat.sequencer {
+            if k < sequencers.len() {
+                sequencers[k] = sequencer;
+                k += 1;
+            }
+        }
+    }
+}
+
+/// What comes of a turn: how many requests were issued, and how the driver's turn ended.
+#[derive(Clone, Copy)]
+pub(crate) struct Turned {
+    pub(crate) issued: usize,
+    pub(crate) end: DriverEnd,
+}
+
+/// The turn of a cycle of the tester over these sequencers, whose requests are written to a text.
+pub(crate) fn turn(
+    alloc: Global,
+    now: u64,
+    tester: &mut Tester,
+    sequencers: &mut [Sequencer],
+    text: &mut Text,
+) -> Result<Turned, NoMemory>
+    requires some { 1 ≤ length sequencers.old }
+    requires few { length sequencers.old ≤ 3 }
+    requires cycle { now ≤ 10 ^ 12 }
+{
+    let mut seats = seats_of(alloc, sequencers)?;
+    tester.reserve(now, &mut seats)?;
+    seats.fits();
+    let end = tester.turn(now, &mut seats);
+    write_requests(alloc, now, seats.issued(), text)?;
+    let issued = seats.issued().len();
+    put_back(seats.into_seats(), sequencers);
+    Ok(Turned { issued, end })
+}

@@ -1,0 +1,17 @@
+pub mod Alike
+pub mod Buffers
+pub mod ByNumber
+pub mod Counts
+pub mod Fit
+pub mod Lines
+pub mod Numbers
+pub mod Paths
+pub mod Places
+pub mod Plain
+pub mod Queues
+pub mod Read
+pub mod Requests
+pub mod Routes
+pub mod Seats
+pub mod Sizes
+pub mod Ways
