@@ -1,8 +1,9 @@
-ghost use Rattle.std.specs.Prelude.{◌≡◌, is_some};
+ghost use Rattle.std.specs.Prelude.{◌≡◌, ℕ, None, is_some};
 ghost use Rattle.std.specs.Borrow.{sem};
 ghost use Rattle.std.specs.Option.{option_copied, option_copied_mut};
 ghost use Rattle.ctl_store.specs.Kept.{ctl_of, requests_of};
 ghost use Rattle.ctl_store.specs.Lending.{LendsSequencer};
+ghost use Rattle.ctl_store.specs.Room.{HasRoomForMessages, IsSameStore};
 
 use crate::store::Store;
 use sequencer::Sequencer;
@@ -22,5 +23,26 @@ impl Store {
         ensures requests { requests_of (option_copied result) ≡ (ctl_of self.now).sequencer }
     {
         self.parts.sequencer.as_ref()
+    }
+
+    /// Moves the controller's sequencer out, so that the controller has none until one is put there. It takes no memory.
+    pub fn take_sequencer(&mut self) -> Option<Sequencer>
+        ensures taken { requests_of result ≡ (ctl_of self.old).sequencer }
+        ensures after { ctl_of self.new ≡ record (ctl_of self.old) { sequencer = None } }
+        ensures store { IsSameStore self.old self.new }
+        ensures room { (messages : ℕ) → HasRoomForMessages self.old messages
+            → HasRoomForMessages self.new messages }
+    {
+        self.parts.sequencer.take()
+    }
+
+    /// Puts a sequencer, or none, in the place of the controller's. It takes no memory.
+    pub fn put_sequencer(&mut self, sequencer: Option<Sequencer>)
+        ensures after { ctl_of self.new ≡ record (ctl_of self.old) { sequencer = requests_of sequencer } }
+        ensures store { IsSameStore self.old self.new }
+        ensures room { (messages : ℕ) → HasRoomForMessages self.old messages
+            → HasRoomForMessages self.new messages }
+    {
+        self.parts.sequencer = sequencer;
     }
 }

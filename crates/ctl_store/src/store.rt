@@ -110,6 +110,13 @@ impl Store {
         self.parts.fired = 0;
     }
 
+    /// Whether the controller has stopped. It takes no memory.
+    pub fn stopped(&self) -> bool
+        ensures { result ≡ (ctl_of self.now).stopped }
+    {
+        self.parts.stopped
+    }
+
     /// How many transitions have fired in this cycle.
     pub fn fired(&self) -> u64
         ensures { result ≡ (ctl_of self.now).fired }

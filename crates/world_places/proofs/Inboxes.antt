@@ -1,0 +1,20 @@
+-- An inbox to which a message has come.
+use Rattle.std.proofs.Common.{◌≡◌, ◌≢◌, List, Bool, ◌∷◌, ◌++◌, All, sym}
+use Rattle.std.proofs.lemmas.List.Elements.{All-append, All-cons, All-filter}
+use Rattle.ruby_value.specs.declared.message.Message.{Message}
+use Rattle.ruby_value.specs.declared.message.MsgNo.{MsgNo}
+use Rattle.ruby_value.specs.Inserted.{inserted}
+use Rattle.ruby_value.specs.NumberBefore.{number_before}
+use Rattle.ctl_face.specs.Between.{with_arrival}
+use Rattle.ctl_face.specs.Ctl.{Ctl, InboxMessage}
+use Rattle.ctl_mail.specs.MailOf.{IsNewIn}
+
+all-inserted : {X : Type 0} (P : X → Type 0) (before : X → X → Bool) (items : List X) (item : X) → All P items → P item → All P (inserted before items item)
+all-inserted P before items item all holds =
+    All-append P _ _ (All-filter (λ o. before o item) P items all) (All-cons P item _ holds (All-filter (λ o. before item o) P items all))
+
+-- a number that was new, and isn't the message's, still is
+pub still-new : (x : Ctl) (m : Message) (n : MsgNo) → n ≢ m.number → IsNewIn x.mail n → IsNewIn (with_arrival x m).mail n
+still-new x m n differ new =
+    all-inserted (λ (o : InboxMessage). o.message.number ≢ n) (λ (a b : InboxMessage). number_before a.message.number b.message.number) x.mail.inbox _ new
+    (λ same. differ (sym same))

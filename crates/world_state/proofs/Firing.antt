@@ -1,0 +1,49 @@
+-- A transition that fires is a step of the run: its copies come to their receivers, none of which is held.
+use Rattle.std.proofs.Common.{◌≡◌, ◌<◌, ◌+◌, ◌++◌, ℕ, Bool, List, [], ◌∷◌, Option, None, Some, map, length, refl, sym, ◌∙◌, ap, subst, slice_get, slice_set}
+use Rattle.run_journal.specs.declared.event.Event.TheVariants.{Fire}
+use Rattle.run_journal.specs.declared.entry.FireNote.{FireNote}
+use Rattle.ruby_value.specs.declared.message.Delivery.{Delivery}
+use Rattle.ruby_value.specs.declared.message.Message.{Message}
+use Rattle.ruby_runs.specs.Change.{FiredBy}
+use Rattle.ruby_runs.specs.Rules.{Acts, Fired, Rules}
+use Rattle.ruby_runs.specs.Step.{fired_entry}
+use Rattle.ruby_runs.specs.World as runs
+use Rattle.ctl_face.specs.Between.{with_one_fired}
+use Rattle.ctl_face.specs.Ctl.{Ctl}
+use Rattle.protocol_runs.specs.Meaning.{Meaning}
+use Rattle.protocol_runs.specs.Rules.{rules}
+use Rattle.protocol_runs.specs.Setting.{Setting}
+use Rattle.sequencer.specs.Drive.{Drive}
+use Rattle.sequencer.specs.Seats.{Seat}
+use Rattle.world_places.specs.Arrivals.{delivered}
+use Rattle.world_places.specs.Places.{Made, made_in, place_with, places_with}
+use Rattle.world_state.specs.declared.state.State.{State}
+use Rattle.world_state.specs.States.{held_place, AreMade, IsHeldIn, IsKept, IsLone}
+use Rattle.world_state.specs.Steps.{IsStep, SameCycle, Writes}
+use Rattle.world_state.proofs.Stepping.{moves, stays-kept}
+use Rattle.world_state.proofs.Worlds.{delivers, held-same, place-at}
+
+module _ {D : Type 0} (p : Meaning) (drive : D → List Seat → ℕ → Drive D) (s : Setting D) where
+  abbrev R : Rules Ctl Message D
+  R = rules p drive s
+
+  module _ (x : Ctl) (old new : State D) (worker c : ℕ) (finished : Bool) (was : slice_get old.places.items c ≡ Some (held_place worker finished))
+      (is_kept : IsKept p drive s x old) (note : FireNote) (acts : Acts) (copies : List (Delivery Message)) (after : Ctl) where
+    pub fire-steps : old.verdict ≡ None → (R.scan c x old.now).outcome ≡ Fired note acts copies after
+        → ((held : Ctl) → places_with held new.places.items ≡ delivered (places_with held old.places.items) copies)
+        → SameCycle old new → Writes old new (Fire worker c) (Some (fired_entry old.now c note acts))
+        → IsStep p drive s x old (Fire worker c) (with_one_fired after) new
+    fire-steps running scanned places same writes =
+        let y : Ctl = with_one_fired after in
+        moves p drive s x y old new c (place_with x (held_place worker finished)) (Fire worker c) _ running (place-at x old.places.items c (held_place worker finished) was)
+        (FiredBy worker note acts copies after refl scanned)
+        (places y
+        ∙ ap (λ (ps : List (runs.Place Ctl)). delivered ps copies) (held-same y x old.places.items c (held_place worker finished) is_kept.lone was refl)
+        ∙ sym (delivers p drive s (slice_set (places_with x old.places.items) c (place_with y (held_place worker finished))) copies))
+        same writes
+
+    pub fire-kept : IsStep p drive s x old (Fire worker c) (with_one_fired after) new → made_in new.places.items ≡ made_in old.places.items → 0 < new.book.event_room
+        → IsKept p drive s (with_one_fired after) new
+    fire-kept st made room =
+        stays-kept p drive s x (with_one_fired after) old new (Fire worker c) is_kept st
+        (subst (AreMade s) (sym made) is_kept.made) (subst IsLone (sym made) is_kept.lone) (λ d held. room)

@@ -1,0 +1,10 @@
+pub mod Worlds
+pub mod Mades
+pub mod Stepping
+pub mod Firing
+pub mod Copies
+pub mod Arriving
+pub mod Counting
+pub mod Rooms
+pub mod Kept
+pub mod Openings

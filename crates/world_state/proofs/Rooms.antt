@@ -1,0 +1,45 @@
+-- Places that have changed but for room: what could come to them still can.
+use Rattle.std.proofs.Common.{◌≡◌, ◌<◌, ℕ, Bool, List, Option, None, Some, All, IsSomeAnd, length, refl, sym, ◌∙◌, ap, subst, slice_get}
+use Rattle.std.proofs.lemmas.List.Elements.{All-weaker}
+use Rattle.std.proofs.lemmas.Option.{same_Some}
+use Rattle.ruby_value.specs.declared.message.Delivery.{Delivery}
+use Rattle.ruby_value.specs.declared.message.Message.{Message}
+use Rattle.ruby_value.specs.declared.setup.MachineSetup.{MachineSetup}
+use Rattle.ruby_runs.specs.World as runs
+use Rattle.ruby_runs.proofs.Places.{mapped-from}
+use Rattle.ctl_face.specs.Ctl.{Ctl}
+use Rattle.ctl_mail.specs.MailOf.{IsNewIn}
+use Rattle.ctl_store.specs.Kept.{ctl_of}
+use Rattle.world_places.specs.Arrivals.{CanArrive, SuitsBy, Takes, TakesAt}
+use Rattle.world_places.specs.declared.place.Keeper.{Keeper}
+use Rattle.world_places.specs.declared.place.Keeper.TheVariants.{World, Worker}
+use Rattle.world_places.specs.declared.place.Place.{Place}
+use Rattle.world_places.specs.Places.{Made, made_by, made_in, place_by, place_with, places_with}
+use Rattle.protocol_runs.proofs.Controllers.{and-some, some-and}
+use Rattle.world_state.proofs.Worlds.{made-at, place-at}
+
+suits-same : (m : Message) (x : Ctl) (k j : Keeper) (f g : Bool) → place_by x g j ≡ place_by x f k → made_by j ≡ made_by k → SuitsBy m k → SuitsBy m j
+suits-same m x (World a) (World b) f g place made suits =
+    let ctl : ctl_of a.store ≡ ctl_of b.store = sym (ap (λ (p : runs.Place Ctl). p.controller) place) in
+    let same : ◌≡◌ {A = Made} _ _ = same_Some _ _ made in
+    record {
+      new = subst (λ (y : Ctl). IsNewIn y.mail m.number) ctl suits.new;
+      buffer = subst (λ (s : MachineSetup). m.buffer < length s.buffers) (sym (ap (λ (n : Made). n.machine) same)) suits.buffer;
+    }
+suits-same m x (World a) (Worker w) f g place made suits = absurd (cc made)
+suits-same m x (Worker w) j f g place made suits = absurd suits
+
+module _ (x : Ctl) (old new : List Place) (places : places_with x new ≡ places_with x old) (made : made_in new ≡ made_in old) where
+  takes-same : (d : Delivery Message) → TakesAt old d → TakesAt new d
+  takes-same d takes =
+      let (k, there, suits) = and-some (Takes d.message) (slice_get old d.receiver) takes in
+      let (j, at, same) =
+      mapped-from (λ (p : Place). made_by p.keeper) new d.receiver (made_by k.keeper)
+      (ap (λ (ms : List (Option Made)). slice_get ms d.receiver) made ∙ made-at old d.receiver k there) in
+      let place : place_with x j ≡ place_with x k =
+      same_Some (place_with x j) (place_with x k)
+      (sym (place-at x new d.receiver j at) ∙ ap (λ (ps : List (runs.Place Ctl)). slice_get ps d.receiver) places ∙ place-at x old d.receiver k there) in
+      some-and (Takes d.message) (slice_get new d.receiver) j at (suits-same d.message x k.keeper j.keeper k.finished j.finished place same suits)
+
+  pub arrive-same : (ds : List (Delivery Message)) → CanArrive old ds → CanArrive new ds
+  arrive-same ds can = record { taken = All-weaker (TakesAt old) (TakesAt new) takes-same ds can.taken; apart = can.apart }

@@ -1,0 +1,5 @@
+pub mod Booked
+pub mod States
+pub mod Steps
+pub mod Ended
+pub mod Opened

@@ -1,0 +1,16 @@
+//! A world's data: the places of its controllers, its driver, and what has happened in it; and how each event changes them.
+#![tactic(auto)]
+
+mod book;
+mod ends;
+mod fires;
+mod laws;
+mod opening;
+mod state;
+
+pub use book::Book;
+pub use laws::{
+    copies_can_arrive, ends_are_steps, fires_are_steps, releases_are_steps, runs_open,
+    takes_are_steps,
+};
+pub use state::State;

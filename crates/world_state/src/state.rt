@@ -1,0 +1,59 @@
+//! A world's data, and how a worker takes a controller and gives it back.
+ghost use Rattle.std.specs.Prelude.{◌≡◌, ◌<◌, ◌∷◌, [], ◌++◌, IfOk, OnErr, OnOk, None, length};
+ghost use Rattle.run_journal.specs.declared.event.Event.TheVariants as event;
+ghost use Rattle.world_places.specs.Places.{IsHomeAt, IsPutBack, IsTakenOut};
+ghost use Rattle.world_state.specs.Steps.{IsSame, SameCycle, Writes};
+
+use crate::book::Book;
+use ruby_value::NoMemory;
+use run_journal::{Event, Verdict};
+use world_places::{Kept, Place, put_back, take_out};
+
+/// The data of a world. The controllers stand by their numbers; one that a worker holds is out of its place. `issued` is how many
+/// requests the driver has issued, and `next` the next cycle at which it must act.
+#[derive(Drop)]
+pub struct State<D> {
+    pub now: u64,
+    pub places: Vec<Place>,
+    pub driver: D,
+    pub issued: u64,
+    pub next: Option<u64>,
+    pub verdict: Option<Verdict>,
+    pub book: Book,
+}
+
+impl<D> State<D> {
+    /// A worker takes a controller that nobody holds. It makes room for one event more, beside its own.
+    pub fn take(&mut self, worker: u32, c: u32) -> Result<Kept, NoMemory>
+        requires { IsHomeAt self.old.places.items c }
+        ensures places { IfOk result (λ kept.
+            IsTakenOut worker c kept self.old.places.items self.new.places.items) }
+        ensures writes { OnOk result (Writes self.old self.new (event.Take worker c) None) }
+        ensures room { OnOk result (0 < self.new.book.event_room) }
+        ensures cycle { SameCycle self.old self.new }
+        ensures err { OnErr result (IsSame self.old self.new) }
+    {
+        self.book.reserve(2)?;
+        let kept = take_out(&mut self.places, worker, c);
+        self.book.note(Event::Take {
+            worker,
+            controller: c,
+        });
+        Ok(kept)
+    }
+
+    /// A worker gives a controller back, whose wake-up goes on. It takes no memory.
+    pub fn release(&mut self, worker: u32, c: u32, kept: Kept)
+        requires there { c < length self.old.places.items }
+        requires room { 0 < self.old.book.event_room }
+        ensures places { IsPutBack c kept self.old.places.items self.new.places.items }
+        ensures writes { Writes self.old self.new (event.Release worker c) None }
+        ensures cycle { SameCycle self.old self.new }
+    {
+        put_back(&mut self.places, c, kept);
+        self.book.note(Event::Release {
+            worker,
+            controller: c,
+        });
+    }
+}
