@@ -1,0 +1,4 @@
+pub mod Rows
+pub mod Forms
+pub mod Made
+pub mod Steps

@@ -1,0 +1,218 @@
+use Rattle.std.proofs.Common.{◌≡◌, ◌<◌, ◌≤◌, ◌∙◌, ℕ, List, get_or, length, Option, Ok, refl, sym, ap, subst}
+use Rattle.std.proofs.lemmas.Result.{err_from_is_err_and}
+use Rattle.slicc_ast.specs.declared.tree.statement.Block.{Block}
+use Rattle.slicc_ast.specs.declared.tree.statement.ElseIf.{ElseIf}
+use Rattle.slicc_ast.specs.declared.tree.statement.If.{out-If}
+use Rattle.slicc_ast.specs.declared.tree.statement.Stmt.{Stmt}
+use Rattle.ruby_value.specs.declared.message.Message.{Message}
+use Rattle.acts.specs.declared.body_fault.BodyFault.TheVariants as own
+use Rattle.acts.specs.Act as act
+use Rattle.acts.specs.Acting.{Acting, ◌>>=◌, act as done, found}
+use Rattle.acts.specs.DoesAs.{DoesAs, itself}
+use Rattle.acts.proofs.Walk.{does_ends_as, then_does}
+use Rattle.body_meaning.specs.declared.frame.Flow.{Flow}
+use Rattle.body_meaning.specs.declared.frame.Flow.TheVariants.{WentOn, Returned, Triggered}
+use Rattle.body_meaning.specs.declared.frame.Frame.{Frame}
+use Rattle.body_meaning.specs.Bodies.{calls_within}
+use Rattle.body_meaning.specs.Calls.{Calls}
+use Rattle.body_meaning.specs.Frames.{Ended, ended}
+use Rattle.body_meaning.specs.Names.{message_of, port_named}
+use Rattle.body_meaning.specs.Reading.{Reading, reading}
+use Rattle.body_meaning.specs.Statements.{all_done, block_in, enqueued, exec, peeked}
+use Rattle.statement_walk.specs.Parts.{otherwise_of, viewed}
+use Rattle.statement_walk.proofs.Rows.{Doing, exec_of_Enqueue, exec_of_Peek}
+use Rattle.statement_walk.proofs.Steps.{all_ends, all_goes_on, all_returned, all_stops, all_triggered, arm_chosen, arm_passed, arm_stops, arms_end, if_first, if_second, if_stops}
+use Rattle.statement_walk.proofs.walk.+statements.Goals as goal
+
+-- Statements one after another.
+
+pub all_done-loop-first-preserved : goal.all_done-loop-first-preserved
+all_done-loop-first-preserved g t c = λ f result w rest.
+    let s : Reading = reading c.args.s in
+    let calls : Calls = calls_within s c.args.depth in
+    let now = c.loop-first.frame in
+    let later = c.exec.new.frame in
+    let v = g.T.Local.view c.loop-first.local in
+    let u = g.T.Local.view c.exec.new.local in
+    c.loop-first.invariant f result w
+    (all_goes_on s calls c.args.statements.now c.loop-first.first-index c.first-item.result c.loop-first-test.true c.first-item.is now later f v u w result
+    (subst (λ (x : Flow). DoesAs (ended later) (exec s calls c.first-item.result now) (Ok x) v u) c.in-WentOn.is c.in_ok-exec.ensures)
+    rest)
+
+pub all_done-returns-in-Returned : goal.all_done-returns-in-Returned
+all_done-returns-in-Returned g t c =
+    let s : Reading = reading c.args.s in
+    let calls : Calls = calls_within s c.args.depth in
+    let now = c.loop-first.frame in
+    let later = c.exec.new.frame in
+    let v = g.T.Local.view c.loop-first.local in
+    let u = g.T.Local.view c.exec.new.local in
+    c.loop-first.invariant later (Ok (Returned c.in-Returned.t)) u
+    (all_returned s calls c.args.statements.now c.loop-first.first-index c.first-item.result c.loop-first-test.true c.first-item.is now later later v u u c.in-Returned.t
+    (subst (λ (x : Flow). DoesAs (ended later) (exec s calls c.first-item.result now) (Ok x) v u) c.in-Returned.is c.in_ok-exec.ensures))
+
+pub all_done-returns-in-Triggered : goal.all_done-returns-in-Triggered
+all_done-returns-in-Triggered g t c =
+    let s : Reading = reading c.args.s in
+    let calls : Calls = calls_within s c.args.depth in
+    let now = c.loop-first.frame in
+    let later = c.exec.new.frame in
+    let v = g.T.Local.view c.loop-first.local in
+    let u = g.T.Local.view c.exec.new.local in
+    c.loop-first.invariant later (Ok (Triggered c.in-Triggered.t)) u
+    (all_triggered s calls c.args.statements.now c.loop-first.first-index c.first-item.result c.loop-first-test.true c.first-item.is now later later v u u c.in-Triggered.t
+    (subst (λ (x : Flow). DoesAs (ended later) (exec s calls c.first-item.result now) (Ok x) v u) c.in-Triggered.is c.in_ok-exec.ensures))
+
+pub all_done-returns-in_err-exec : goal.all_done-returns-in_err-exec
+all_done-returns-in_err-exec g t c =
+    let s : Reading = reading c.args.s in
+    let calls : Calls = calls_within s c.args.depth in
+    let later = c.exec.new.frame in
+    let u = g.T.Local.view c.exec.new.local in
+    let p = err_from_is_err_and c.from_residual.result c.from_residual.ensures.1 in
+    rw (p.1, p.2)
+    (c.loop-first.invariant later _ u
+    (all_stops s calls c.args.statements.now c.loop-first.first-index c.first-item.result c.loop-first-test.true c.first-item.is c.loop-first.frame later later (g.T.Local.view c.loop-first.local) u u _ c.in_err-exec.ensures))
+
+pub all_done-returns : goal.all_done-returns
+all_done-returns g t c =
+    let s : Reading = reading c.args.s in
+    let calls : Calls = calls_within s c.args.depth in
+    let v = g.T.Local.view c.loop-first.local in
+    c.loop-first.invariant c.loop-first.frame (Ok WentOn) v
+    (all_ends s calls c.args.statements.now c.loop-first.first-index c.loop-first-test.false c.loop-first.frame v)
+
+-- What an `if` does where its condition doesn't hold.
+
+at_item : (items others : List ElseIf) (i : ℕ) (e : ElseIf) → items ≡ others → i < length items → e ≡ get_or items i e → (i < length others) × (e ≡ get_or others i e)
+at_item items others i e same below is = subst (λ (es : List ElseIf). (i < length es) × (e ≡ get_or es i e)) same (below, is)
+
+pub others_done-loop-other-preserved : goal.others_done-loop-other-preserved
+others_done-loop-other-preserved g t c = λ f result w rest.
+    let s : Reading = reading c.args.s in
+    let calls : Calls = calls_within s c.args.depth in
+    let others : List ElseIf = (out-If c.args.i.now).others in
+    let at = at_item c.as_slice-other-items.result.now others c.loop-other.other-index c.other-item.result c.as_slice-other-items.ensures c.loop-other-test.true c.other-item.is in
+    c.loop-other.invariant f result w
+    (arm_passed s calls (otherwise_of s calls (out-If c.args.i.now).otherwise) others c.loop-other.other-index c.other-item.result at.0 at.1
+    c.loop-other.frame f (g.T.Local.view c.loop-other.local) (g.T.Local.view c.value.new.local) w c.in_ok-t.t result c.in_ok-t.ensures (sym c.is_true.ensures ∙ c.if-is_true.false) rest)
+
+pub others_done-returns-then-is_true : goal.others_done-returns-then-is_true
+others_done-returns-then-is_true g t c =
+    let s : Reading = reading c.args.s in
+    let calls : Calls = calls_within s c.args.depth in
+    let frame = c.loop-other.frame in
+    let f = c.block_in.new.frame in
+    let u = g.T.Local.view c.value.new.local in
+    let w = g.T.Local.view c.block_in.new.local in
+    let others : List ElseIf = (out-If c.args.i.now).others in
+    let at = at_item c.as_slice-other-items.result.now others c.loop-other.other-index c.other-item.result c.as_slice-other-items.ensures c.loop-other-test.true c.other-item.is in
+    c.loop-other.invariant f c.block_in.result w
+    (arm_chosen s calls (otherwise_of s calls (out-If c.args.i.now).otherwise) others c.loop-other.other-index c.other-item.result at.0 at.1
+    frame f (g.T.Local.view c.loop-other.local) u w c.in_ok-t.t c.block_in.result c.in_ok-t.ensures (sym c.is_true.ensures ∙ c.if-is_true.true)
+    (subst (λ (ss : List Stmt). DoesAs (ended f) (block_in (all_done s calls ss) frame) c.block_in.result u w) c.deref.ensures c.block_in.ensures))
+
+pub others_done-returns-in_err-t : goal.others_done-returns-in_err-t
+others_done-returns-in_err-t g t c =
+    let s : Reading = reading c.args.s in
+    let calls : Calls = calls_within s c.args.depth in
+    let frame = c.loop-other.frame in
+    let u = g.T.Local.view c.value.new.local in
+    let others : List ElseIf = (out-If c.args.i.now).others in
+    let at = at_item c.as_slice-other-items.result.now others c.loop-other.other-index c.other-item.result c.as_slice-other-items.ensures c.loop-other-test.true c.other-item.is in
+    let p = err_from_is_err_and c.from_residual.result c.from_residual.ensures.1 in
+    rw (p.1, p.2)
+    (c.loop-other.invariant frame _ u
+    (arm_stops s calls (otherwise_of s calls (out-If c.args.i.now).otherwise) others c.loop-other.other-index c.other-item.result at.0 at.1
+    frame frame (g.T.Local.view c.loop-other.local) u u _ c.in_err-t.ensures))
+
+pub others_done-returns-in-None : goal.others_done-returns-in-None
+others_done-returns-in-None g t c =
+    let s : Reading = reading c.args.s in
+    let calls : Calls = calls_within s c.args.depth in
+    let frame : Frame = c.loop-other.frame in
+    let v = g.T.Local.view c.loop-other.local in
+    let others : List ElseIf = (out-If c.args.i.now).others in
+    let past : length others ≤ c.loop-other.other-index = subst (λ (es : List ElseIf). length es ≤ c.loop-other.other-index) c.as_slice-other-items.ensures c.loop-other-test.false in
+    c.loop-other.invariant frame (Ok WentOn) v
+    (arms_end s calls (otherwise_of s calls (out-If c.args.i.now).otherwise) others c.loop-other.other-index past frame frame (Ok WentOn) v v
+    (subst (λ (o : Option Block). DoesAs (ended frame) (otherwise_of s calls o frame) (Ok WentOn) v v) (sym c.in-None.is)
+    (does_ends_as (ended frame) (ended frame WentOn) WentOn v refl)))
+
+pub others_done-returns-in-Some : goal.others_done-returns-in-Some
+others_done-returns-in-Some g t c =
+    let s : Reading = reading c.args.s in
+    let calls : Calls = calls_within s c.args.depth in
+    let frame : Frame = c.loop-other.frame in
+    let f : Frame = c.block_in-in-Some.new.frame in
+    let v = g.T.Local.view c.loop-other.local in
+    let w = g.T.Local.view c.block_in-in-Some.new.local in
+    let others : List ElseIf = (out-If c.args.i.now).others in
+    let past : length others ≤ c.loop-other.other-index = subst (λ (es : List ElseIf). length es ≤ c.loop-other.other-index) c.as_slice-other-items.ensures c.loop-other-test.false in
+    c.loop-other.invariant f c.block_in-in-Some.result w
+    (arms_end s calls (otherwise_of s calls (out-If c.args.i.now).otherwise) others c.loop-other.other-index past frame f c.block_in-in-Some.result v w
+    (subst (λ (o : Option Block). DoesAs (ended f) (otherwise_of s calls o frame) c.block_in-in-Some.result v w) (sym c.in-Some.is)
+    (subst (λ (ss : List Stmt). DoesAs (ended f) (block_in (all_done s calls ss) frame) c.block_in-in-Some.result v w) c.deref-in-Some.ensures c.block_in-in-Some.ensures)))
+
+-- An `if`.
+
+pub if_done-returns-then-is_true : goal.if_done-returns-then-is_true
+if_done-returns-then-is_true g t c =
+    if_first (reading c.args.s) (calls_within (reading c.args.s) c.args.depth) c.args.i.now c.args.frame.now c.block_in.new.frame
+    (g.T.Local.view c.args.local.now) (g.T.Local.view c.value.new.local) (g.T.Local.view c.block_in.new.local)
+    c.in_ok-t.t c.block_in.result c.deref.result.now c.in_ok-t.ensures (sym c.is_true.ensures ∙ c.if-is_true.true) c.deref.ensures c.block_in.ensures
+
+pub if_done-returns : goal.if_done-returns
+if_done-returns g t c =
+    if_second (reading c.args.s) (calls_within (reading c.args.s) c.args.depth) c.args.i.now c.args.frame.now c.others_done.new.frame
+    (g.T.Local.view c.args.local.now) (g.T.Local.view c.value.new.local) (g.T.Local.view c.others_done.new.local)
+    c.in_ok-t.t c.others_done.result c.in_ok-t.ensures (sym c.is_true.ensures ∙ c.if-is_true.false) c.others_done.ensures
+
+pub if_done-returns-in_err-t : goal.if_done-returns-in_err-t
+if_done-returns-in_err-t g t c =
+    let p = err_from_is_err_and c.from_residual.result c.from_residual.ensures.1 in
+    rw (p.1, p.2)
+    (if_stops (reading c.args.s) (calls_within (reading c.args.s) c.args.depth) c.args.i.now c.args.frame.now c.args.frame.now
+    (g.T.Local.view c.args.local.now) (g.T.Local.view c.value.new.local) (g.T.Local.view c.value.new.local) _ c.in_err-t.ensures)
+
+-- Statements with a block.
+
+pub exec-returns-in-Peek : goal.exec-returns-in-Peek
+exec-returns-in-Peek g t c =
+    let s : Reading = reading c.args.s in
+    let calls : Calls = calls_within s c.args.depth in
+    let frame = c.args.frame.now in
+    let is : peeked s.machine c.in-Peek.port.text (all_done s calls c.deref.result.now) frame ≡ exec s calls c.args.statement.now frame =
+    ap (λ (ss : List Stmt). peeked s.machine c.in-Peek.port.text (all_done s calls ss) frame) c.deref.ensures
+    ∙ sym (ap (λ (x : Stmt). exec s calls x frame) c.in-Peek.is ∙ exec_of_Peek s calls c.in-Peek.port c.in-Peek.message c.in-Peek.pairs c.in-Peek.body c.in-Peek.span frame) in
+    subst (λ (p : Acting Ended). DoesAs (ended c.peeked.new.frame) p c.peeked.result (g.T.Local.view c.args.local.now) (g.T.Local.view c.peeked.new.local)) is c.peeked.ensures
+
+pub exec-returns-in-Enqueue : goal.exec-returns-in-Enqueue
+exec-returns-in-Enqueue g t c =
+    let s : Reading = reading c.args.s in
+    let calls : Calls = calls_within s c.args.depth in
+    let frame = c.args.frame.now in
+    let is : enqueued s calls c.in-Enqueue.port.text c.in-Enqueue.latency (all_done s calls c.deref-in-Enqueue.result.now) frame ≡ exec s calls c.args.statement.now frame =
+    ap (λ (ss : List Stmt). enqueued s calls c.in-Enqueue.port.text c.in-Enqueue.latency (all_done s calls ss) frame) c.deref-in-Enqueue.ensures
+    ∙ sym (ap (λ (x : Stmt). exec s calls x frame) c.in-Enqueue.is ∙ exec_of_Enqueue s calls c.in-Enqueue.port c.in-Enqueue.message c.in-Enqueue.latency c.in-Enqueue.body c.in-Enqueue.span frame) in
+    subst (λ (p : Acting Ended). DoesAs (ended c.enqueued.new.frame) p c.enqueued.result (g.T.Local.view c.args.local.now) (g.T.Local.view c.enqueued.new.local)) is c.enqueued.ensures
+
+pub peeked-returns : goal.peeked-returns
+unfolding peeked
+peeked-returns g t c =
+    let s : Reading = reading c.args.s in
+    let calls : Calls = calls_within s c.args.depth in
+    let m = s.machine in
+    let block : Doing = all_done s calls c.args.statements.now in
+    let frame : Frame = c.args.frame.now in
+    let f : Frame = c.viewed.new.frame in
+    let v = g.T.Local.view c.args.local.now in
+    let w = g.T.Local.view c.viewed.new.local in
+    then_does itself (ended f) (found own.Reference (port_named m c.args.name.now.text))
+    (λ buffer. found own.Reference (message_of m buffer) >>= (λ structure. done (act.Front buffer) >>= (λ (message : Message). viewed block structure message.fields frame)))
+    c.in_ok-buffer.buffer c.viewed.result v v w c.in_ok-buffer.ensures
+    (then_does itself (ended f) (found own.Reference (message_of m c.in_ok-buffer.buffer))
+    (λ structure. done (act.Front c.in_ok-buffer.buffer) >>= (λ (message : Message). viewed block structure message.fields frame))
+    c.in_ok-number.number c.viewed.result v v w c.in_ok-number.ensures
+    (then_does itself (ended f) (done (act.Front c.in_ok-buffer.buffer)) (λ (message : Message). viewed block c.in_ok-number.number message.fields frame)
+    c.in_ok-message.message c.viewed.result v v w c.in_ok-message.ensures c.viewed.ensures))
