@@ -1,6 +1,6 @@
 // What calls do to a world's data is a step of the run, and the data stay those of the run. These functions do nothing: their
 // contracts are the laws.
-ghost use Rattle.std.specs.Prelude.{◌≡◌, ◌≤◌, ◌<◌, ℕ, Bool, true, List, None, Some, length, map, slice_get};
+ghost use Rattle.std.specs.Prelude.{◌≡◌, ◌≤◌, ◌<◌, ℕ, Bool, true, List, None, Some, length, map, position, slice_get};
 ghost use Rattle.run_journal.specs.declared.entry.End.{End as EndRecord};
 ghost use Rattle.run_journal.specs.declared.entry.Entry.TheVariants as entry;
 ghost use Rattle.run_journal.specs.declared.entry.FireNote.{FireNote as NoteRecord};
@@ -19,9 +19,11 @@ ghost use Rattle.protocol_runs.specs.Rules.{opening_of, rules};
 ghost use Rattle.protocol_runs.specs.Setting.{Setting};
 ghost use Rattle.sequencer.specs.Drive.{Drive};
 ghost use Rattle.sequencer.specs.Seats.{Seat};
+ghost use Rattle.world_places.specs.Cycle.{has_stopped};
 ghost use Rattle.world_places.specs.Arrivals.{CanArrive, delivered};
 ghost use Rattle.world_places.specs.declared.place.Kept.{Kept as KeptRecord};
 ghost use Rattle.world_places.specs.Places.{IsEndedAt, IsPutBack, IsTakenOut, is_free, made_for, made_in, places_with};
+ghost use Rattle.world_state.specs.Closed.{IsClosed, IsRested};
 ghost use Rattle.world_state.specs.Opened.{IsOpening};
 ghost use Rattle.world_state.specs.States.{IsHeldBy, IsKept, IsMadeFor, IsNobody, home_place};
 ghost use Rattle.world_state.specs.Steps.{IsStep, SameCycle, Writes};
@@ -93,6 +95,17 @@ pub fn fires_are_steps<D>()
         → 0 < new.book.event_room
         → IsStep p drive s x old (event.Fire worker c) (with_one_fired after) new
         × IsKept p drive s (with_one_fired after) new }
+{}
+
+/// A turn at which no controller is held or due, and some have stopped, ends the run with the least-numbered one.
+pub fn closes_are_steps<D>()
+    ensures { (p : Meaning) (drive : D → List Seat → ℕ → Drive D) (s : Setting D) (held : Ctl)
+        (old new : StateRecord D) (worker c : ℕ)
+        → IsKept p drive s held old → old.verdict ≡ None
+        → IsNobody (made_in old.places.items) → IsRested old
+        → position has_stopped old.places.items ≡ Some c
+        → IsClosed worker c old new
+        → IsStep p drive s held old (event.Turn worker) held new × IsKept p drive s held new }
 {}
 
 /// The copies of a transition that fires can come to their receivers, and are no more than what it sent; and a controller that fires
