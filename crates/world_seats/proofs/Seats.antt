@@ -77,6 +77,14 @@ one-at a places o c = by a.has_sequencer (a.controller == c) refl
         ∙ sym (unchanged (slice_get places c))
         ∙ sym (ap (λ (b : Bool). option_map (applied (cond b (Some o) None)) (slice_get places c)) is)
 
+-- a seat changes no other controller
+pub one-apart : (a : SeatAt) (places : List Place) (o : Option Requests) (c : ℕ) → a.controller ≢ c → slice_get (seated_one a places o) c ≡ slice_get places c
+one-apart a places o c apart = by a.has_sequencer
+  where
+    by : (has : Bool) → slice_get (cond has (with_requests_at a.controller o places (slice_get places a.controller)) places) c ≡ slice_get places c
+    by false = refl
+    by true = set-none places a.controller c o (slice_get places a.controller) refl apart
+
 -- a controller of a seat isn't one of seats apart from it
 none-given : (a : SeatAt) (c : ℕ) (ss : List SeatAt) (qs : List Seat) → a.controller ≡ c → All (AreApart a) ss → given ss qs c ≡ None
 none-given a c [] qs is apart = refl
