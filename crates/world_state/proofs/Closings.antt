@@ -41,7 +41,7 @@ first-mapped f h g (x ∷ xs) same =
     ap (λ (b : Bool). cond (not b) (1 + position_or_len f (map g xs)) 0) (same 0 x refl)
     ∙ ap (λ (n : ℕ). cond (not (h x)) (1 + n) 0) (first-mapped f h g xs (λ c y there. same (suc c) y there))
 
-position-mapped : {X Y : Type 0} (f : Y → Bool) (h : X → Bool) (g : X → Y) (xs : List X) → ((c : ℕ) (x : X) → slice_get xs c ≡ Some x → f (g x) ≡ h x)
+pub position-mapped : {X Y : Type 0} (f : Y → Bool) (h : X → Bool) (g : X → Y) (xs : List X) → ((c : ℕ) (x : X) → slice_get xs c ≡ Some x → f (g x) ≡ h x)
     → position f (map g xs) ≡ position h xs
 position-mapped f h g xs same =
     ap (λ (n : ℕ). cond (nat_lt n (length (map g xs))) (Some n) None) (first-mapped f h g xs same)

@@ -9,3 +9,4 @@ pub mod Rooms
 pub mod Kept
 pub mod Openings
 pub mod Closings
+pub mod Readings
