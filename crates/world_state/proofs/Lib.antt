@@ -8,3 +8,5 @@ pub mod Counting
 pub mod Rooms
 pub mod Kept
 pub mod Openings
+pub mod Closings
+pub mod Readings

@@ -53,6 +53,9 @@ pub place-at : (h : Ctl) (places : List Place) (c : ℕ) (k : Place) → slice_g
 place-at h places c k there = slice_get-map (place_with h) places c ∙ ap (λ (o : Option Place). option_map (place_with h) o) there
 
 -- where nobody is held, or where one controller is
+pub home-at : (places : List Place) (d : ℕ) (k : Place) → IsNobody (made_in places) → slice_get places d ≡ Some k → IsHomeBy k.keeper
+home-at places d k nobody there = home-by k.keeper (λ none. nobody d (made-at places d k there ∙ ap (λ (o : Option Made). Some o) none))
+
 pub nobody-same : (h g : Ctl) (places : List Place) → IsNobody (made_in places) → places_with h places ≡ places_with g places
 nobody-same h g places nobody =
     all-same (place_with h) (place_with g) places

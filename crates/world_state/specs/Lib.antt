@@ -3,3 +3,4 @@ pub mod States
 pub mod Steps
 pub mod Ended
 pub mod Opened
+pub mod Closed

@@ -1,6 +1,7 @@
 // What calls do to a world's data is a step of the run, and the data stay those of the run. These functions do nothing: their
 // contracts are the laws.
-ghost use Rattle.std.specs.Prelude.{◌≡◌, ◌≤◌, ◌<◌, ℕ, Bool, true, List, None, Some, length, map, slice_get};
+ghost use Rattle.std.specs.Prelude.{◌≡◌, ◌≤◌, ◌<◌, ℕ, true, false, List, None, Some, length, map, position, slice_get};
+ghost use Rattle.std.specs.List.{list_any};
 ghost use Rattle.run_journal.specs.declared.entry.End.{End as EndRecord};
 ghost use Rattle.run_journal.specs.declared.entry.Entry.TheVariants as entry;
 ghost use Rattle.run_journal.specs.declared.entry.FireNote.{FireNote as NoteRecord};
@@ -10,6 +11,7 @@ ghost use Rattle.ruby_value.specs.declared.message.Message.{Message as MessageRe
 ghost use Rattle.ruby_runs.specs.Change.{Ends};
 ghost use Rattle.ruby_runs.specs.Rules.{Acts, Fired};
 ghost use Rattle.ruby_runs.specs.Step.{fired_entry};
+ghost use Rattle.ruby_runs.specs.World.{is_free as is_free_in, is_held as is_held_in};
 ghost use Rattle.ctl_face.specs.Between.{with_one_fired};
 ghost use Rattle.ctl_face.specs.Ctl.{Ctl};
 ghost use Rattle.ctl_store.specs.Kept.{ctl_of};
@@ -19,9 +21,12 @@ ghost use Rattle.protocol_runs.specs.Rules.{opening_of, rules};
 ghost use Rattle.protocol_runs.specs.Setting.{Setting};
 ghost use Rattle.sequencer.specs.Drive.{Drive};
 ghost use Rattle.sequencer.specs.Seats.{Seat};
+ghost use Rattle.world_places.specs.Cycle.{has_stopped};
 ghost use Rattle.world_places.specs.Arrivals.{CanArrive, delivered};
 ghost use Rattle.world_places.specs.declared.place.Kept.{Kept as KeptRecord};
-ghost use Rattle.world_places.specs.Places.{IsEndedAt, IsPutBack, IsTakenOut, is_free, made_for, made_in, places_with};
+ghost use Rattle.world_places.specs.declared.place.Place.{Place as PlaceRecord};
+ghost use Rattle.world_places.specs.Places.{IsEndedAt, IsPutBack, IsTakenOut, is_free, is_held, made_for, made_in, places_with};
+ghost use Rattle.world_state.specs.Closed.{IsClosed, IsRested};
 ghost use Rattle.world_state.specs.Opened.{IsOpening};
 ghost use Rattle.world_state.specs.States.{IsHeldBy, IsKept, IsMadeFor, IsNobody, home_place};
 ghost use Rattle.world_state.specs.Steps.{IsStep, SameCycle, Writes};
@@ -37,6 +42,23 @@ pub fn runs_open<D>()
         → map (λ (k : KeptRecord). ctl_of k.store) kept ≡ opening_of p drive s
         → ((c : ℕ) (k : KeptRecord) → slice_get kept c ≡ Some k → IsMadeFor s c (made_for k))
         → IsKept p drive s held st × IsNobody (made_in st.places.items) }
+{}
+
+/// The least controller that is due and free, and whether somebody is held, are in a world what they are in its data; and where nobody
+/// is held or none is free, no place is.
+pub fn reads_are_of_the_world<D>()
+    ensures free { (p : Meaning) (drive : D → List Seat → ℕ → Drive D) (s : Setting D) (held : Ctl)
+        (now : ℕ) (places : List PlaceRecord)
+        → position (is_free_in (rules p drive s) now) (places_with held places)
+        ≡ position (is_free now) places }
+    ensures held { (held : Ctl) (places : List PlaceRecord)
+        → list_any is_held_in (places_with held places)
+        ≡ list_any (λ (k : PlaceRecord). is_held k.keeper) places }
+    ensures nobody { (places : List PlaceRecord)
+        → list_any (λ (k : PlaceRecord). is_held k.keeper) places ≡ false
+        → IsNobody (made_in places) }
+    ensures rested { (now : ℕ) (places : List PlaceRecord) → position (is_free now) places ≡ None
+        → (c : ℕ) (k : PlaceRecord) → slice_get places c ≡ Some k → is_free now k ≡ false }
 {}
 
 /// A worker takes a controller that is due, where nobody is held and no verdict stands.
@@ -93,6 +115,17 @@ pub fn fires_are_steps<D>()
         → 0 < new.book.event_room
         → IsStep p drive s x old (event.Fire worker c) (with_one_fired after) new
         × IsKept p drive s (with_one_fired after) new }
+{}
+
+/// A turn at which no controller is held or due, and some have stopped, ends the run with the least-numbered one.
+pub fn closes_are_steps<D>()
+    ensures { (p : Meaning) (drive : D → List Seat → ℕ → Drive D) (s : Setting D) (held : Ctl)
+        (old new : StateRecord D) (worker c : ℕ)
+        → IsKept p drive s held old → old.verdict ≡ None
+        → IsNobody (made_in old.places.items) → IsRested old
+        → position has_stopped old.places.items ≡ Some c
+        → IsClosed worker c old new
+        → IsStep p drive s held old (event.Turn worker) held new × IsKept p drive s held new }
 {}
 
 /// The copies of a transition that fires can come to their receivers, and are no more than what it sent; and a controller that fires

@@ -2,6 +2,7 @@
 #![tactic(auto)]
 
 mod book;
+mod closing;
 mod ends;
 mod fires;
 mod laws;
@@ -10,7 +11,7 @@ mod state;
 
 pub use book::Book;
 pub use laws::{
-    copies_can_arrive, ends_are_steps, fires_are_steps, releases_are_steps, runs_open,
-    takes_are_steps,
+    closes_are_steps, copies_can_arrive, ends_are_steps, fires_are_steps, reads_are_of_the_world,
+    releases_are_steps, runs_open, takes_are_steps,
 };
 pub use state::State;
