@@ -1,0 +1,134 @@
+// The controller whose scans are done: its store, with a request in its queue, and the routes to it and another of its machine.
+ghost use Rattle.std.specs.Prelude.{IfOk, IfSome};
+ghost use Rattle.ruby_value.specs.Requests.{IsRequest};
+ghost use Rattle.sample_stores.specs.Fitting.{FitsAlways};
+
+use ctl_face::{Fields, NoMemory, Routes, is_machine};
+use ctl_store::Store;
+use machine_setup::setup;
+use ruby_symbols::{Symbols, mandatory};
+use ruby_value::{Ask, Asked, MachineSetup, MsgNo, Seq, Sizes, Value};
+use sample_controllers::{Network, message};
+use sample_stores::{is_delivered, is_issued, opened};
+use slicc_plan::Plan;
+use std::alloc::Global;
+
+/// The actor number of the controller. There is one more controller, and then comes the driver.
+const ME: u32 = 0;
+
+const DRIVER: u32 = 2;
+
+// A cache, if the machine has one, has one line.
+fn sizes(alloc: Global) -> Result<Sizes, NoMemory> {
+    Ok(Sizes {
+        caches: Seq::copied(alloc, &[(0, 1, 1)])?,
+        tbes: Seq::new(alloc),
+        parameters: Seq::new(alloc),
+        machines: Seq::copied(alloc, &[(0, 2)])?,
+    })
+}
+
+/// What the machine is to the controller.
+pub(crate) fn machine(alloc: Global, plan: &Plan) -> Result<Option<MachineSetup>, NoMemory> {
+    let sizes = sizes(alloc)?;
+    setup(alloc, plan, 0, &sizes)
+}
+
+/// The routes: 3 cycles to the other controller, where this buffer takes the messages of network 0, as at this one.
+pub(crate) fn routes(alloc: Global, receiving: Option<u16>) -> Result<Routes, NoMemory> {
+    let network = Network {
+        own_path: 0,
+        path: 3,
+        jitter: 0,
+        in_order: false,
+    };
+    let row = [receiving];
+    sample_controllers::routes(alloc, &network, &[row.as_slice(), row.as_slice()])
+}
+
+// A load of four bytes of a line, by its address, whose second address is one of line 3.
+fn request(alloc: Global, address: u64) -> Result<Fields, NoMemory> {
+    let mut values = Vec::new(alloc);
+    values.push(Value::Addr(address))?;
+    values.push(Value::Addr(200))?;
+    values.push(Value::Enum(2, 0))?;
+    values.push(Value::Int(4))?;
+    Ok(Fields::of(values))
+}
+
+fn load() -> Asked
+    ensures { IsRequest result }
+{
+    Asked {
+        line: 1,
+        kind: Ask::Load,
+        offset: 4,
+        size: 4,
+        byte: 0,
+        issued: 0,
+    }
+}
+
+// A store of the byte 171.
+fn write() -> Asked
+    ensures { IsRequest result }
+{
+    Asked {
+        line: 3,
+        kind: Ask::Store,
+        offset: 5,
+        size: 1,
+        byte: 171,
+        issued: 0,
+    }
+}
+
+// Whether the requests could be issued, if the machine has a sequencer.
+fn are_issued(store: &mut Store) -> bool
+    requires fits { FitsAlways store.old }
+    ensures fits { FitsAlways store.new }
+{
+    if !store.machine().has_sequencer {
+        return true;
+    }
+    is_issued(store, load()) && is_issued(store, write())
+}
+
+fn queue(symbols: &Symbols) -> Option<u16> {
+    match symbols.machines.get(0) {
+        Some(m) => mandatory(m),
+        None => None,
+    }
+}
+
+/// The store with a request for a line, by its address, that has arrived in cycle 1, where there was memory for it.
+pub(crate) fn begun(
+    alloc: Global,
+    plan: &Plan,
+    machine: MachineSetup,
+    address: u64,
+) -> Result<Option<Store>, NoMemory>
+    ensures { IfOk result (λ o. IfSome o FitsAlways) }
+{
+    let Some(queue) = queue(plan.symbols()) else {
+        return Ok(None);
+    };
+    if !is_machine(&machine) {
+        return Ok(None);
+    }
+    let mut store = opened(alloc, machine, ME)?;
+    let number = MsgNo {
+        sender: DRIVER,
+        count: 0,
+    };
+    if !is_delivered(
+        &mut store,
+        message(number, queue, 1, request(alloc, address)?),
+    ) {
+        return Ok(None);
+    }
+    if !are_issued(&mut store) {
+        return Ok(None);
+    }
+    Ok(Some(store))
+}

@@ -1,0 +1,24 @@
+-- A scan ends as its ports answer, where it may fire.
+use Rattle.std.proofs.Common.{◌≡◌, ℕ, false, Result, Ok, Err, nat_le, refl}
+use Rattle.ruby_base.specs.declared.memory.NoMemory.{NoMemory}
+use Rattle.acts.specs.DoesAs.{itself}
+use Rattle.ctl_face.specs.LocalView.{LocalView}
+use Rattle.body_meaning.specs.Reading.{Reading}
+use Rattle.scan_meaning.specs.declared.round.RoundEnd.{RoundEnd}
+use Rattle.scan_meaning.specs.declared.tried.Tried.{Tried}
+use Rattle.scan_meaning.specs.declared.tried.Tried.TheVariants.{Waits, Fires}
+use Rattle.scan_meaning.specs.Round.{IsRoundOf}
+use Rattle.scan_meaning.specs.Scan.{ports_tried, scan}
+use Rattle.scan_walk.specs.declared.halt.Halt.{Halt}
+use Rattle.scan_walk.specs.declared.halt.Halt.TheVariants as halt
+use Rattle.scan_walk.specs.TriesAs.{IsEndOf, TriesAs}
+
+module _ (s : Reading) (limit done : ℕ) (few : nat_le limit done ≡ false) where
+  pub round_is : (result : Result Tried Halt) (end : Result RoundEnd NoMemory) (v w : LocalView) → IsEndOf result end
+      → TriesAs itself (ports_tried s s.machine.in_ports) result v w → IsRoundOf (scan s limit done v) end w v
+  unfolding TriesAs
+  round_is (Ok (Fires note)) end v w ends does = rw (ends, few, does) (refl, refl)
+  round_is (Ok Waits) end v w ends does = rw (ends, few, does) (refl, refl)
+  round_is (Err (halt.Stop at)) end v w ends does = rw (ends, few, does) refl
+  round_is (Err halt.NoMemory) (Ok end) v w ends does = absurd (cc ends)
+  round_is (Err halt.NoMemory) (Err error) v w ends does = tt

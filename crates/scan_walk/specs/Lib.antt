@@ -1,0 +1,3 @@
+pub mod TriesAs
+pub mod Few
+pub mod Spending

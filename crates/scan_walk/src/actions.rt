@@ -1,0 +1,131 @@
+// The actions of a transition, and whether it has to wait for free lines.
+ghost use Rattle.std.specs.Prelude.{◌≡◌, ◌+◌, ◌<◌, [], ◌∷◌, length, MatchOption};
+ghost use Rattle.acts.specs.DoesAs.{DoesAs, itself};
+ghost use Rattle.body_meaning.specs.Each.{each};
+ghost use Rattle.body_meaning.specs.Reading.{reading};
+ghost use Rattle.scan_meaning.specs.Actions.{need};
+ghost use Rattle.scan_meaning.specs.Transition.{about_left as about_left_is, action_done as action_done_is, is_among as is_among_is, is_short as is_short_is, is_stall_among as is_stall_among_is, table_short as table_short_is};
+ghost use Rattle.scan_walk.specs.Few.{HasFew};
+
+use crate::bodies::body_of_action;
+use crate::functions::body_done;
+use crate::needs::need_more;
+use acts::{BodyFault, Local, Trouble, free};
+use body_meaning::{About, Frame, Scope};
+use ruby_base::Seq;
+use ruby_symbols::TableSymbol;
+use std::alloc::Global;
+
+// The first of these, and the others.
+pub(crate) fn split<X>(items: &[X]) -> Option<(&X, &[X])>
+    ensures { MatchOption result (items.now ≡ []) (λ p. items.now ≡ p.0.now ∷ p.1.now) }
+{
+    items.split_first()
+}
+
+fn about_left(a: About, frame: &Frame) -> About
+    ensures { result ≡ about_left_is a frame.now }
+{
+    match frame.about {
+        Some(left) => left,
+        None => a,
+    }
+}
+
+fn action_done<T: Local>(
+    alloc: Global,
+    s: Scope<'_>,
+    a: About,
+    number: u16,
+    local: &mut T,
+) -> Result<About, Trouble>
+    requires few { HasFew s.machine.now }
+    ensures { DoesAs itself (action_done_is (reading s.entry) a number) result (T.view local.old)
+        (T.view local.new) }
+{
+    let Some(block) = body_of_action(s, number) else {
+        return Err(Trouble::from(BodyFault::Reference));
+    };
+    let mut frame = Frame {
+        names: Seq::new(alloc),
+        about: Some(a),
+    };
+    let _flow = body_done(alloc, s, &block.statements, &mut frame, local)?;
+    Ok(about_left(a, &frame))
+}
+
+// Does actions one after another, each about what the one before has left.
+pub(crate) fn actions_done<T: Local>(
+    alloc: Global,
+    s: Scope<'_>,
+    a: About,
+    actions: &[u16],
+    local: &mut T,
+) -> Result<About, Trouble>
+    requires few { HasFew s.machine.now }
+    ensures { DoesAs itself (each (action_done_is (reading s.entry)) a actions.now) result
+        (T.view local.old) (T.view local.new) }
+{
+    match split(actions) {
+        None => Ok(a),
+        Some(parts) => {
+            let left = action_done(alloc, s, a, *parts.0, local)?;
+            actions_done(alloc, s, left, parts.1, local)
+        }
+    }
+}
+
+fn table_short<T: Local>(
+    s: Scope<'_>,
+    actions: &[u16],
+    table: u16,
+    local: &T,
+) -> Result<bool, Trouble>
+    ensures { DoesAs itself (table_short_is (need (reading s.entry) actions.now) table) result
+        (T.view local.now) (T.view local.now) }
+{
+    if !need_more(s, actions, table, 0) {
+        return Ok(false);
+    }
+    let free = free(local, table)?;
+    Ok(need_more(s, actions, table, free))
+}
+
+// Whether some of these tables, whose numbers are those from this one on, has fewer free lines than the actions need.
+pub(crate) fn is_short<T: Local>(
+    s: Scope<'_>,
+    actions: &[u16],
+    table: u16,
+    tables: &[TableSymbol],
+    local: &T,
+) -> Result<bool, Trouble>
+    requires { table + length tables.now < 65536 }
+    ensures { DoesAs itself (is_short_is (need (reading s.entry) actions.now) table tables.now) result
+        (T.view local.now) (T.view local.now) }
+{
+    match split(tables) {
+        None => Ok(false),
+        Some(parts) => {
+            if table_short(s, actions, table, local)? {
+                return Ok(true);
+            }
+            is_short(s, actions, table + 1, parts.1, local)
+        }
+    }
+}
+
+pub(crate) fn is_among(n: u16, numbers: &[u16]) -> bool
+    ensures { result ≡ is_among_is n numbers.now }
+{
+    numbers.iter().any(|m| *m == n)
+}
+
+// Whether the machine's action for stalls is among these.
+pub(crate) fn is_stall_among(actions: &[u16], stall: Option<u16>) -> bool
+    ensures { result ≡ is_stall_among_is actions.now stall }
+{
+    match stall {
+        None => false,
+        Some(stall) => is_among(stall, actions),
+    }
+}

@@ -1,0 +1,141 @@
+// The in ports of a machine, one after another.
+ghost use Rattle.acts.specs.DoesAs.{DoesAs, itself};
+ghost use Rattle.scan_meaning.specs.Round.{IsRoundOf};
+ghost use Rattle.scan_meaning.specs.Scan.{after_port as after_port_is, port_done as port_done_is, port_tried as port_tried_is, ports_tried as ports_tried_is, scan as scan_is};
+ghost use Rattle.scan_meaning.specs.Trying.{nothing_known, with_known};
+ghost use Rattle.scan_walk.specs.Few.{HasFew};
+ghost use Rattle.scan_walk.specs.TriesAs.{IsEndOf, TriesAs};
+ghost use Rattle.body_meaning.specs.Reading.{reading};
+
+use crate::actions::split;
+use crate::bodies::body_of_port;
+use crate::functions::body_done;
+use crate::halt::{Halt, told};
+use crate::transition::tried;
+use acts::{BodyFault, Local, NoMemory, Trouble};
+use body_meaning::{Flow, Frame, Scope};
+use ruby_base::Seq;
+use ruby_symbols::PortSymbol;
+use scan_meaning::{Known, RoundEnd, Tried};
+use std::alloc::Global;
+
+fn port_done<T: Local>(
+    alloc: Global,
+    s: Scope<'_>,
+    p: &PortSymbol,
+    local: &mut T,
+) -> Result<Flow, Trouble>
+    requires few { HasFew s.machine.now }
+    ensures { DoesAs itself (port_done_is (reading s.entry) p.now) result (T.view local.old)
+        (T.view local.new) }
+{
+    let Some(block) = body_of_port(s.tree, p) else {
+        return Err(Trouble::from(BodyFault::Reference));
+    };
+    let mut frame = Frame {
+        names: Seq::new(alloc),
+        about: None,
+    };
+    let flow = body_done(alloc, s, &block.statements, &mut frame, local)?;
+    Ok(flow)
+}
+
+// What is known of a transition is nothing yet.
+fn port_known<T: Local>(
+    alloc: Global,
+    s: Scope<'_>,
+    p: &PortSymbol,
+    local: &mut T,
+) -> Result<Flow, Halt>
+    requires few { HasFew s.machine.now }
+    ensures { TriesAs itself (with_known nothing_known (port_done_is (reading s.entry) p.now)) result
+        (T.view local.old) (T.view local.new) }
+{
+    let nothing = Known {
+        address: None,
+        state: None,
+        event: None,
+    };
+    told(nothing, port_done(alloc, s, p, local))
+}
+
+fn after_port<T: Local>(
+    alloc: Global,
+    s: Scope<'_>,
+    flow: Flow,
+    local: &mut T,
+) -> Result<Tried, Halt>
+    requires few { HasFew s.machine.now }
+    ensures { TriesAs itself (after_port_is (reading s.entry) flow) result (T.view local.old)
+        (T.view local.new) }
+{
+    match flow {
+        Flow::Triggered(t) => tried(alloc, s, t, local),
+        Flow::WentOn | Flow::Returned(_) => Ok(Tried::Waits),
+    }
+}
+
+fn port_tried<T: Local>(
+    alloc: Global,
+    s: Scope<'_>,
+    p: &PortSymbol,
+    local: &mut T,
+) -> Result<Tried, Halt>
+    requires few { HasFew s.machine.now }
+    ensures { TriesAs itself (port_tried_is (reading s.entry) p.now) result (T.view local.old)
+        (T.view local.new) }
+{
+    let flow = port_known(alloc, s, p, local)?;
+    after_port(alloc, s, flow, local)
+}
+
+// Each to its end or to its `trigger`, until one fires.
+fn ports_tried<T: Local>(
+    alloc: Global,
+    s: Scope<'_>,
+    ports: &[PortSymbol],
+    local: &mut T,
+) -> Result<Tried, Halt>
+    requires few { HasFew s.machine.now }
+    ensures { TriesAs itself (ports_tried_is (reading s.entry) ports.now) result (T.view local.old)
+        (T.view local.new) }
+{
+    match split(ports) {
+        None => Ok(Tried::Waits),
+        Some(parts) => match port_tried(alloc, s, parts.0, local)? {
+            Tried::Fires(note) => Ok(Tried::Fires(note)),
+            Tried::Waits => ports_tried(alloc, s, parts.1, local),
+        },
+    }
+}
+
+fn round_of(tried: Result<Tried, Halt>) -> Result<RoundEnd, NoMemory>
+    ensures { IsEndOf tried result }
+{
+    match tried {
+        Ok(Tried::Fires(note)) => Ok(RoundEnd::Fired(note)),
+        Ok(Tried::Waits) => Ok(RoundEnd::Idle),
+        Err(Halt::Stop(at)) => Ok(RoundEnd::Stop(at)),
+        Err(Halt::NoMemory) => Err(NoMemory),
+    }
+}
+
+/// Does a scan of a controller of the machine, which has fired this many transitions in this cycle and may fire so many. What the scan
+/// has done is in the local where a transition fired, and else the local is to be dropped; that a transition was stalled is seen from
+/// its mark for the next cycle.
+pub fn scan<T: Local>(
+    alloc: Global,
+    s: Scope<'_>,
+    limit: u64,
+    fired: u64,
+    local: &mut T,
+) -> Result<RoundEnd, NoMemory>
+    requires few { HasFew s.machine.now }
+    ensures { IsRoundOf (scan_is (reading s.entry) limit fired (T.view local.old)) result
+        (T.view local.new) (T.view local.old) }
+{
+    if limit <= fired {
+        return Ok(RoundEnd::Full);
+    }
+    round_of(ports_tried(alloc, s, &s.machine.in_ports, local))
+}

@@ -1,0 +1,169 @@
+// What a `trigger` does.
+ghost use Rattle.std.specs.Prelude.{◌≡◌, None, find};
+ghost use Rattle.std.specs.Option.{option_copied};
+ghost use Rattle.acts.specs.DoesAs.{DoesAs, itself};
+ghost use Rattle.scan_meaning.specs.Transition.{about as about_is, fired as fired_is, found_tried as found_tried_is, is_for as is_for_is, known as known_is, read_state, row_tried as row_tried_is, try as try_is, waiting as waiting_is};
+ghost use Rattle.scan_meaning.specs.Trying.{with_known};
+ghost use Rattle.scan_walk.specs.Few.{HasFew};
+ghost use Rattle.scan_walk.specs.TriesAs.{TriesAs};
+ghost use Rattle.body_meaning.specs.Reading.{reading};
+
+use crate::actions::{actions_done, is_among, is_short, is_stall_among};
+use crate::halt::{Halt, told};
+use crate::states::{permission_set, state_by, state_set};
+use acts::{Fault, Local, Trouble, again};
+use body_meaning::{About, Scope, Trigger};
+use ruby_symbols::{MachineSymbols, TransitionSymbol};
+use run_journal::{FireNote, StopAt};
+use scan_meaning::{Known, Tried};
+use std::alloc::Global;
+
+fn about(t: Trigger) -> About
+    ensures { result ≡ about_is t }
+{
+    About {
+        address: t.address,
+        entry: t.entry,
+        tbe: t.tbe,
+    }
+}
+
+fn known(t: Trigger, state: Option<u16>) -> Known
+    ensures { result ≡ known_is t state }
+{
+    Known {
+        address: Some(t.address),
+        state,
+        event: Some(t.event),
+    }
+}
+
+fn is_for(state: u16, event: u16, t: &TransitionSymbol) -> bool
+    ensures { result ≡ is_for_is state event t.now }
+{
+    is_among(state, &t.states) && is_among(event, &t.events)
+}
+
+// The first written transition for a state and an event.
+fn row_for(m: &MachineSymbols, state: u16, event: u16) -> Option<&TransitionSymbol>
+    ensures { option_copied result ≡ find (is_for_is state event) m.now.transitions }
+{
+    m.transitions.iter().find(|t| is_for(state, event, t))
+}
+
+fn waiting<T: Local>(local: &mut T) -> Result<Tried, Trouble>
+    ensures { DoesAs itself waiting_is result (T.view local.old) (T.view local.new) }
+{
+    again(local)?;
+    Ok(Tried::Waits)
+}
+
+fn fired<T: Local>(
+    alloc: Global,
+    s: Scope<'_>,
+    t: Trigger,
+    state: u16,
+    next: u16,
+    row: &TransitionSymbol,
+    local: &mut T,
+) -> Result<Tried, Trouble>
+    requires few { HasFew s.machine.now }
+    ensures { DoesAs itself (fired_is (reading s.entry) t state next row.now) result (T.view local.old)
+        (T.view local.new) }
+{
+    let a = actions_done(alloc, s, about(t), &row.actions, local)?;
+    state_set(alloc, s, a, next, s.machine.set_state, local)?;
+    permission_set(alloc, s, a, next, s.machine.set_permission, local)?;
+    Ok(Tried::Fires(FireNote {
+        address: t.address,
+        state,
+        event: t.event,
+        next,
+    }))
+}
+
+fn row_tried<T: Local>(
+    alloc: Global,
+    s: Scope<'_>,
+    t: Trigger,
+    state: u16,
+    row: &TransitionSymbol,
+    local: &mut T,
+) -> Result<Tried, Trouble>
+    requires few { HasFew s.machine.now }
+    ensures { DoesAs itself (row_tried_is (reading s.entry) t state row.now) result (T.view local.old)
+        (T.view local.new) }
+{
+    if is_short(s, &row.actions, 0, &s.machine.tables, local)? {
+        return waiting(local);
+    }
+    if is_stall_among(&row.actions, s.machine.stall) {
+        return waiting(local);
+    }
+    fired(alloc, s, t, state, row.next.unwrap_or(state), row, local)
+}
+
+fn found_tried<T: Local>(
+    alloc: Global,
+    s: Scope<'_>,
+    t: Trigger,
+    state: u16,
+    row: Option<&TransitionSymbol>,
+    local: &mut T,
+) -> Result<Tried, Halt>
+    requires few { HasFew s.machine.now }
+    ensures { TriesAs itself (found_tried_is (reading s.entry) t state (option_copied row.entry)) result
+        (T.view local.old) (T.view local.new) }
+{
+    let Some(row) = row else {
+        return Err(Halt::Stop(StopAt {
+            address: Some(t.address),
+            state: Some(state),
+            event: Some(t.event),
+            fault: Fault::Invalid,
+        }));
+    };
+    told(
+        known(t, Some(state)),
+        row_tried(alloc, s, t, state, row, local),
+    )
+}
+
+// The state of the line, where that isn't known yet.
+fn state_known<T: Local>(
+    alloc: Global,
+    s: Scope<'_>,
+    t: Trigger,
+    local: &mut T,
+) -> Result<u16, Halt>
+    requires few { HasFew s.machine.now }
+    ensures { TriesAs itself
+        (with_known (known_is t None) (read_state (reading s.entry) (about_is t))) result
+        (T.view local.old) (T.view local.new) }
+{
+    told(
+        known(t, None),
+        state_by(alloc, s, about(t), s.machine.get_state, local),
+    )
+}
+
+// Does what a `trigger` asks for.
+pub(crate) fn tried<T: Local>(
+    alloc: Global,
+    s: Scope<'_>,
+    t: Trigger,
+    local: &mut T,
+) -> Result<Tried, Halt>
+    requires few { HasFew s.machine.now }
+    ensures { TriesAs itself (try_is (reading s.entry) t) result (T.view local.old) (T.view local.new) }
+{
+    let state = state_known(alloc, s, t, local)?;
+    found_tried(
+        alloc,
+        s,
+        t,
+        state,
+        row_for(s.machine, state, t.event),
+        local,
+    )
+}

@@ -1,0 +1,2 @@
+pub mod FewMachines
+pub mod Scans

@@ -1,0 +1,48 @@
+-- A scan of the machine of a number, where it is there and where it isn't.
+use Rattle.std.proofs.Common.{◌≡◌, ℕ, Option, None, Some, List, slice_get, refl, arith}
+use Rattle.std.proofs.lemmas.List.Elements.{All-head, All-tail}
+use Rattle.std.specs.Prelude.{◌≤◌, ◌<◌, zero, suc, [], ◌∷◌, All, IfSome, length, Ok, Result}
+use Rattle.slicc_ast.specs.declared.tree.item.Tree.{Tree}
+use Rattle.slicc_ast.specs.declared.tree.machine.Machine.{Machine}
+use Rattle.ruby_symbols.specs.declared.machine.MachineSymbols.{MachineSymbols}
+use Rattle.ruby_symbols.specs.declared.symbols.Symbols.{Symbols}
+use Rattle.slicc_plan.specs.Declarations.{machines_of}
+use Rattle.slicc_plan.specs.SymbolsOf.{symbols_of}
+use Rattle.symbol_laws.specs.Lawful.{HasNumbers}
+use Rattle.ctl_face.specs.LocalView.{LocalView}
+use Rattle.built_in_acts.specs.declared.setting.CallSetting.{CallSetting}
+use Rattle.scan_meaning.specs.declared.round.RoundEnd.TheVariants.{Idle}
+use Rattle.scan_meaning.specs.declared.tried.Tried.TheVariants.{Waits}
+use Rattle.scan_meaning.specs.Round.{IsRoundOf}
+use Rattle.scan_meaning.specs.Scan.{by_try, scan}
+use Rattle.scan_walk.specs.Few.{HasFew}
+use Rattle.protocol_meaning.specs.Meaning.{scan_of}
+use Rattle.protocol_meaning.specs.Readings.{call_setting}
+
+-- what holds of each is that of one that is there
+pub numbers_at : (xs : List MachineSymbols) (k : ℕ) (o : Option MachineSymbols) → All HasNumbers xs → o ≡ slice_get xs k → IfSome o HasNumbers
+numbers_at [] k o all is = rw is tt
+numbers_at (x ∷ xs) zero o all is = rw is (All-head HasNumbers x xs all)
+numbers_at (x ∷ xs) (suc k) o all is = numbers_at xs k o (All-tail HasNumbers x xs all) is
+
+pub few_of : (m : MachineSymbols) → HasNumbers m → HasFew m
+few_of m has =
+    let functions : length m.functions ≤ 256 = has.functions in
+    let tables : length m.tables ≤ 64 = has.tables in
+    record { functions = omega arith; tables = omega arith }
+
+module _ (trees : List Tree) (machine limit fired : ℕ) (v : LocalView) where
+  pub without_machine : slice_get (symbols_of trees).machines machine ≡ None → IsRoundOf (scan_of trees machine limit fired v) (Ok Idle) v v
+  unfolding scan_of
+  without_machine none = rw none (refl, refl)
+
+  pub without_tree : (m : MachineSymbols) → slice_get (symbols_of trees).machines machine ≡ Some m → slice_get (machines_of trees) machine ≡ None
+      → IsRoundOf (scan_of trees machine limit fired v) (Ok Idle) v v
+  unfolding scan_of
+  without_tree m is none = rw (is, none) (refl, refl)
+
+  pub with_machine : (symbols : Symbols) (m : MachineSymbols) (tree : Machine) (setting : CallSetting)
+      → slice_get (symbols_of trees).machines machine ≡ Some m → slice_get (machines_of trees) machine ≡ Some tree → symbols ≡ symbols_of trees → setting ≡ call_setting symbols m
+      → scan (record { symbols = symbols; number = machine; machine = m; setting = setting; tree = tree }) limit fired v ≡ scan_of trees machine limit fired v
+  unfolding scan_of
+  with_machine symbols m tree setting is there same made = rw (is, there, made, same) refl

@@ -1,0 +1,17 @@
+use Rattle.std.proofs.Common.{◌≡◌, ◌∙◌, None, Some, ap, slice_get, sym}
+use Rattle.std.specs.Option.{option_copied}
+use Rattle.slicc_plan.specs.Declarations.{machines_of}
+use Rattle.slicc_plan.specs.SymbolsOf.{symbols_of}
+use Rattle.slicc_interpreter.proofs.Scans.{without_machine, without_tree}
+use Rattle.slicc_interpreter.proofs.interpreted.round_of.Goals as goal
+
+pub returns-in-None : goal.returns-in-None
+returns-in-None g c =
+    let none : slice_get (symbols_of c.args.plan.now).machines c.args.machine ≡ None = sym c.machine_of.ensures.is ∙ ap option_copied c.in-None.is in
+    without_machine c.args.plan.now c.args.machine c.args.limit c.args.fired (g.T.Local.view c.args.local.now) none
+
+pub returns-in-None-machine : goal.returns-in-None-machine
+returns-in-None-machine g c =
+    let is : slice_get (symbols_of c.args.plan.now).machines c.args.machine ≡ Some c.in-Some.m.now = sym c.machine_of.ensures.is ∙ ap option_copied c.in-Some.is in
+    let none : slice_get (machines_of c.args.plan.now) c.args.machine ≡ None = sym c.machine.ensures ∙ ap option_copied c.in-None-machine.is in
+    without_tree c.args.plan.now c.args.machine c.args.limit c.args.fired (g.T.Local.view c.args.local.now) c.in-Some.m.now is none

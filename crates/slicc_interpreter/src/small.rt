@@ -1,0 +1,35 @@
+// What is known of the sizes of accepted protocols.
+ghost use Rattle.std.specs.Prelude.{◌≡◌, ◌≤◌, All, IfSome, List, length, slice_get};
+ghost use Rattle.std.specs.Option.{option_copied};
+ghost use Rattle.slicc_ast.specs.declared.tree.item.Tree.{Tree as TreeRecord};
+ghost use Rattle.slicc_plan.specs.AllRules.{IsAccepted};
+ghost use Rattle.slicc_plan.specs.SymbolsOf.{symbols_of};
+ghost use Rattle.symbol_laws.specs.Lawful.{HasNumbers};
+
+use ruby_symbols::MachineSymbols;
+use slicc_plan::Plan;
+use symbol_laws::lists_have_numbers;
+
+// It does nothing.
+fn machines_are_few()
+    ensures { (trees : List TreeRecord) → IsAccepted trees → length (symbols_of trees).machines ≤ 16 }
+{}
+
+// A plan is that of an accepted protocol. It does nothing.
+pub(crate) fn plans_are_small(plan: &Plan)
+    ensures machines { length (symbols_of plan.now).machines ≤ 16 }
+    ensures numbers { All HasNumbers (symbols_of plan.now).machines }
+{
+    let _trees = plan.trees();
+    machines_are_few();
+    lists_have_numbers();
+}
+
+// The symbols of the machine of this number, whose lists are short.
+pub(crate) fn machine_of(plan: &Plan, number: u16) -> Option<&MachineSymbols>
+    ensures is { option_copied result ≡ slice_get (symbols_of plan.now).machines number }
+    ensures numbers { IfSome (option_copied result) HasNumbers }
+{
+    plans_are_small(plan);
+    plan.symbols().machines.get(usize::from(number))
+}
