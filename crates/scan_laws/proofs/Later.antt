@@ -24,7 +24,7 @@ use Rattle.scan_laws.proofs.Left.{does_again}
 
 -- One act, as a body.
 
-alone : (a : Act) → Acting (answer a)
+abbrev alone : (a : Act) → Acting (answer a)
 alone a = acts_in a (λ x. ends_body x)
 
 followed : {A : Type 0} (r : Result (Done A) Fault) → follow r (λ x w. run (ends_body x) w) ≡ r
@@ -33,7 +33,7 @@ followed (Ok d) = refl
 followed (Err f) = refl
 
 done_alone : (a : Act) (v : LocalView) → run (alone a) v ≡ does a v
-unfolding run
+unfolding run does
 done_alone a v = followed (does a v)
 
 new_in : (me other_me now other_now : ℕ) (start other_start : Ctl) (more : Added) → other_me ≡ me → other_now ≡ now → other_start ≡ start
