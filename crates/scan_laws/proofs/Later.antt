@@ -14,6 +14,7 @@ use Rattle.act_laws.specs.Added.{Added, AreNew, IsNew, after_adding, with_added}
 use Rattle.act_laws.proofs.Framed.{frame}
 use Rattle.act_laws.proofs.Instances.{stays_in_scan, stays_lawful}
 use Rattle.body_meaning.specs.Reading.{Reading}
+use Rattle.scan_meaning.specs.declared.round.RoundEnd.TheVariants.{Idle}
 use Rattle.scan_meaning.specs.declared.tried.Known.{Known}
 use Rattle.scan_meaning.specs.declared.tried.Tried.{Tried}
 use Rattle.scan_meaning.specs.declared.tried.Tried.TheVariants.{Waits, Fires}
@@ -24,7 +25,7 @@ use Rattle.scan_laws.proofs.Left.{does_again}
 
 -- One act, as a body.
 
-alone : (a : Act) → Acting (answer a)
+abbrev alone : (a : Act) → Acting (answer a)
 alone a = acts_in a (λ x. ends_body x)
 
 followed : {A : Type 0} (r : Result (Done A) Fault) → follow r (λ x w. run (ends_body x) w) ≡ r
@@ -33,7 +34,7 @@ followed (Ok d) = refl
 followed (Err f) = refl
 
 done_alone : (a : Act) (v : LocalView) → run (alone a) v ≡ does a v
-unfolding run
+unfolding run does
 done_alone a v = followed (does a v)
 
 new_in : (me other_me now other_now : ℕ) (start other_start : Ctl) (more : Added) → other_me ≡ me → other_now ≡ now → other_start ≡ start
@@ -105,6 +106,9 @@ module _ (more : Added) where
       let done : ◌≡◌ {A = Done (Unit {0})} (record { value = tt; view = again (with_added more v) }) (record { value = tt; view = with_added more (again v) }) = cc same in
       ap (λ (d : Done (Unit {0})). d.view) done
 
+  abbrev by_idle : LocalView → Scanned
+  by_idle u = record { end = Idle; view = u }
+
   module _ (v : LocalView) (lawful : IsLawful v) (new : AreNew v more) where
     idle_framed : (w : LocalView) (b : Bool) → w.acts.again ≡ b → left_idle (with_added more v) (with_added more w) ≡ with_added more (left_idle v w)
     idle_framed w true is = rw is (again_framed v lawful new)
@@ -112,7 +116,7 @@ module _ (more : Added) where
 
     try_framed : (t : Tried) (w : LocalView) → by_try (with_added more v) t (with_added more w) ≡ scanned_with more (by_try v t w)
     try_framed (Fires note) w = refl
-    try_framed Waits w = ap (λ (u : LocalView). record { end = _; view = u }) (idle_framed w w.acts.again refl)
+    try_framed Waits w = ap (λ (u : LocalView). by_idle u) (idle_framed w w.acts.again refl)
 
     outcome_framed : (r : Result (Done Tried) StopAt) → by_outcome (with_added more v) (after_scan r) ≡ scanned_with more (by_outcome v r)
     outcome_framed (Err at) = refl
