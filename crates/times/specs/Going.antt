@@ -1,7 +1,10 @@
 -- What holds from scan to scan: the controller fits its machine in the cycle, and may go by the routes.
 use Rattle.std.specs.Prelude.{ℕ}
+use Rattle.scan_meaning.specs.declared.round.RoundEnd.{RoundEnd}
+use Rattle.scan_meaning.specs.declared.round.RoundEnd.TheVariants.{Fired}
 use Rattle.ctl_face.specs.declared.routes.Routes.{Routes}
 use Rattle.ctl_face.specs.Fits.{Fits}
+use Rattle.ctl_face.specs.LocalView.{LocalView, SameScan}
 use Rattle.ctl_face.specs.RoutesFit.{HasRoutes}
 use Rattle.ctl_store.specs.declared.outcome.Outcome.{Outcome}
 use Rattle.ctl_store.specs.declared.parts.Parts.{Parts}
@@ -16,3 +19,8 @@ pub record GoesOn (s : Parts) (routes : Routes) (now : ℕ) : Type 0 where
 pub record IsDone (s : Parts) (now : ℕ) (o : Outcome) : Type 0 where
   pub sealed : IsOutcomeFor o (ctl_of s)
   pub fits : Fits (machine_of s) (me_of s) (outcome_ctl o (ctl_of s)) now
+
+-- a scan that fired has left its local in the same scan
+abbrev pub StaysIfFired : RoundEnd → (after before : LocalView) → Type 0
+StaysIfFired (Fired note) after before = SameScan before after
+StaysIfFired _ after before = Unit {0}

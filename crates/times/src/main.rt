@@ -1,9 +1,11 @@
-//! Times what a script of `bench/` asks for: `draft COUNT` times scans of a controller, and `reading FILE` the reading of a text. Any
-//! other words, or none, print nothing.
+//! Times what a script of `bench/` asks for: `draft COUNT` times drafts of a controller, `reading FILE` the reading of a text, and
+//! `scan FILE NAME COUNT` scans by a protocol. Any other words, or none, print nothing.
 #![tactic(auto)]
 
 mod draft;
 mod reading;
+mod scan;
+mod steps;
 
 use std::{env, io};
 
@@ -15,6 +17,12 @@ fn main(rt: HostRuntime) -> io::Result<()> {
     match what.as_str() {
         "draft" => draft::time(&rt, word.as_str()),
         "reading" => reading::time(&rt, word.as_str()),
+        "scan" => match (words.next(), words.next()) {
+            (Some(name), Some(count)) => {
+                scan::time(&rt, word.as_str(), name.as_str(), count.as_str())
+            }
+            _ => Ok(()),
+        },
         _ => Ok(()),
     }
 }

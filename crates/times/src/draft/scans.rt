@@ -3,13 +3,13 @@ ghost use Rattle.std.specs.Prelude.{◌≡◌, ◌<◌, ◌≤◌, ◌+◌, ◌-
 ghost use Rattle.ctl_face.specs.Fits.{last_cycle};
 ghost use Rattle.ctl_face.specs.LocalView.{SameScan};
 ghost use Rattle.ctl_store.specs.Drafted.{view_of};
-ghost use Rattle.ctl_store.specs.Kept.{ctl_of};
 ghost use Rattle.times.specs.Going.{GoesOn, IsDone};
 
 use crate::draft::directory::{INCOMING, LINES, ME, OUTGOING, PENDING, REQUESTOR, message};
+use crate::steps::{apply, begin};
 use ctl_face::{
-    Local, MachineSetup, NoMemory, Routes, Trouble, acts_between_scans_keep_what_holds, has_routes,
-    is_machine, looks_up, opening_controllers_fit, receives, sends, takes_field, takes_message,
+    Local, MachineSetup, NoMemory, Routes, Trouble, has_routes, is_machine, looks_up,
+    opening_controllers_fit, receives, sends, takes_field, takes_message,
 };
 use ctl_store::{Draft, Outcome, Store};
 use ruby_value::Value;
@@ -101,18 +101,6 @@ fn draft_of(alloc: Global, store: &Store, routes: &Routes, now: u64) -> Result<O
     }))
 }
 
-// Begins a cycle.
-fn begin(store: &mut Store, routes: &Routes, now: u64)
-    requires goes { GoesOn store.old routes.now (now - 1) }
-    requires later { 0 < now }
-    ensures goes { GoesOn store.new routes.now now }
-    ensures none_fired { (ctl_of store.new).fired ≡ 0 }
-{
-    let _routes = routes;
-    acts_between_scans_keep_what_holds();
-    store.begin(now);
-}
-
 // A scan in a cycle.
 fn scan(alloc: Global, store: &mut Store, routes: &Routes, now: u64) -> Result<(), Trouble>
     requires goes { GoesOn store.old routes.now (now - 1) }
@@ -122,9 +110,7 @@ fn scan(alloc: Global, store: &mut Store, routes: &Routes, now: u64) -> Result<(
 {
     begin(store, routes, now);
     let outcome = draft_of(alloc, store, routes, now)?;
-    store.reserve(&outcome)?;
-    acts_between_scans_keep_what_holds();
-    let _posted = store.apply(outcome);
+    apply(store, routes, now, outcome)?;
     Ok(())
 }
 

@@ -4,14 +4,14 @@ use Rattle.ctl_face.specs.Ctl.{Ctl}
 use Rattle.ctl_store.specs.Kept.{ctl_of, machine_of, me_of}
 use Rattle.ctl_store.specs.Sealed.{outcome_ctl}
 use Rattle.times.proofs.Going.{goes_as, same_then}
-use Rattle.times.proofs.draft.scans.scan.Goals as goal
+use Rattle.times.proofs.steps.apply.Goals as goal
 
 pub returns : goal.returns
 returns c =
-    let old = c.begin.new.store in
-    let o = c.in_ok-outcome.outcome in
+    let old = c.args.store.now in
+    let o = c.args.outcome in
     goes_as old c.apply-posted.new.self c.args.routes.now c.args.now (with_one_fired (outcome_ctl o (ctl_of old)))
     (same_then old c.reserve.new.self c.apply-posted.new.self c.reserve.ensures.store c.apply-posted.ensures.store)
-    c.begin.ensures.goes.routes_fit
-    (c.acts_between_scans_keep_what_holds.ensures.fired (machine_of old) (me_of old) c.args.now (outcome_ctl o (ctl_of old)) c.in_ok-outcome.ensures.fits)
+    c.requires.goes.routes_fit
+    (c.acts_between_scans_keep_what_holds.ensures.fired (machine_of old) (me_of old) c.args.now (outcome_ctl o (ctl_of old)) c.requires.done.fits)
     (c.apply-posted.ensures.after ∙ ap (λ (ctl : Ctl). with_one_fired (outcome_ctl o ctl)) c.reserve.ensures.same)

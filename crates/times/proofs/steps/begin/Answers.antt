@@ -2,7 +2,7 @@ use Rattle.std.proofs.Common.{◌-◌, arith}
 use Rattle.ctl_face.specs.Between.{at_cycle}
 use Rattle.ctl_store.specs.Kept.{ctl_of, machine_of, me_of}
 use Rattle.times.proofs.Going.{goes_as}
-use Rattle.times.proofs.draft.scans.begin.Goals as goal
+use Rattle.times.proofs.steps.begin.Goals as goal
 
 pub returns-clause-goes : goal.returns-clause-goes
 returns-clause-goes c =

@@ -1,0 +1,24 @@
+/* Counts how often a program allocates, for bench/draft and bench/scan: loaded before the C library, it prints the count as the program
+   ends, to standard error. */
+#define _GNU_SOURCE
+#include <dlfcn.h>
+#include <stdio.h>
+#include <stdlib.h>
+
+static long calls;
+
+void *malloc(size_t size) {
+    static void *(*real)(size_t);
+    if (!real) real = (void *(*)(size_t))dlsym(RTLD_NEXT, "malloc");
+    calls++;
+    return real(size);
+}
+
+void *realloc(void *old, size_t size) {
+    static void *(*real)(void *, size_t);
+    if (!real) real = (void *(*)(void *, size_t))dlsym(RTLD_NEXT, "realloc");
+    calls++;
+    return real(old, size);
+}
+
+__attribute__((destructor)) static void tell(void) { fprintf(stderr, "%ld", calls); }

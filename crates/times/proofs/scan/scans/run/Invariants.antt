@@ -1,0 +1,5 @@
+use Rattle.times.specs.Going.{GoesOn}
+use Rattle.times.proofs.scan.scans.run.Given as goal
+
+abbrev pub invariant-loop-done : goal.invariant-loop-done
+invariant-loop-done l = GoesOn l.store l.routes l.done
