@@ -3,3 +3,4 @@ pub mod Scans
 pub mod Settings
 pub mod Kept
 pub mod Rounds
+pub mod Fired

@@ -1,11 +1,12 @@
 -- What a run has of a scan that code has done, by how it ended and by the local after it and before it. Of one that fires this is what
--- was done to messages; of one in which nothing fires it is the controller as it was, but for the mark of a stall.
+-- was done to messages; of one in which nothing fires it is the controller as it was, but for the mark of a stall. And that a scan that
+-- fires goes on in the same scan.
 use Rattle.ruby_value.specs.declared.message.Message.{Message}
 use Rattle.ruby_runs.specs.Rules.{Outcome}
 use Rattle.ctl_face.specs.Ctl.{Ctl}
-use Rattle.ctl_face.specs.LocalView.{LocalView}
+use Rattle.ctl_face.specs.LocalView.{LocalView, SameScan}
 use Rattle.scan_meaning.specs.declared.round.RoundEnd.{RoundEnd}
-use Rattle.scan_meaning.specs.declared.round.RoundEnd.TheVariants.{Idle}
+use Rattle.scan_meaning.specs.declared.round.RoundEnd.TheVariants.{Fired, Idle}
 use Rattle.scan_meaning.specs.Scan.{left_idle}
 use Rattle.protocol_meaning.specs.Meaning.{outcome_by}
 
@@ -16,3 +17,8 @@ local_left _ after before = after
 
 abbrev pub outcome_of_round : RoundEnd → (after before : LocalView) → Outcome Ctl Message
 outcome_of_round end after before = outcome_by end (local_left end after before)
+
+-- the local after a scan that has fired is in the same scan as the one before it
+abbrev pub StaysIfFired : RoundEnd → (after before : LocalView) → Type 0
+StaysIfFired (Fired note) after before = SameScan before after
+StaysIfFired _ after before = Unit {0}

@@ -1,5 +1,6 @@
 // What holds of every protocol and of every topology that fits it. These functions do nothing: their contracts are the laws.
-ghost use Rattle.std.specs.Prelude.{◌≡◌, ◌≤◌, ℕ, List, Ok, Some, length};
+ghost use Rattle.std.specs.Prelude.{◌≡◌, ◌≤◌, ℕ, IfOk, List, Ok, Result, Some, length};
+ghost use Rattle.ruby_base.specs.declared.memory.NoMemory.{NoMemory};
 ghost use Rattle.slicc_ast.specs.declared.tree.item.Tree.{Tree as TreeRecord};
 ghost use Rattle.ruby_value.specs.declared.setup.MachineSetup.{MachineSetup as SetupRecord};
 ghost use Rattle.ruby_value.specs.declared.setup.Sizes.{Sizes as SizesRecord};
@@ -17,7 +18,7 @@ ghost use Rattle.scan_meaning.specs.Round.{IsRoundOf};
 ghost use Rattle.protocol_meaning.specs.Kept.{KeepsRanges};
 ghost use Rattle.protocol_meaning.specs.Meaning.{meaning_of, scan_of};
 ghost use Rattle.protocol_meaning.specs.Readings.{reading_of};
-ghost use Rattle.protocol_meaning.specs.Rounds.{outcome_of_round};
+ghost use Rattle.protocol_meaning.specs.Rounds.{StaysIfFired, outcome_of_round};
 ghost use Rattle.protocol_meaning.specs.Setting.{setting_of};
 
 use sequencer::Driver;
@@ -37,6 +38,14 @@ pub fn rounds_are_scans()
         (end : RoundRecord)
         → IsRoundOf (scan_of trees machine limit before.ctl.fired before) (Ok end) after before
         → ((meaning_of trees).scan machine before limit).outcome ≡ outcome_of_round end after before }
+{}
+
+/// A round that fires leaves its local in the same scan, so that what was done in it fits the controller with which it began.
+pub fn fired_rounds_stay()
+    ensures { (trees : List TreeRecord) (machine limit fired : ℕ) (before after : LocalView)
+        (answer : Result RoundRecord NoMemory)
+        → IsRoundOf (scan_of trees machine limit fired before) answer after before
+        → IfOk answer (λ end. StaysIfFired end after before) }
 {}
 
 /// A run of a protocol with a topology that fits it is one of which the laws of runs hold, where its bound on cycles is within that

@@ -6,6 +6,7 @@ mod laws;
 mod protocol;
 
 pub use laws::{
-    calls_find_the_machines, meanings_are_lawful, rounds_are_scans, settings_are_lawful,
+    calls_find_the_machines, fired_rounds_stay, meanings_are_lawful, rounds_are_scans,
+    settings_are_lawful,
 };
 pub use protocol::Protocol;

@@ -1,6 +1,11 @@
-//! Stores of controllers for rows of examples: as a run begins, with a message in a queue, and with requests outstanding.
+//! Stores of controllers for rows of examples and for timing: as a run begins, with a message in a queue, and with requests outstanding;
+//! their scans, and what is done around these.
 #![tactic(auto)]
 
+mod scans;
+mod steps;
 mod stores;
 
+pub use scans::{ScanEnd, scan};
+pub use steps::{apply, begin, wake_again};
 pub use stores::{is_delivered, is_issued, opened};

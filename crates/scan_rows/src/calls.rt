@@ -194,4 +194,11 @@ pub(crate) const CALLS: &[Row] = &[
         action: "enqueue(lost, Msg, 1) { out_msg.Destination.add(machineID); }",
         ..ROW
     },
+    Row {
+        name: "more than 4,096 copies in a cycle",
+        action: "enqueue(out, Msg, 1) { out_msg.Destination.broadcast(MachineType:Node); } ",
+        times: 129,
+        transitions: "transition(A, Go, B) { act; act; act; act; act; act; act; act; act; act; act; act; act; act; act; act; }",
+        ..ROW
+    },
 ];

@@ -1,12 +1,18 @@
-//! Does scans of small protocols on drafts of a controller, and prints a line for each: the transition that fired and what was done to
-//! messages, that it was idle or full, or where it stopped and why. There is one for each statement, operator and built-in call, and for
-//! the faults. What is printed stands beside it in `stdout`, worked out by hand from the rules of the language; a further row is a few
-//! lines here and a line there.
+//! Does scans of small protocols on drafts of a controller, and prints a line for each: how it ended, that is the transition that fired
+//! with its lists of messages (`consumed 2:0`: sender and number), that it was idle or full, or where it stopped and why; and then, each
+//! after a semicolon, what is left: the marks, how many messages are queued, stalled and recycled, the states of lines that aren't the
+//! default, the lines of tables with the fields that differ from a new line's, the copies for another controller and the finished
+//! requests. What has fired is sealed and applied, and else the draft is dropped. There is a scan for each statement, operator and built-in
+//! call, and for the faults. What is printed stands beside it in `stdout`, worked out by hand from the rules of the language; a further
+//! row is a few lines here and a line there.
 #![tactic(auto)]
 
+mod after;
+mod before;
 mod begun;
 mod calls;
 mod expressions;
+mod left;
 mod protocol;
 mod row;
 mod scans;

@@ -15,7 +15,9 @@ pub(crate) fn text_of(alloc: Global, row: &Row) -> Result<Text, NoMemory> {
     text.append(AFTER_PORT.as_bytes())?;
     text.append(row.declarations.as_bytes())?;
     text.append(BEFORE_ACTION.as_bytes())?;
-    text.append(row.action.as_bytes())?;
+    for _ in 0..row.times {
+        text.append(row.action.as_bytes())?;
+    }
     text.append(AFTER_ACTION.as_bytes())?;
     text.append(row.transitions.as_bytes())?;
     text.append(TAIL.as_bytes())?;

@@ -1,12 +1,13 @@
 // A scan as a row of data: the parts of a protocol that it is done on. What they have in common stands here.
 
-/// A scan: its name, what its machine declares besides what all have, what its port for requests does, the body of its action, and its
-/// transitions.
+/// A scan: its name, what its machine declares besides what all have, what its port for requests does, the body of its action and how
+/// many times it is written there, and its transitions.
 pub(crate) struct Row {
     pub(crate) name: &'static str,
     pub(crate) declarations: &'static str,
     pub(crate) port: &'static str,
     pub(crate) action: &'static str,
+    pub(crate) times: u32,
     pub(crate) transitions: &'static str,
 }
 
@@ -17,6 +18,7 @@ pub(crate) const ROW: Row = Row {
     port: "if (cpu.isReady(clockEdge())) { peek(cpu, RubyRequest) { \
            trigger(Event:Go, in_msg.LineAddress, cache.lookup(in_msg.LineAddress), tbes.lookup(in_msg.LineAddress)); } }",
     action: "",
+    times: 1,
     transitions: "transition(A, Go, B) { act; }",
 };
 

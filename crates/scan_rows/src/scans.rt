@@ -1,19 +1,19 @@
-// Does the scans, and prints how each ends.
+// Does the scans, and prints how each ends and what it leaves.
 ghost use Rattle.ctl_face.specs.RoutesFit.{HasRoutes};
 ghost use Rattle.ctl_store.specs.Kept.{machine_of, me_of};
 ghost use Rattle.sample_stores.specs.Fitting.{FitsAlways};
 
+use crate::after::write_after;
+use crate::before::{Before, make_ready};
 use crate::begun::{begun, machine, routes};
 use crate::protocol::{plan_of, text_of};
 use crate::row::Row;
-use crate::shown::{ShownActs, ShownFire, ShownStop};
+use crate::shown::ShownEnd;
 use crate::ticker::{TICKER, TickerRow};
-use acts::{Local, pop, set_state};
 use ctl_face::{NoMemory, Routes, has_routes};
-use ctl_store::{Draft, Store};
-use protocol_meaning::Protocol;
+use ctl_store::Store;
 use ruby_base::Text;
-use scan_meaning::RoundEnd;
+use sample_stores::{begin, scan as scan_store};
 use slicc_interpreter::Interpreted;
 use slicc_plan::Plan;
 use std::alloc::Global;
@@ -22,15 +22,7 @@ use std::io;
 /// How many transitions the controller may fire in a cycle.
 const LIMIT: u64 = 32;
 
-/// What is done in a draft before its scan.
-#[derive(Clone, Copy)]
-pub(crate) enum Before {
-    Nothing,
-    /// The request is popped.
-    Popped,
-    /// Line 0 is in state B.
-    InB,
-}
+const SEED: u64 = 42;
 
 /// A scan: its name, the address of the request, the cycle, what is done before it, how many transitions have fired in the cycle, and
 /// the buffer that takes the messages of network 0.
@@ -44,66 +36,36 @@ struct Scan<'a> {
     receiving: Option<u16>,
 }
 
-// Whether it could be done.
-fn is_done<L: Local>(local: &mut L, before: Before) -> bool {
-    match before {
-        Before::Nothing => true,
-        Before::Popped => pop(local, 0).is_ok(),
-        Before::InB => set_state(local, 0, 1).is_ok(),
-    }
-}
-
-fn write_end(rt: &HostRuntime, name: &str, end: RoundEnd, draft: Draft<'_>) -> io::Result<()> {
-    match end {
-        RoundEnd::Fired(note) => {
-            let outcome = draft.seal(note);
-            println!(rt; "{name}: {}{}", ShownFire(note), ShownActs(&outcome))
-        }
-        RoundEnd::Idle => {
-            let again = if draft.stalled() { ", stalled" } else { "" };
-            println!(rt; "{name}: idle{again}")
-        }
-        RoundEnd::Full => println!(rt; "{name}: full"),
-        RoundEnd::Stop(at) => println!(rt; "{name}: {}", ShownStop(&at)),
-    }
-}
-
-fn write_scan(
-    rt: &HostRuntime,
-    alloc: Global,
-    name: &str,
-    protocol: &Interpreted,
-    mut draft: Draft<'_>,
-    fired: u64,
-) -> io::Result<bool> {
-    match protocol.round(alloc, 0, &mut draft, fired, LIMIT) {
-        Ok(end) => {
-            write_end(rt, name, end, draft)?;
-            Ok(true)
-        }
-        Err(_) => Ok(false),
-    }
-}
-
 fn write_on(
     rt: &HostRuntime,
     alloc: Global,
     scan: Scan<'_>,
     protocol: &Interpreted,
-    store: &Store,
+    store: &mut Store,
     routes: &Routes,
 ) -> io::Result<bool>
-    requires fits { FitsAlways store.now }
-    requires routes { HasRoutes (machine_of store.now) (me_of store.now) routes.now }
+    requires fits { FitsAlways store.old }
+    requires routes { HasRoutes (machine_of store.old) (me_of store.old) routes.now }
 {
-    if scan.now > 1000 {
+    let now = scan.now;
+    if now == 0 || now > 1000 {
         return Ok(false);
     }
-    let mut draft = Draft::on(alloc, store, routes, 42, scan.now);
-    if !is_done(&mut draft, scan.before) {
+    begin(store, routes, now);
+    if make_ready(alloc, store, routes, now, scan.before).is_err() {
         return Ok(false);
     }
-    write_scan(rt, alloc, scan.name, protocol, draft, scan.fired)
+    let Ok(end) = scan_store(
+        alloc, protocol, 0, store, routes, SEED, now, scan.fired, LIMIT,
+    ) else {
+        return Ok(false);
+    };
+    print!(rt; "{}: {}", scan.name, ShownEnd(&end))?;
+    if !write_after(rt, alloc, store, routes, now, end)? {
+        return Ok(false);
+    }
+    println!(rt; "")?;
+    Ok(true)
 }
 
 fn write_of(rt: &HostRuntime, alloc: Global, scan: Scan<'_>, plan: Plan) -> io::Result<bool> {
@@ -111,14 +73,14 @@ fn write_of(rt: &HostRuntime, alloc: Global, scan: Scan<'_>, plan: Plan) -> io::
     else {
         return Ok(false);
     };
-    let Ok(Some(store)) = begun(alloc, &plan, machine, scan.address) else {
+    let Ok(Some(mut store)) = begun(alloc, &plan, machine, scan.address) else {
         return Ok(false);
     };
     if !has_routes(store.machine(), store.me(), &routes) {
         return Ok(false);
     }
     let protocol = Interpreted::new(plan);
-    write_on(rt, alloc, scan, &protocol, &store, &routes)
+    write_on(rt, alloc, scan, &protocol, &mut store, &routes)
 }
 
 fn write_text(

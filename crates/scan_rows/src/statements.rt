@@ -23,13 +23,20 @@ pub(crate) const STATEMENTS: &[Row] = &[
         ..ROW
     },
     Row {
+        name: "fields of each type are assigned",
+        action: "set_cache_entry(cache.allocate(address, new Entry)); cache_entry.Dirty := true; cache_entry.Where := address; \
+                 cache_entry.Owner := mapAddressToMachine(address, MachineType:Node); cache_entry.Kept := State:B;",
+        ..ROW
+    },
+    Row {
         name: "a field of a TBE is assigned",
         action: "tbes.allocate(address); set_tbe(tbes.lookup(address)); tbe.Count := 9; assert(tbes[address].Count == 9);",
         ..ROW
     },
     Row {
         name: "a field of a message is assigned",
-        action: "enqueue(out, Msg, lat) { out_msg.Count := 4; assert(out_msg.Count == 4); }",
+        action: "enqueue(out, Msg, lat) { out_msg.Count := 4; assert(out_msg.Count == 4); \
+                 out_msg.Destination.add(mapAddressToMachine(address, MachineType:Node)); }",
         ..ROW
     },
     Row {

@@ -1,5 +1,5 @@
 // Scans of the ticker, which has the built-in map of states.
-use crate::scans::Before;
+use crate::before::Before;
 
 /// The ticker.
 pub(crate) const TICKER: &str = "machine(MachineType:Node, 'ticker')

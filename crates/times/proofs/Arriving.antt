@@ -22,8 +22,8 @@ use Rattle.ctl_store.specs.declared.parts.Parts.{Parts}
 use Rattle.ctl_store.specs.Kept.{ctl_of, machine_of, me_of, requests_of}
 use Rattle.ctl_store.specs.Lending.{with_sequencer}
 use Rattle.ctl_store.specs.Room.{IsSameStore}
-use Rattle.times.specs.Going.{GoesOn}
-use Rattle.times.proofs.Going.{goes_as, same_then}
+use Rattle.sample_stores.specs.Going.{GoesOn}
+use Rattle.sample_stores.proofs.Going.{goes_as, same_then}
 
 -- each message is queued, stalled or recycled
 abbrev told : Bool → ℕ

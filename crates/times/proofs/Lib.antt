@@ -1,3 +1,1 @@
 pub mod Arriving
-pub mod Fired
-pub mod Going

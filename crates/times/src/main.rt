@@ -3,9 +3,9 @@
 #![tactic(auto)]
 
 mod draft;
+mod protocol;
 mod reading;
 mod scan;
-mod steps;
 
 use std::{env, io};
 

@@ -2,11 +2,10 @@
 // takes the file, `cache` or `directory`, and how many scans there are to be, and prints how many fired and how many nanoseconds they
 // took in all.
 mod controllers;
-mod protocol;
 mod scans;
 
+use crate::protocol::plan_of;
 use controllers::{Scanned, scanned_of, setup_of};
-use protocol::plan_of;
 use ruby_outside::FileLibrary;
 use scans::run;
 use slicc_interpreter::Interpreted;

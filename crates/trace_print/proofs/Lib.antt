@@ -1,5 +1,6 @@
 pub mod Adding
 pub mod Digits
+pub mod LineParts
 pub mod Listing
 pub mod NameParts
 pub mod Putting

@@ -1,13 +1,17 @@
 // The lines that follow a run's journal.
-ghost use Rattle.std.specs.Prelude.{[], ◌∷◌, codes, decimal, map};
+ghost use Rattle.std.specs.Prelude.{[], ◌∷◌, ◌++◌, decimal, map};
 ghost use Rattle.ruby_outside.specs.Sink.{IsWritten};
 ghost use Rattle.slicc_plan.specs.SymbolsOf.{symbols_of};
-ghost use Rattle.trace_print.specs.Ends.{account_line, final_line, rest_lines, verdict_line};
-ghost use Rattle.trace_print.specs.Lines.{line_of};
+ghost use Rattle.trace_print.specs.Adding.{IsAdded};
+ghost use Rattle.trace_print.specs.Ends.{account_line, final_line, rest_lines, verdict_words};
+ghost use Rattle.trace_print.specs.Lines.{line_of, spaced};
 ghost use Rattle.trace_print.specs.Pieces.{AreLinesPut, IsLinePut, text_of};
+ghost use Rattle.trace_print.specs.Words.{word_bytes};
 
+use crate::line::{Held, end_line};
 use crate::names::{controller_machine, controller_word, state_word};
-use crate::words::{Word, write_line};
+use crate::words::{Word, add_words, begin_line, write_line};
+use arrayvec::ArrayVec;
 use ruby_base::{Seq, Text};
 use ruby_outside::Sink;
 use ruby_symbols::Symbols;
@@ -77,31 +81,31 @@ fn write_account<S: Sink>(sink: &mut S, account: &Account) -> bool
     )
 }
 
-// The line of a verdict that has a cycle alone.
-fn write_cycle<S: Sink>(sink: &mut S, word: &[u8], cycle: u64) -> bool
-    ensures { IsLinePut S.writes sink.old (line_of (codes "verdict" ∷ word.now ∷ decimal cycle ∷ [])) result sink.new }
+// The words of a verdict that has a cycle alone.
+fn add_cycle<S: Sink>(sink: &mut S, line: &mut Held, word: &[u8], cycle: u64) -> bool
+    ensures { IsAdded S.writes sink.old line.old.items (spaced (word.now ∷ decimal cycle ∷ [])) result sink.new line.new.items }
 {
-    write_line(sink, b"verdict", &[Word::Bytes(word), Word::Number(cycle)])
+    add_words(sink, line, &[Word::Bytes(word), Word::Number(cycle)])
 }
 
-// The line of a verdict that has a number beside its cycle.
-fn write_number<S: Sink>(sink: &mut S, word: &[u8], cycle: u64, number: u64) -> bool
-    ensures { IsLinePut S.writes sink.old (line_of (codes "verdict" ∷ word.now ∷ decimal cycle ∷ decimal number ∷ [])) result sink.new }
+// The words of a verdict that has a number beside its cycle.
+fn add_numbers<S: Sink>(sink: &mut S, line: &mut Held, word: &[u8], cycle: u64, number: u64) -> bool
+    ensures { IsAdded S.writes sink.old line.old.items (spaced (word.now ∷ decimal cycle ∷ decimal number ∷ [])) result sink.new line.new.items }
 {
-    write_line(
+    add_words(
         sink,
-        b"verdict",
+        line,
         &[Word::Bytes(word), Word::Number(cycle), Word::Number(number)],
     )
 }
 
-fn write_verdict<S: Sink>(sink: &mut S, names: &[Text], verdict: &Verdict) -> bool
-    ensures { IsLinePut S.writes sink.old (verdict_line names.now verdict.now) result sink.new }
+fn add_verdict<S: Sink>(sink: &mut S, line: &mut Held, names: &[Text], verdict: &Verdict) -> bool
+    ensures { IsAdded S.writes sink.old line.old.items (spaced (verdict_words names.now verdict.now)) result sink.new line.new.items }
 {
     match *verdict {
-        Verdict::Stop { cycle, controller } => write_line(
+        Verdict::Stop { cycle, controller } => add_words(
             sink,
-            b"verdict",
+            line,
             &[
                 Word::Bytes(b"stop"),
                 Word::Number(cycle),
@@ -115,9 +119,9 @@ fn write_verdict<S: Sink>(sink: &mut S, names: &[Text], verdict: &Verdict) -> bo
             offset,
             expected,
             found,
-        } => write_line(
+        } => add_words(
             sink,
-            b"verdict",
+            line,
             &[
                 Word::Bytes(b"incoherent"),
                 Word::Number(cycle),
@@ -133,9 +137,9 @@ fn write_verdict<S: Sink>(sink: &mut S, names: &[Text], verdict: &Verdict) -> bo
             controller,
             address,
             issued,
-        } => write_line(
+        } => add_words(
             sink,
-            b"verdict",
+            line,
             &[
                 Word::Bytes(b"deadlock"),
                 Word::Number(cycle),
@@ -144,12 +148,33 @@ fn write_verdict<S: Sink>(sink: &mut S, names: &[Text], verdict: &Verdict) -> bo
                 Word::Number(issued),
             ],
         ),
-        Verdict::Passed { cycle, checks } => write_number(sink, b"passed", cycle, checks),
-        Verdict::Quiet { cycle } => write_cycle(sink, b"quiet", cycle),
-        Verdict::Cycles { cycle } => write_cycle(sink, b"cycles", cycle),
-        Verdict::Journal { cycle, entries } => write_number(sink, b"journal", cycle, entries),
-        Verdict::Mail { cycle, messages } => write_number(sink, b"mail", cycle, messages),
+        Verdict::Passed { cycle, checks } => add_numbers(sink, line, b"passed", cycle, checks),
+        Verdict::Quiet { cycle } => add_cycle(sink, line, b"quiet", cycle),
+        Verdict::Cycles { cycle } => add_cycle(sink, line, b"cycles", cycle),
+        Verdict::Journal { cycle, entries } => add_numbers(sink, line, b"journal", cycle, entries),
+        Verdict::Mail { cycle, messages } => add_numbers(sink, line, b"mail", cycle, messages),
     }
+}
+
+/// Writes a line of words that ends with those of a verdict, and answers whether it was written whole. Where it wasn't, a beginning of
+/// it was. The names are those of the controllers, by number. It takes no memory.
+pub fn write_verdict<S: Sink>(
+    sink: &mut S,
+    first: &[u8],
+    others: &[Word<'_>],
+    names: &[Text],
+    verdict: &Verdict,
+) -> bool
+    ensures { IsLinePut S.writes sink.old (line_of (first.now ∷ map word_bytes others.now ++ verdict_words names.now verdict.now)) result sink.new }
+{
+    let mut line = ArrayVec::new();
+    if !begin_line(sink, &mut line, first, others) {
+        return false;
+    }
+    if !add_verdict(sink, &mut line, names, verdict) {
+        return false;
+    }
+    end_line(sink, &mut line)
 }
 
 /// Writes the lines of a run that follow its journal: the final states, where the messages are, and the verdict. It answers whether all
@@ -164,5 +189,5 @@ pub fn write_rest<S: Sink>(sink: &mut S, r: &RunText<'_>) -> bool
     if !write_account(sink, r.account) {
         return false;
     }
-    write_verdict(sink, r.names, r.verdict)
+    write_verdict(sink, b"verdict", &[], r.names, r.verdict)
 }

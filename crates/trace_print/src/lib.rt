@@ -11,8 +11,10 @@ mod names;
 mod rows;
 mod words;
 
-pub use ends::{RunText, write_rest};
+pub use ends::{RunText, write_rest, write_verdict};
 pub use entries::write_entry;
 pub use laws::machine_is_found_by_name;
+pub use names::{controller_machine, state_word};
 pub use rows::write_rows;
 pub use ruby_base::{Seq, Text};
+pub use words::{Word, write_line};

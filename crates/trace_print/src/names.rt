@@ -39,8 +39,8 @@ fn machine_part(name: &[u8]) -> &[u8]
     }
 }
 
-/// The machine with a number.
-pub(crate) fn machine_at(symbols: &Symbols, number: Option<u16>) -> Option<&MachineSymbols>
+// The machine with a number.
+fn machine_at(symbols: &Symbols, number: Option<u16>) -> Option<&MachineSymbols>
     ensures { option_copied result ≡ machine_at symbols.now number }
 {
     match number {
@@ -55,8 +55,9 @@ fn machine_of<'a>(symbols: &'a Symbols, name: &[u8]) -> Option<&'a MachineSymbol
     machine_at(symbols, machine_named(symbols, machine_part(name)))
 }
 
-/// The machine of a controller.
-pub(crate) fn controller_machine<'a>(
+/// The machine of a controller, where it has one: that whose name its own begins with. The names are those of the controllers, by
+/// number. It takes no memory.
+pub fn controller_machine<'a>(
     symbols: &'a Symbols,
     names: &[Text],
     controller: u32,
@@ -88,12 +89,8 @@ fn member_word(symbols: &Symbols, enumeration: u16, number: u16) -> &[u8]
     }
 }
 
-/// The name of a state of a machine.
-pub(crate) fn state_word<'a>(
-    symbols: &'a Symbols,
-    m: Option<&MachineSymbols>,
-    state: u16,
-) -> &'a [u8]
+/// The name of a state of a machine, and a dash where there is none. It takes no memory.
+pub fn state_word<'a>(symbols: &'a Symbols, m: Option<&MachineSymbols>, state: u16) -> &'a [u8]
     ensures { result.now ≡ state_word symbols.now (option_copied m.entry) state }
 {
     match m {

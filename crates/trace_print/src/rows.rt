@@ -10,7 +10,7 @@ ghost use Rattle.trace_print.specs.Pieces.{AreLinesPut, IsLinePut, text_of};
 ghost use Rattle.trace_print.specs.Rows.{action_words, row_line, row_lines};
 
 use crate::line::{Held, end_line};
-use crate::names::{action_word, event_word, machine_at, machine_word, state_word};
+use crate::names::{action_word, event_word, machine_word, state_word};
 use crate::words::{Word, add_spaced, begin_line};
 use arrayvec::ArrayVec;
 use ruby_base::Seq;
@@ -88,10 +88,10 @@ fn write_each<S: Sink>(
 /// Writes the lines of rows of a machine's table, each with the machine, its state, its event, the state after it and its actions, and
 /// answers whether all were written whole. It writes nothing after one that wasn't, of which a beginning is written. The machine is
 /// given by its number.
-pub fn write_rows<S: Sink>(sink: &mut S, plan: &Plan, machine: u16, rows: &Seq<Row>) -> bool
+pub fn write_rows<S: Sink>(sink: &mut S, plan: &Plan, machine: usize, rows: &Seq<Row>) -> bool
     ensures pieces { AreLinesPut S.writes sink.old (row_lines (symbols_of plan.now) machine rows.now) result sink.new }
     ensures written { IsWritten (S.written sink.old) (S.faults sink.old) (text_of (row_lines (symbols_of plan.now) machine rows.now)) result (S.written sink.new) (S.faults sink.new) }
 {
     let symbols = plan.symbols();
-    write_each(sink, symbols, machine_at(symbols, Some(machine)), rows)
+    write_each(sink, symbols, symbols.machines.get(machine), rows)
 }

@@ -9,7 +9,7 @@ use trace_print::write_rows;
 struct Pair(u16, u16, u16, &'static [u16]);
 
 /// The rows of a machine, by its number.
-struct Table(u16, &'static [Pair]);
+struct Table(usize, &'static [Pair]);
 
 const TABLES: &[Table] = &[
     Table(0, &[Pair(0, 0, 1, &[0]), Pair(1, 0, 0, &[1, 0, 0])]),

@@ -3,7 +3,7 @@ ghost use Rattle.std.specs.Prelude.{◌≡◌, ◌≤◌, ◌<◌, ◌+◌, [], 
 ghost use Rattle.std.specs.Option.{ForSome};
 ghost use Rattle.ruby_runs.specs.Account.{consumed_in, consumed_numbers, sent_in, sent_numbers};
 
-use ruby_value::NoMemory;
+use ruby_value::{NoMemory, Seq};
 use run_journal::{Entry, Event};
 use std::alloc::Global;
 use std::marker::Model;
@@ -137,5 +137,13 @@ impl Book {
         ensures { ForSome result (λ n. n ≡ length (consumed_numbers self.now.journal)) }
     {
         self.consumed
+    }
+
+    /// The history and the journal. It takes no memory.
+    pub fn into_parts(self) -> (Seq<Event>, Seq<Entry>)
+        ensures history { result.0 ≡ self.history }
+        ensures journal { result.1 ≡ self.journal }
+    {
+        (Seq::of(self.history), Seq::of(self.journal))
     }
 }

@@ -3,10 +3,9 @@ ghost use Rattle.std.specs.Prelude.{◌≡◌, ◌<◌, ◌≤◌, ◌+◌, ◌-
 ghost use Rattle.ctl_face.specs.Fits.{last_cycle};
 ghost use Rattle.ctl_face.specs.LocalView.{SameScan};
 ghost use Rattle.ctl_store.specs.Drafted.{view_of};
-ghost use Rattle.times.specs.Going.{GoesOn, IsDone};
+ghost use Rattle.sample_stores.specs.Going.{GoesOn, IsDone};
 
 use crate::draft::directory::{INCOMING, LINES, ME, OUTGOING, PENDING, REQUESTOR, message};
-use crate::steps::{apply, begin};
 use ctl_face::{
     Local, MachineSetup, NoMemory, Routes, Trouble, has_routes, is_machine, looks_up,
     opening_controllers_fit, receives, sends, takes_field, takes_message,
@@ -14,6 +13,7 @@ use ctl_face::{
 use ctl_store::{Draft, Outcome, Store};
 use ruby_value::Value;
 use run_journal::FireNote;
+use sample_stores::{apply, begin};
 use std::alloc::Global;
 
 // How many lines there are.
@@ -110,12 +110,12 @@ fn scan(alloc: Global, store: &mut Store, routes: &Routes, now: u64) -> Result<(
 {
     begin(store, routes, now);
     let outcome = draft_of(alloc, store, routes, now)?;
-    apply(store, routes, now, outcome)?;
+    let _posted = apply(store, routes, now, outcome)?;
     Ok(())
 }
 
 /// Makes so many scans, and answers how many it made.
-#[tactic(auto, using(crate::proofs::Going::opened))]
+#[tactic(auto, using(sample_stores::proofs::Going::opened))]
 pub(crate) fn run(
     alloc: Global,
     machine: MachineSetup,

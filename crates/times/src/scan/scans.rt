@@ -2,22 +2,21 @@
 ghost use Rattle.std.specs.Prelude.{◌≡◌, ◌<◌, ◌≤◌, ◌-◌, ◌↔◌, [], IfOk, IfSome, IsTrue, OnOk, true};
 ghost use Rattle.ctl_face.specs.Fits.{last_cycle};
 ghost use Rattle.ctl_face.specs.OfMachine.{TakesFields};
-ghost use Rattle.ctl_store.specs.Drafted.{view_of};
 ghost use Rattle.ctl_store.specs.Kept.{ctl_of};
-ghost use Rattle.times.specs.Going.{GoesOn, IsDone, StaysIfFired};
+ghost use Rattle.sample_stores.specs.Going.{GoesOn};
 
 use crate::scan::controllers::{DRIVER, Scanned, fields_of, load, next_arrival, routes};
-use crate::steps::{apply, begin};
 use ctl_face::{
     Fields, MachineSetup, NoMemory, Routes, has_routes, is_machine, opening_controllers_fit,
 };
-use ctl_store::{Draft, Outcome, Store};
-use protocol_meaning::Protocol;
+use ctl_store::Store;
 use ruby_value::{Message, MsgNo, have_kinds};
 use sample_controllers::message;
-use scan_meaning::RoundEnd;
+use sample_stores::{ScanEnd, apply, begin, scan};
 use slicc_interpreter::Interpreted;
 use std::alloc::Global;
+
+const SEED: u64 = 42;
 
 // How many transitions a controller may fire in a cycle.
 const LIMIT: u64 = 32;
@@ -119,38 +118,6 @@ fn is_issued(store: &mut Store, routes: &Routes, now: u64) -> bool
     }
 }
 
-// A scan, which leaves the draft in the same scan where a transition has fired.
-fn round(
-    alloc: Global,
-    protocol: &Interpreted,
-    machine: u16,
-    draft: &mut Draft<'_>,
-) -> Result<RoundEnd, NoMemory>
-    ensures { IfOk result (λ end. StaysIfFired end (view_of draft.new) (view_of draft.old)) }
-{
-    protocol.round(alloc, machine, draft, 0, LIMIT)
-}
-
-// What a scan has done, if a transition fired.
-fn outcome_of(
-    alloc: Global,
-    protocol: &Interpreted,
-    machine: u16,
-    store: &Store,
-    routes: &Routes,
-    now: u64,
-) -> Result<Option<Outcome>, NoMemory>
-    requires goes { GoesOn store.now routes.now now }
-    requires cycle { now ≤ last_cycle }
-    ensures { IfOk result (λ o. IfSome o (IsDone store.now now)) }
-{
-    let mut draft = Draft::on(alloc, store, routes, 42, now);
-    match round(alloc, protocol, machine, &mut draft)? {
-        RoundEnd::Fired(note) => Ok(Some(draft.seal(note))),
-        RoundEnd::Idle | RoundEnd::Full | RoundEnd::Stop(_) => Ok(None),
-    }
-}
-
 // A cycle, with a message that comes and a scan. Whether a transition has fired.
 fn cycle(
     alloc: Global,
@@ -174,15 +141,26 @@ fn cycle(
         return Ok(false);
     }
     begin(store, routes, now);
-    let Some(outcome) = outcome_of(alloc, protocol, scanned.machine(), store, routes, now)? else {
+    let ScanEnd::Fired(outcome) = scan(
+        alloc,
+        protocol,
+        scanned.machine(),
+        store,
+        routes,
+        SEED,
+        now,
+        0,
+        LIMIT,
+    )?
+    else {
         return Ok(false);
     };
-    apply(store, routes, now, outcome)?;
+    let _posted = apply(store, routes, now, outcome)?;
     Ok(true)
 }
 
 /// Makes so many scans, and answers how many of them it made until one was idle or stopped.
-#[tactic(auto, using(crate::proofs::Going::opened))]
+#[tactic(auto, using(sample_stores::proofs::Going::opened))]
 pub(crate) fn run(
     alloc: Global,
     protocol: &Interpreted,

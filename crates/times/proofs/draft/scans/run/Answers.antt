@@ -1,4 +1,4 @@
-use Rattle.times.proofs.Going.{opened}
+use Rattle.sample_stores.proofs.Going.{opened}
 use Rattle.times.proofs.draft.scans.run.Goals as goal
 
 pub loop-cycle-init : goal.loop-cycle-init

@@ -1,4 +1,4 @@
-use Rattle.times.proofs.Going.{opened}
+use Rattle.sample_stores.proofs.Going.{opened}
 use Rattle.times.proofs.scan.scans.run.Goals as goal
 
 pub loop-done-init : goal.loop-done-init

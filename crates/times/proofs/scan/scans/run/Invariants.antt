@@ -1,4 +1,4 @@
-use Rattle.times.specs.Going.{GoesOn}
+use Rattle.sample_stores.specs.Going.{GoesOn}
 use Rattle.times.proofs.scan.scans.run.Given as goal
 
 abbrev pub invariant-loop-done : goal.invariant-loop-done

@@ -1,0 +1,22 @@
+-- Lines that are put in several parts, one after the other.
+use Rattle.std.proofs.Common.{◌≡◌, ℕ, Bool, true, false, List, [], ◌++◌, refl, subst, sym}
+use Rattle.ruby_outside.specs.declared.sink.Wrote.{Wrote}
+use Rattle.trace_print.specs.Pieces.{AreLinesPut, all_put}
+use Rattle.trace_print.proofs.Listing.{lines_on, lines_stopped}
+
+module _ {S : Type 0} (writes : S → List ℕ → Wrote → S → Type 0) where
+  same_lines : (before after : S) (whole : Bool) (a b : List (List ℕ)) → a ≡ b → AreLinesPut writes before a whole after → AreLinesPut writes before b whole after
+  same_lines before after whole a b is put = let P : List (List ℕ) → Type 0 = λ lines. AreLinesPut writes before lines whole after in subst P is put
+
+  pub part_on : (before middle after : S) (all part rest : List (List ℕ)) (whole : Bool)
+      → all ≡ part ++ rest → AreLinesPut writes before part true middle → AreLinesPut writes middle rest whole after → AreLinesPut writes before all whole after
+  part_on before middle after all part rest whole is put more =
+      same_lines before after whole (part ++ rest) all (sym is) (lines_on writes before part true middle put rest whole after refl more)
+
+  pub part_cut : (before after : S) (all part rest : List (List ℕ))
+      → all ≡ part ++ rest → AreLinesPut writes before part false after → AreLinesPut writes before all false after
+  part_cut before after all part rest is put =
+      same_lines before after false (part ++ rest) all (sym is) (lines_stopped writes before part false after put rest refl)
+
+  pub no_part : (before : S) (all : List (List ℕ)) → all ≡ [] → AreLinesPut writes before all true before
+  no_part before all is = same_lines before before true [] all (sym is) (all_put before)

@@ -1,0 +1,11 @@
+use Rattle.std.proofs.Common.{◌≡◌, [], map, slice_get, ap, ◌∙◌}
+use Rattle.slicc_plan.specs.TwoTransitions.{shared_pairs}
+use Rattle.slicc_types.proofs.SharedPairs.{none_shared}
+use Rattle.machine_table.specs.TablesOf.{rows_of_found}
+use Rattle.ruby_answers.proofs.tables.table_rows.Goals as goal
+
+pub rows_in-requires : goal.rows_in-requires
+rows_in-requires c =
+    let none : shared_pairs c.trees-trees.result.now ≡ [] =
+    ap shared_pairs c.trees-trees.ensures.trees ∙ none_shared c.args.plan.now c.trees-trees.ensures.accepted.of_machines in
+    λ n s e. ap (λ ms. rows_of_found (slice_get ms n) s e) c.in_ok-machines.ensures ∙ c.in_ok-tabled.ensures.tables none n s e

@@ -1,0 +1,103 @@
+//! The lines of runs.
+ghost use Rattle.std.specs.Prelude.{◌≡◌, count_by, flat_map, slice_get};
+ghost use Rattle.ruby_answers.specs.Text.{final_word, generated_line, is_fired, run_lines, traced_lines};
+ghost use Rattle.slicc_plan.specs.SymbolsOf.{symbols_of};
+ghost use Rattle.trace_print.specs.Entries.{entry_lines};
+ghost use Rattle.trace_print.specs.Pieces.{AreLinesPut, IsLinePut};
+
+use ruby_base::{Seq, Text};
+use ruby_outside::Sink;
+use ruby_world::RunRecord;
+use run_journal::Entry;
+use slicc_plan::{Plan, counts};
+use trace_print::{
+    RunText, Word, controller_machine, state_word, write_entry, write_rest, write_verdict,
+};
+
+fn write_journal<S: Sink>(sink: &mut S, plan: &Plan, names: &Seq<Text>, journal: &[Entry]) -> bool
+    ensures { AreLinesPut S.writes sink.old (flat_map (entry_lines (symbols_of plan.now) names.now) journal.now) result sink.new }
+{
+    for entry in journal {
+        if !write_entry(sink, plan, names, entry) {
+            return false;
+        }
+    }
+    true
+}
+
+fn write_traced<S: Sink>(sink: &mut S, run: &RunRecord) -> bool
+    ensures { AreLinesPut S.writes sink.old (traced_lines run.now) result sink.new }
+{
+    if !run.options.trace {
+        return true;
+    }
+    let names = &run.topology.names;
+    write_journal(sink, &run.plan, names, run.journal.as_slice())
+}
+
+/// Writes the lines of a run, up to the first that isn't written whole, and answers whether all were.
+pub(crate) fn write_run<S: Sink>(sink: &mut S, run: &RunRecord) -> bool
+    ensures { AreLinesPut S.writes sink.old (run_lines run.now) result sink.new }
+{
+    if !write_traced(sink, run) {
+        return false;
+    }
+    write_rest(
+        sink,
+        &RunText {
+            plan: &run.plan,
+            names: &run.topology.names,
+            finals: &run.finals,
+            account: &run.account,
+            verdict: &run.verdict,
+        },
+    )
+}
+
+fn is_fired(entry: &Entry) -> bool
+    ensures { result ≡ is_fired entry.now }
+{
+    matches!(entry, Entry::Fired { .. })
+}
+
+fn fired(journal: &[Entry]) -> u64
+    ensures { result ≡ count_by is_fired journal.now }
+{
+    journal.iter().filter(|entry| is_fired(entry)).count() as u64
+}
+
+// The name of the first final state.
+fn final_word(run: &RunRecord) -> &[u8]
+    ensures { result.now ≡ final_word (symbols_of run.now.plan) run.now.topology.names (slice_get run.now.finals 0) }
+{
+    let symbols = run.plan.symbols();
+    match run.finals.get(0) {
+        None => b"-",
+        Some(f) => {
+            let m = controller_machine(symbols, &run.topology.names, f.controller);
+            state_word(symbols, m, f.state)
+        }
+    }
+}
+
+/// Writes the line of a generated protocol's run, and answers whether it was written whole.
+pub(crate) fn write_generated<S: Sink>(sink: &mut S, run: &RunRecord) -> bool
+    ensures { IsLinePut S.writes sink.old (generated_line run.now) result sink.new }
+{
+    let counts = counts(&run.plan);
+    write_verdict(
+        sink,
+        b"gen",
+        &[
+            Word::Number(run.options.count),
+            Word::Bytes(b"states"),
+            Word::Number(counts.states),
+            Word::Bytes(b"fired"),
+            Word::Number(fired(run.journal.as_slice())),
+            Word::Bytes(b"final"),
+            Word::Bytes(final_word(run)),
+        ],
+        &run.topology.names,
+        &run.verdict,
+    )
+}

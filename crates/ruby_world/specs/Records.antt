@@ -1,0 +1,37 @@
+-- What a record says of a run by a driver: its history is a run of the protocol that it has, over its topology, with the bounds of
+-- its options, from this driver as the run began; the run has ended; and all else in the record is that run's. It has one tally for
+-- each worker, and one thread is worker 0 alone.
+use Rattle.std.specs.Prelude.{◌≡◌, ℕ, Some, List, [], ◌∷◌}
+use Rattle.ruby_value.specs.declared.message.Message.{Message}
+use Rattle.run_journal.specs.AreFinals.{AreFinals}
+use Rattle.run_journal.specs.Tally.{tally}
+use Rattle.ruby_runs.specs.Account.{account}
+use Rattle.ruby_runs.specs.Rules.{Rules}
+use Rattle.ruby_runs.specs.Run.{HasEnded, IsRun}
+use Rattle.ruby_runs.specs.World.{World}
+use Rattle.ctl_face.specs.Ctl.{Ctl}
+use Rattle.protocol_meaning.specs.Meaning.{meaning_of}
+use Rattle.protocol_meaning.specs.Setting.{setting_of}
+use Rattle.protocol_runs.specs.Rules.{rules}
+use Rattle.protocol_runs.specs.Setting.{Setting}
+use Rattle.ruby_world.specs.declared.record.RunRecord.{RunRecord}
+use Rattle.sequencer.specs.Drive.{Drive}
+use Rattle.sequencer.specs.Seats.{Seat}
+
+module _ {D : Type 0} (drive : D → List Seat → ℕ → Drive D) (driver : D) (r : RunRecord) where
+  abbrev pub setting_in : Setting D
+  setting_in = setting_of r.plan r.topology r.options.seed r.options.cycles r.options.limit driver
+
+  abbrev pub rules_in : Rules Ctl Message D
+  rules_in = rules (meaning_of r.plan) drive setting_in
+
+  pub record IsRecordOf (w : World Ctl D) : Type 0 where
+    pub run : IsRun rules_in r.history w r.journal
+    pub finals : AreFinals r.journal r.finals
+    pub account : r.account ≡ account rules_in r.journal w.places
+    pub verdict : w.verdict ≡ Some r.verdict
+    pub tallies : r.tallies ≡ tally 0 r.history ∷ []
+
+  -- the record is one whole run by this driver
+  abbrev pub IsWholeRunBy : Type 0
+  IsWholeRunBy = (w : World Ctl D) × IsRecordOf w × HasEnded w

@@ -1,0 +1,9 @@
+pub mod Acting
+pub mod Asking
+pub mod Back
+pub mod Counts
+pub mod Driven
+pub mod Few
+pub mod Over
+pub mod Received
+pub mod Stepped

@@ -1,0 +1,4 @@
+pub mod Driving
+pub mod Requests
+pub mod Turned
+pub mod Turning
