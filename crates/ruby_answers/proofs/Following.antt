@@ -1,11 +1,11 @@
 -- Lines that are put in several parts, one after the other.
-use Rattle.std.proofs.Common.{◌≡◌, ℕ, Bool, true, false, List, [], ◌++◌, refl, subst, sym}
+use Rattle.std.proofs.Common.{◌≡◌, ℕ, Bool, true, false, List, [], ◌++◌, if◌then◌else◌, refl, subst, sym, true≢false}
 use Rattle.ruby_outside.specs.declared.sink.Wrote.{Wrote}
 use Rattle.trace_print.specs.Pieces.{AreLinesPut, all_put}
 use Rattle.trace_print.proofs.Listing.{lines_on, lines_stopped}
 
 module _ {S : Type 0} (writes : S → List ℕ → Wrote → S → Type 0) where
-  same_lines : (before after : S) (whole : Bool) (a b : List (List ℕ)) → a ≡ b → AreLinesPut writes before a whole after → AreLinesPut writes before b whole after
+  pub same_lines : (before after : S) (whole : Bool) (a b : List (List ℕ)) → a ≡ b → AreLinesPut writes before a whole after → AreLinesPut writes before b whole after
   same_lines before after whole a b is put = let P : List (List ℕ) → Type 0 = λ lines. AreLinesPut writes before lines whole after in subst P is put
 
   pub part_on : (before middle after : S) (all part rest : List (List ℕ)) (whole : Bool)
@@ -20,3 +20,12 @@ module _ {S : Type 0} (writes : S → List ℕ → Wrote → S → Type 0) where
 
   pub no_part : (before : S) (all : List (List ℕ)) → all ≡ [] → AreLinesPut writes before all true before
   no_part before all is = same_lines before before true [] all (sym is) (all_put before)
+
+-- the lines of a journal that isn't traced, and of one that is
+pub untraced : (trace : Bool) (lines : List (List ℕ)) → trace ≡ false → (if trace then lines else []) ≡ []
+untraced true lines e = absurd (true≢false e)
+untraced false lines e = refl
+
+pub traced : (trace : Bool) (lines : List (List ℕ)) → trace ≡ true → lines ≡ (if trace then lines else [])
+traced true lines e = refl
+traced false lines e = absurd (true≢false (sym e))

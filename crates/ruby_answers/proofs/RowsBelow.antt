@@ -1,5 +1,5 @@
 -- Lists that are made for each of the numbers below one, and what tables answer for a machine.
-use Rattle.std.proofs.Common.{◌≡◌, ℕ, ◌+◌, ◌<◌, List, [], ◌∷◌, ◌++◌, flat_map, length, map, refl, slice_index_or, take, add-one, ap, sym, ◌∙◌}
+use Rattle.std.proofs.Common.{◌≡◌, ℕ, zero, suc, ◌+◌, ◌<◌, List, [], ◌∷◌, ◌++◌, flat_map, length, map, refl, slice_get, slice_index_or, take, add-one, ap, sym, ◌∙◌, arith}
 use Rattle.std.proofs.Math.Seq.{take-suc}
 use Rattle.std.proofs.lemmas.List.{flat_map_more, map-append}
 use Rattle.slicc_ast.specs.declared.tree.machine.Machine.{Machine}
@@ -8,6 +8,7 @@ use Rattle.slicc_plan.specs.Counts.{numbers_below}
 use Rattle.slicc_plan.specs.Limits.{event_members, state_members}
 use Rattle.slicc_plan.specs.Machines.{rows}
 use Rattle.machine_table.specs.declared.table.Tables.{Tables}
+use Rattle.machine_table.specs.TablesOf.{rows_of_found}
 use Rattle.ruby_answers.specs.Tables.{answered, answered_in_state, machine_rows}
 
 -- one more number
@@ -22,7 +23,19 @@ pub answered_rows : (tables : Tables) (number states events : ℕ) (m : Machine)
 answered_rows tables number states events m s e h =
     ap (λ n. flat_map (answered_in_state tables number events) (numbers_below n)) s
     ∙ ap (λ n. flat_map (answered_in_state tables number n) (numbers_below (length (state_members m)))) e
-    ∙ (λ i. flat_map (λ state. flat_map (λ event. h state event (~ i)) (numbers_below (length (event_members m)))) (numbers_below (length (state_members m))))
+    ∙ (λ i. flat_map (λ state. flat_map (λ event. written state event i) (numbers_below (length (event_members m)))) (numbers_below (length (state_members m))))
+  where
+    written : (state event : ℕ) → answered tables number state event ≡ rows m state event
+    written state event = sym (h state event)
+
+-- a machine of a list is found by its number
+pub machine_found : {T : Type 0} (f : T → Machine) (ms : List T) (k : ℕ) (m : T) (s e : ℕ) → k < length ms → m ≡ slice_index_or ms k m → rows (f m) s e ≡ rows_of_found (slice_get (map f ms) k) s e
+machine_found f [] k m s e below is = absurd (none_below k below)
+  where
+    none_below : (k : ℕ) → k < 0 → ⊥
+    none_below k h = omega arith
+machine_found f (l ∷ ms) zero m s e below is = ap (λ x. rows (f x) s e) is
+machine_found f (l ∷ ms) (suc k) m s e below is = machine_found f ms k m s e (omega arith) is
 
 -- the rows of one more machine
 pub machine_step : {T : Type 0} (f : T → Machine) (ms : List T) (k : ℕ) (m : T) (before after : List (List Row)) (found : List Row)

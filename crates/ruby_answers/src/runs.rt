@@ -1,5 +1,5 @@
 //! The lines of runs.
-ghost use Rattle.std.specs.Prelude.{◌≡◌, count_by, flat_map, slice_get};
+ghost use Rattle.std.specs.Prelude.{◌≡◌, ◌≤◌, cond, count_by, flat_map, slice_get};
 ghost use Rattle.ruby_answers.specs.Text.{final_word, generated_line, is_fired, run_lines, traced_lines};
 ghost use Rattle.slicc_plan.specs.SymbolsOf.{symbols_of};
 ghost use Rattle.trace_print.specs.Entries.{entry_lines};
@@ -54,16 +54,26 @@ pub(crate) fn write_run<S: Sink>(sink: &mut S, run: &RunRecord) -> bool
     )
 }
 
-fn is_fired(entry: &Entry) -> bool
-    ensures { result ≡ is_fired entry.now }
+// What an entry adds to how many transitions fired.
+fn counted(entry: &Entry) -> u64
+    ensures value { result ≡ cond (is_fired entry.now) 1 0 }
+    ensures bound { result ≤ 1 }
 {
-    matches!(entry, Entry::Fired { .. })
+    match entry {
+        Entry::Fired { .. } => 1,
+        Entry::Ended { .. } => 0,
+        Entry::Turned { .. } => 0,
+    }
 }
 
 fn fired(journal: &[Entry]) -> u64
     ensures { result ≡ count_by is_fired journal.now }
 {
-    journal.iter().filter(|entry| is_fired(entry)).count() as u64
+    let mut count = 0;
+    for entry in journal {
+        count += counted(entry);
+    }
+    count
 }
 
 // The name of the first final state.

@@ -78,7 +78,8 @@ fn rows_of(alloc: Global, tables: &Tables, number: u16, m: &Machine) -> Result<S
     if states > 65536 || events > 65536 {
         return Err(NoMemory);
     }
-    answered_rows(alloc, tables, number, states, events)
+    let rows = answered_rows(alloc, tables, number, states, events)?;
+    Ok(rows)
 }
 
 fn rows_in(alloc: Global, machines: &[&Machine], tables: &Tables) -> Result<Seq<Seq<Row>>, NoMemory>
@@ -101,7 +102,8 @@ pub fn table_rows(alloc: Global, plan: &Plan) -> Result<Seq<Seq<Row>>, NoMemory>
     let trees = plan.trees();
     let tabled = tabulate(alloc, None, trees)?;
     let machines = machines(alloc, trees)?;
-    rows_in(alloc, machines.as_slice(), &tabled.1)
+    let rows = rows_in(alloc, machines.as_slice(), &tabled.1)?;
+    Ok(rows)
 }
 
 /// Writes the lines of tables, machine by machine, up to the first that isn't written whole, and answers whether all were.

@@ -1,4 +1,4 @@
-use Rattle.std.proofs.Common.{◌<◌, All, IsSome, List, arith, length, subst, sym}
+use Rattle.std.proofs.Common.{◌<◌, All, IsSome, List, arith, false, length, subst, sym}
 use Rattle.std.proofs.lemmas.List.Elements.{All-get_or}
 use Rattle.protocol_runs.specs.Machines.{machine_of}
 use Rattle.ruby_topology.specs.declared.topology.Seat.{Seat}
