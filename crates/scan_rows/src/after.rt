@@ -4,7 +4,7 @@ ghost use Rattle.ctl_face.specs.Fits.{last_cycle};
 ghost use Rattle.ctl_store.specs.Kept.{ctl_of};
 ghost use Rattle.sample_stores.specs.Going.{GoesOn, IsEndOf};
 
-use crate::left::{copy_left, left, request_left};
+use crate::left::{all_left, copy_left, request_left};
 use crate::shown::{ShownLeft, ShownThing};
 use ctl_face::{MachineSetup, Message, NoMemory, Routes, Seq};
 use ctl_store::{Draft, Store};
@@ -49,7 +49,7 @@ fn write_controller(
     requires cycle { now ≤ last_cycle }
 {
     let draft = Draft::on(alloc, store, routes, 0, now);
-    match left(alloc, store, &draft, now) {
+    match all_left(alloc, store, &draft, now) {
         Ok(left) => {
             print!(rt; "{}", ShownLeft(&left))?;
             Ok(true)

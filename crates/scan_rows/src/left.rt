@@ -131,7 +131,7 @@ fn lines<L: Local>(alloc: Global, local: &L) -> Result<Vec<Thing>, NoMemory> {
 }
 
 /// What is left of a controller, by its store and a local of it, from a cycle on.
-pub(crate) fn left<L: Local>(
+pub(crate) fn all_left<L: Local>(
     alloc: Global,
     store: &Store,
     local: &L,
