@@ -1,9 +1,9 @@
 use Rattle.std.proofs.Common.{◌≡◌, [], map, slice_get, ap, ◌∙◌}
 use Rattle.slicc_plan.specs.Declarations.{machines_of}
 use Rattle.slicc_plan.specs.TwoTransitions.{shared_pairs}
-use Rattle.slicc_types.proofs.SharedPairs.{none_shared}
 use Rattle.machine_table.specs.TablesOf.{rows_of_found}
 use Rattle.ruby_answers.specs.Tables.{machine_rows}
+use Rattle.ruby_answers.proofs.NoPairShared.{none_shared}
 use Rattle.ruby_answers.proofs.tables.table_rows.Goals as goal
 
 pub rows_in-requires : goal.rows_in-requires
