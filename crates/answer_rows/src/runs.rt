@@ -6,8 +6,8 @@ use ruby_base::{NoMemory, Seq, Text};
 use ruby_options::{Command, Options};
 use ruby_outside::Sink;
 use ruby_topology::{Topology, plain};
-use ruby_world::RunRecord;
 use run_journal::{Account, End, Entry, Final, FireNote, Verdict};
+use run_record::RunRecord;
 use slicc_plan::Plan;
 use std::alloc::Global;
 

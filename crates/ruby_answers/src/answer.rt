@@ -3,8 +3,8 @@ ghost use Rattle.std.specs.Prelude.{◌≡◌};
 ghost use Rattle.ruby_answers.specs.Answer.{status_of, verdict_status as verdict_status_of};
 
 use ruby_base::{Seq, Text};
-use ruby_world::RunRecord;
 use run_journal::Verdict;
+use run_record::RunRecord;
 use slicc_front::Refused;
 use slicc_plan::{Counts, Plan, Row};
 

@@ -7,8 +7,8 @@ ghost use Rattle.trace_print.specs.Pieces.{AreLinesPut, IsLinePut};
 
 use ruby_base::{Seq, Text};
 use ruby_outside::Sink;
-use ruby_world::RunRecord;
 use run_journal::Entry;
+use run_record::RunRecord;
 use slicc_plan::{Plan, counts};
 use trace_print::{
     RunText, Word, controller_machine, state_word, write_entry, write_rest, write_verdict,

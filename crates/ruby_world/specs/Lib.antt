@@ -3,3 +3,6 @@ pub mod Worlds
 pub mod Held
 pub mod Data
 pub mod Opening
+pub mod Adds
+pub mod Waking
+pub mod Scanned

@@ -14,7 +14,7 @@ use Rattle.protocol_meaning.specs.Meaning.{meaning_of}
 use Rattle.protocol_meaning.specs.Setting.{setting_of}
 use Rattle.protocol_runs.specs.Rules.{rules}
 use Rattle.protocol_runs.specs.Setting.{Setting}
-use Rattle.ruby_world.specs.declared.record.RunRecord.{RunRecord}
+use Rattle.run_record.specs.declared.record.RunRecord.{RunRecord}
 use Rattle.sequencer.specs.Drive.{Drive}
 use Rattle.sequencer.specs.Seats.{Seat}
 

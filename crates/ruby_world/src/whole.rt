@@ -1,0 +1,75 @@
+//! A whole run by one worker, from its opening to its record.
+ghost use Rattle.std.specs.Prelude.{◌≡◌, ◌≤◌, IfOk, length};
+ghost use Rattle.ctl_face.specs.Fits.{last_cycle};
+ghost use Rattle.ruby_runs.specs.Alone.{IsAlone};
+ghost use Rattle.ruby_runs.specs.Run.{HasEnded};
+ghost use Rattle.ruby_world.specs.Records.{IsWholeRunBy, rules_in as rules_of};
+ghost use Rattle.ruby_world.specs.Worlds.{InWorld, rules_in};
+ghost use Rattle.topology_fit.specs.FitsPlan.{FitsPlan};
+
+use crate::laws::runs_from_the_opening_are_alone;
+use crate::record::RunLimits;
+use crate::world::World;
+use protocol_meaning::Protocol;
+use ruby_base::Seq;
+use ruby_options::Options;
+use ruby_topology::Topology;
+use ruby_value::NoMemory;
+use run_record::RunRecord;
+use sequencer::Driver;
+use slicc_plan::Plan;
+use std::alloc::Global;
+
+// The record of a run that one worker has brought to its end.
+fn record_of<D: Driver>(
+    alloc: Global,
+    ended: World<D>,
+    options: Options,
+) -> Result<RunRecord, NoMemory>
+    requires ended { InWorld D.drive ended HasEnded }
+    requires seed { options.seed ≡ ended.limits.seed }
+    requires cycles { options.cycles ≡ ended.limits.cycles }
+    requires limit { options.limit ≡ ended.limits.limit }
+    ensures plan { IfOk result (λ r. r.plan ≡ ended.trees) }
+    ensures topology { IfOk result (λ r. r.topology ≡ ended.topology) }
+    ensures options { IfOk result (λ r. r.options ≡ options) }
+    ensures whole { IfOk result (IsWholeRunBy D.drive ended.opening) }
+    ensures alone { IfOk result (λ r. IsAlone (rules_in D.drive ended) ended.history
+        → IsAlone (rules_of D.drive ended.opening r) r.history) }
+{
+    let mut tallies = Seq::new(alloc);
+    tallies.push(ended.tally(0))?;
+    ended.into_record(alloc, options, tallies)
+}
+
+/// A whole run, by one worker, of a protocol over a topology that fits it, with the bounds of these options, by a driver that is as its
+/// constructor made it and finds the seats that it needs.
+pub fn run_whole<P: Protocol, D: Driver>(
+    alloc: Global,
+    protocol: &P,
+    plan: Plan,
+    topology: Topology,
+    options: Options,
+    driver: D,
+) -> Result<RunRecord, NoMemory>
+    requires serves { P.serves protocol.now plan }
+    requires fits { FitsPlan plan topology }
+    requires cycles { options.cycles ≤ last_cycle }
+    requires opening { D.opening driver ≡ driver }
+    requires seats { D.least driver ≤ length topology.seats }
+    ensures plan { IfOk result (λ r. r.plan ≡ plan) }
+    ensures topology { IfOk result (λ r. r.topology ≡ topology) }
+    ensures options { IfOk result (λ r. r.options ≡ options) }
+    ensures whole { IfOk result (IsWholeRunBy D.drive driver) }
+    ensures alone { IfOk result (λ r. IsAlone (rules_of D.drive driver r) r.history) }
+{
+    let limits = RunLimits {
+        seed: options.seed,
+        cycles: options.cycles,
+        limit: options.limit,
+    };
+    let opened = World::new(alloc, plan, topology, limits, driver)?;
+    let ended = opened.run_alone(alloc, protocol)?;
+    runs_from_the_opening_are_alone::<D>();
+    record_of(alloc, ended, options)
+}
