@@ -34,17 +34,20 @@ value_found v = found own.Reference v >>= (λ x. ends (thing.Value x))
 unfoldable pub thing_built : Reading → ℕ → ℕ → List Value → Acting Thing
 thing_built s number on arguments = built_in s.setting number on arguments >>= (λ v. ends (thing_of v))
 
+-- A value as a member of an enumeration, by its number. What is none of its members counts as the first one, which is this project's
+-- own rule: by their types, the bodies of an accepted protocol give members.
+
+abbrev pub member_among : ℕ → Option EnumerationSymbol → ℕ
+member_among k None = 0
+member_among k (Some e) = if nat_lt k (length e.members) then k else 0
+
+abbrev pub as_member : Reading → (enumeration : ℕ) → Value → ℕ
+as_member s enumeration (value.Enum number k) =
+    if number == enumeration then member_among k (slice_get s.symbols.enumerations number) else 0
+as_member s enumeration _ = 0
+
 -- `trigger(event, address [, entry] [, TBE])`, where the references are there exactly where the machine has such lines. The address
--- is brought down to its line, and an event that is no member counts as the first one: both are this project's own rules.
-
-abbrev pub event_among : ℕ → Option EnumerationSymbol → ℕ
-event_among k None = 0
-event_among k (Some e) = if nat_lt k (length e.members) then k else 0
-
-abbrev pub event_of : Reading → Value → ℕ
-event_of s (value.Enum number k) =
-    if number == s.machine.events then event_among k (slice_get s.symbols.enumerations number) else 0
-event_of s _ = 0
+-- is brought down to its line, which is this project's own rule.
 
 abbrev pub reference_at : Bool → List Value → ℕ → Option Ref
 reference_at is_there arguments i = if is_there then reference (argument arguments i) else None
@@ -52,7 +55,7 @@ reference_at is_there arguments i = if is_there then reference (argument argumen
 abbrev pub trigger_of : Reading → List Value → Trigger
 trigger_of s arguments =
     record {
-      event = event_of s (argument arguments 0);
+      event = as_member s s.machine.events (argument arguments 0);
       address = address_of_line (line_named (argument arguments 1));
       entry = reference_at (is_some s.machine.entry) arguments 2;
       tbe = reference_at (is_some s.machine.tbe) arguments (if is_some s.machine.entry then 3 else 2);

@@ -2,7 +2,7 @@
 ghost use Rattle.std.specs.Prelude.{◌≡◌, IfOk, find, slice_get, unwrap_or};
 ghost use Rattle.ruby_value.specs.declared.value.Value.TheVariants as value;
 ghost use Rattle.std.specs.Option.{option_copied, option_map};
-ghost use Rattle.body_meaning.specs.Calls.{called_on as called_on_of, event_among as event_among_of, event_of as event_of_value, indexed_on as indexed_on_of, is_permission_call as is_permission_call_of, numbered as numbered_of, on_table as on_table_of, permission_of as permission_of_state, reference_at as reference_at_of, trigger_of as trigger_of_arguments, value_call as value_call_of, with_receiver as with_receiver_of};
+ghost use Rattle.body_meaning.specs.Calls.{as_member as as_member_is, called_on as called_on_of, indexed_on as indexed_on_of, is_permission_call as is_permission_call_of, member_among as member_among_of, numbered as numbered_of, on_table as on_table_of, permission_of as permission_of_state, reference_at as reference_at_of, trigger_of as trigger_of_arguments, value_call as value_call_of, with_receiver as with_receiver_of};
 ghost use Rattle.body_meaning.specs.Things.{thing_of as thing_of_answer, value_in as value_in_thing};
 ghost use Rattle.built_in_acts.specs.Values.{address_of_line as address_of_line_is, argument as argument_of, line_named as line_named_of};
 ghost use Rattle.body_meaning.specs.Reading.{reading};
@@ -113,8 +113,8 @@ pub fn with_receiver(receiver: Thing, mut arguments: Seq<Value>) -> Result<Seq<V
     Ok(arguments)
 }
 
-fn event_among(k: u16, e: Option<&EnumerationSymbol>) -> u16
-    ensures { result ≡ event_among_of k (option_copied e.entry) }
+fn member_among(k: u16, e: Option<&EnumerationSymbol>) -> u16
+    ensures { result ≡ member_among_of k (option_copied e.entry) }
 {
     match e {
         Some(e) if usize::from(k) < e.members.len() => k,
@@ -122,13 +122,14 @@ fn event_among(k: u16, e: Option<&EnumerationSymbol>) -> u16
     }
 }
 
-fn event_of(s: Scope<'_>, v: &Value) -> u16
-    ensures { result ≡ event_of_value (reading s.entry) v.now }
+/// The number of the member of an enumeration that a value is, and 0 if it is none.
+pub fn as_member(s: Scope<'_>, enumeration: u16, v: &Value) -> u16
+    ensures { result ≡ as_member_is (reading s.entry) enumeration v.now }
 {
     match v {
         Value::Enum(number, k) => {
-            if *number == s.machine.events {
-                event_among(*k, s.symbols.enumerations.get(usize::from(*number)))
+            if *number == enumeration {
+                member_among(*k, s.symbols.enumerations.get(usize::from(*number)))
             } else {
                 0
             }
@@ -138,10 +139,10 @@ fn event_of(s: Scope<'_>, v: &Value) -> u16
 }
 
 fn event_at(s: Scope<'_>, arguments: &[Value]) -> u16
-    ensures { result ≡ event_of_value (reading s.entry) (argument_of arguments.now 0) }
+    ensures { result ≡ as_member_is (reading s.entry) s.machine.now.events (argument_of arguments.now 0) }
 {
     match arguments.get(0) {
-        Some(v) => event_of(s, v),
+        Some(v) => as_member(s, s.machine.events, v),
         None => 0,
     }
 }

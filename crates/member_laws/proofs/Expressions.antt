@@ -39,7 +39,7 @@ use Rattle.body_meaning.specs.declared.frame.Frame.{Frame}
 use Rattle.body_meaning.specs.declared.thing.Thing.{Thing}
 use Rattle.body_meaning.specs.declared.thing.Thing.TheVariants as thing
 use Rattle.body_meaning.specs.CallNumbers.{cache_call, callback, directory_call, entry_call, index_call, plain_call, port_call, read_callback, sequencer_call, set_call, table_call, tbe_call, write_callback}
-use Rattle.body_meaning.specs.Calls.{Calls, called_on, event_among, event_of, free_call, function_or, index, indexed_on, is_permission_call, method_call, named_call, numbered, on_table, permission_call, permission_of, plain_or, thing_built, trigger_of, value_call, value_found, with_receiver}
+use Rattle.body_meaning.specs.Calls.{Calls, as_member, called_on, free_call, function_or, index, indexed_on, is_permission_call, member_among, method_call, named_call, numbered, on_table, permission_call, permission_of, plain_or, thing_built, trigger_of, value_call, value_found, with_receiver}
 use Rattle.body_meaning.specs.Each.{each}
 use Rattle.body_meaning.specs.Expressions.{field_at, field_in, field_through, negation_of, operands, operated, suffixed, suffixed_all, thing_in, value, value_behind, value_step, values, values_of, variable, variable_or, with_value}
 use Rattle.body_meaning.specs.Frames.{is_named, thing_about, thing_bound}
@@ -398,26 +398,26 @@ module _ (s : Reading) (controllers : ℕ) (kept : List Value) (is : ReadingWith
   built_stays n on arguments below within =
       then_stays B (built_in_stays B s.setting is.setting n on arguments below within) (λ o here. ends_stays B (thing_of_within o here))
 
-  event_among_within : (k : ℕ) (o : Option EnumerationSymbol) → slice_get s.symbols.enumerations s.machine.events ≡ o → IsMember E s.machine.events (event_among k o)
-  event_among_within k None there = zero_member E s.machine.events
-  event_among_within k (Some e) there =
-      cond_both (nat_lt k (length e.members)) k 0 (IsMember E s.machine.events)
-      (λ test. is_member E s.machine.events k e there (ltb-true k (length e.members) test)) (λ _. zero_member E s.machine.events)
+  among_within : (enumeration k : ℕ) (o : Option EnumerationSymbol) → slice_get s.symbols.enumerations enumeration ≡ o → IsMember E enumeration (member_among k o)
+  among_within enumeration k None there = zero_member E enumeration
+  among_within enumeration k (Some e) there =
+      cond_both (nat_lt k (length e.members)) k 0 (IsMember E enumeration)
+      (λ test. is_member E enumeration k e there (ltb-true k (length e.members) test)) (λ _. zero_member E enumeration)
 
-  event_within : (v : Value) → IsMember E s.machine.events (event_of s v)
-  event_within (plain.Enum number k) =
-      cond_both (number == s.machine.events) (event_among k (slice_get s.symbols.enumerations number)) 0 (IsMember E s.machine.events)
-      (λ test. let same : number ≡ s.machine.events = eqb-true number s.machine.events test in
-      subst (λ (n : ℕ). IsMember E s.machine.events (event_among k (slice_get s.symbols.enumerations n))) (sym same) (event_among_within k (slice_get s.symbols.enumerations s.machine.events) refl))
-      (λ _. zero_member E s.machine.events)
-  event_within (plain.Bool x) = zero_member E s.machine.events
-  event_within (plain.Int x) = zero_member E s.machine.events
-  event_within (plain.Addr x) = zero_member E s.machine.events
-  event_within (plain.Machine x) = zero_member E s.machine.events
-  event_within (plain.Dest x) = zero_member E s.machine.events
-  event_within (plain.Block x) = zero_member E s.machine.events
-  event_within (plain.Entry x) = zero_member E s.machine.events
-  event_within (plain.Tbe x) = zero_member E s.machine.events
+  pub member_within : (enumeration : ℕ) (v : Value) → IsMember E enumeration (as_member s enumeration v)
+  member_within enumeration (plain.Enum number k) =
+      cond_both (number == enumeration) (member_among k (slice_get s.symbols.enumerations number)) 0 (IsMember E enumeration)
+      (λ test. let same : number ≡ enumeration = eqb-true number enumeration test in
+      subst (λ (n : ℕ). IsMember E enumeration (member_among k (slice_get s.symbols.enumerations n))) (sym same) (among_within enumeration k (slice_get s.symbols.enumerations enumeration) refl))
+      (λ _. zero_member E enumeration)
+  member_within enumeration (plain.Bool x) = zero_member E enumeration
+  member_within enumeration (plain.Int x) = zero_member E enumeration
+  member_within enumeration (plain.Addr x) = zero_member E enumeration
+  member_within enumeration (plain.Machine x) = zero_member E enumeration
+  member_within enumeration (plain.Dest x) = zero_member E enumeration
+  member_within enumeration (plain.Block x) = zero_member E enumeration
+  member_within enumeration (plain.Entry x) = zero_member E enumeration
+  member_within enumeration (plain.Tbe x) = zero_member E enumeration
 
   permission_within : (m : MachineSymbols) (v : Value) → All (IsMember E 1) m.permissions → IsWithin E (permission_of m v)
   permission_within m v all = by (slice_get m.permissions (member v)) (All-found (IsMember E 1) m.permissions (member v) all)
@@ -439,7 +439,7 @@ module _ (s : Reading) (controllers : ℕ) (kept : List Value) (is : ReadingWith
   free_stays : (text : List ℕ) (arguments : List Value) → AreWithin E arguments → Things-stay (free_call s text arguments)
   unfolding free_call
   free_stays text arguments within =
-      cond_stays B (bytes_eq text (codes "trigger")) (ends (thing.Trigger (trigger_of s arguments))) (plain_or s text arguments (plain_call text)) (ends_stays B (event_within (argument arguments 0))) (plain_stays text arguments (plain_call text) (plain_small text) within)
+      cond_stays B (bytes_eq text (codes "trigger")) (ends (thing.Trigger (trigger_of s arguments))) (plain_or s text arguments (plain_call text)) (ends_stays B (member_within s.machine.events (argument arguments 0))) (plain_stays text arguments (plain_call text) (plain_small text) within)
 
   -- calls of functions that answer what is within the bounds
   abbrev pub Calls-stay : Calls → Type 0

@@ -381,7 +381,7 @@ module _ {D : Type 0} (trees : List Tree) (drive : D → List Seat → ℕ → D
   stop_of : (k : ℕ) (setup : MachineSetup) (this : MachineWithin trees is.routes.total k setup) (at : StopAt) → StopWithin E this.m at → IsStop trees s.ranges is.routes.total this.m at
   stop_of k setup this at within = record {
     event = if_strict this.m.events at.event this.has_events within.event;
-    state = λ known. if_strict this.m.states at.state this.has_states (within.state known);
+    state = if_strict this.m.states at.state this.has_states within.state;
   }
 
   abbrev World-fits : World Ctl D → Type 0

@@ -1,8 +1,6 @@
 -- What a scan answers is within an extent: the state, the event and the next state of a transition that fires, and what is known of one
--- at which it stops. The state at which it stops as `invalid` is one that no written transition is for; where the machine's own
--- function reads it, it is whatever number that answers.
-use Rattle.std.specs.Prelude.{◌≡◌, IfSome, None}
-use Rattle.ruby_value.specs.declared.fault.Fault.TheVariants.{Invalid}
+-- at which it stops.
+use Rattle.std.specs.Prelude.{IfSome}
 use Rattle.ruby_symbols.specs.declared.machine.MachineSymbols.{MachineSymbols}
 use Rattle.run_journal.specs.declared.entry.FireNote.{FireNote}
 use Rattle.run_journal.specs.declared.entry.StopAt.{StopAt}
@@ -20,7 +18,7 @@ module _ (e : Extent) (m : MachineSymbols) where
 
   pub record StopWithin (at : StopAt) : Type 0 where
     pub event : IfSome at.event (IsMember e m.events)
-    pub state : (at.fault ≡ Invalid → m.get_state ≡ None) → IfSome at.state (IsMember e m.states)
+    pub state : IfSome at.state (IsMember e m.states)
 
   abbrev pub EndWithin : RoundEnd → Type 0
   EndWithin (Fired note) = NoteWithin note

@@ -24,6 +24,7 @@ use Rattle.body_meaning.specs.declared.frame.Flow.TheVariants.{WentOn, Returned,
 use Rattle.body_meaning.specs.declared.thing.Trigger.{Trigger}
 use Rattle.body_meaning.specs.Each.{each}
 use Rattle.body_meaning.specs.Reading.{Reading}
+use Rattle.body_meaning.specs.Things.{value_in}
 use Rattle.scan_meaning.specs.declared.round.RoundEnd.TheVariants as round
 use Rattle.scan_meaning.specs.declared.tried.Known.{Known}
 use Rattle.scan_meaning.specs.declared.tried.Tried.{Tried}
@@ -38,10 +39,10 @@ use Rattle.member_laws.proofs.Bodies.{AnswersWithin, AsksWithin, EndsWithin, Sta
 use Rattle.member_laws.proofs.Reading.{FlowWithin, ReadingWithin, TransitionWithin, bounds_of, extent_of}
 use Rattle.member_laws.proofs.Scan.{NoteWithin, ScanWithin, StopWithin}
 use Rattle.member_laws.proofs.Acts.{does_keeps}
-use Rattle.member_laws.proofs.Expressions.{zero_member}
+use Rattle.member_laws.proofs.Expressions.{member_within, zero_member}
 use Rattle.member_laws.proofs.Mail.{again_keeps}
 use Rattle.member_laws.proofs.Statements.{block_done_stays, calls_stay, no_names}
-use Rattle.member_laws.proofs.Stay.{Stay, act_stays, and_stays, done_stays, either_stays, ends_stays, found_stays, then_stays, weaker_stays}
+use Rattle.member_laws.proofs.Stay.{Stay, act_stays, and_stays, done_stays, either_stays, ends_stays, found_stays, then_stays}
 
 -- Scans as data.
 
@@ -139,15 +140,11 @@ module _ (s : Reading) (controllers : ℕ) (kept : List Value) (is : ReadingWith
   arguments_within a state [] here = All-nil (IsWithin Es)
   arguments_within a state (x ∷ xs) here = All-cons (IsWithin Es) (state_argument s.machine a state x) (arguments_for s.machine a state xs) (argument_within a state x here) (arguments_within a state xs here)
 
-  -- a state that the built-in map has
-  abbrev Is-read : Option ℕ → ℕ → Type 0
-  Is-read function state = function ≡ None → Of-state state
-
-  read_by : (a : About) (function : Option ℕ) → Stay Bs (Is-read function) (state_by s a function)
-  read_by a None = weaker_stays Bs (act_stays Bs (act.State (line_of a.address)) tt) (λ state here _. here)
+  read_by : (a : About) (function : Option ℕ) → Stay Bs Of-state (state_by s a function)
+  read_by a None = act_stays Bs (act.State (line_of a.address)) tt
   read_by a (Some k) =
       then_stays Bs (calls_stay s controllers kept is k (arguments_for s.machine a 0 (get_state_arguments s.machine)) (arguments_within a 0 (get_state_arguments s.machine) (zero_member Es s.machine.states)))
-      (λ t _. ends_stays Bs (λ none. absurd (cc none)))
+      (λ t _. ends_stays Bs (member_within s controllers kept is s.machine.states (value_in t)))
 
   set_stays : (a : About) (next : ℕ) (function : Option ℕ) → Of-state next → Stay Bs Nothing-asked (state_set s a next function)
   set_stays a next None here = done_stays Bs (act.SetState (line_of a.address) next) here
@@ -209,17 +206,17 @@ module _ (s : Reading) (controllers : ℕ) (kept : List Value) (is : ReadingWith
       (λ _. fired_stays t state (unwrap_or row.next state) row event from (next_within row.next state within.next from))))
 
   read_known : (t : Trigger) → Of-event t.event → (f : Fault) → Of-stop (stop_at (known t None) f)
-  read_known t event f = record { event = event; state = λ _. tt }
+  read_known t event f = record { event = event; state = tt }
 
   row_known : (t : Trigger) (state : ℕ) → Of-event t.event → Of-state state → (f : Fault) → Of-stop (stop_at (known t (Some state)) f)
-  row_known t state event from f = record { event = event; state = λ _. from }
+  row_known t state event from f = record { event = event; state = from }
 
   none_known : (f : Fault) → Of-stop (stop_at nothing_known f)
-  none_known f = record { event = tt; state = λ _. tt }
+  none_known f = record { event = tt; state = tt }
 
-  found_tries : (t : Trigger) (state : ℕ) (o : Option TransitionSymbol) → Of-event t.event → Is-read s.machine.get_state state
+  found_tries : (t : Trigger) (state : ℕ) (o : Option TransitionSymbol) → Of-event t.event → Of-state state
       → IfSome o (λ row. TransitionWithin Es s.machine.states s.machine.events row × (is_for state t.event row ≡ true)) → Tries Bs Of-stop Of-try (found_tried s t state o)
-  found_tries t state None event read row_is = record { stays = record { event = event; state = λ none. read (none refl) } }
+  found_tries t state None event read row_is = record { stays = record { event = event; state = read } }
   found_tries t state (Some row) event read (within, passes) =
       let from = among_holds Of-state state row.states within.from (and_parts (is_among state row.states) (is_among t.event row.events) passes).0 in
       let body = body_tries Bs Of-stop (known t (Some state)) (row_known t state event from) (row_stays t state row event from within) in

@@ -1,8 +1,7 @@
 -- What holds of each run of a protocol with n controllers: what each controller holds is within what the protocol declares and the run
 -- has, and the states and events of its journal's entries are those of the controller's machine.
-use Rattle.std.specs.Prelude.{◌≡◌, ◌<◌, ℕ, IfSome, IsSomeAnd, List, None, length, slice_get}
+use Rattle.std.specs.Prelude.{◌<◌, ℕ, IfSome, IsSomeAnd, List, length, slice_get}
 use Rattle.std.specs.Option.{option_and_then}
-use Rattle.ruby_value.specs.declared.fault.Fault.TheVariants.{Invalid}
 use Rattle.ruby_symbols.specs.declared.machine.MachineSymbols.{MachineSymbols}
 use Rattle.run_journal.specs.declared.entry.End.{End}
 use Rattle.run_journal.specs.declared.entry.End.TheVariants as end
@@ -42,11 +41,10 @@ module _ (trees : List Tree) (ranges : List (ℕ × ℕ)) (controllers : ℕ) wh
     pub event : IsEvent m note.event
     pub next : IsState m note.next
 
-  -- Of a stop, as far as it is known. The state of one that is `invalid` is what the machine's function answered, where it has one that
-  -- reads states: that this is a state isn't said.
+  -- of a stop, as far as it is known
   pub record IsStop (m : MachineSymbols) (at : StopAt) : Type 0 where
     pub event : IfSome at.event (IsEvent m)
-    pub state : (at.fault ≡ Invalid → m.get_state ≡ None) → IfSome at.state (IsState m)
+    pub state : IfSome at.state (IsState m)
 
   abbrev pub IsEnd : MachineSymbols → End → Type 0
   IsEnd m end.Idle = Unit {0}

@@ -23,7 +23,7 @@ use sequencer::Driver;
 /// In each world of a run, in each controller, each value of an enumeration is a member of it, or 0 where that has none, and each
 /// number of a controller, also in a set of them, is that of one of the world's; and each state of the built-in map is one of the
 /// machine's. Each transition that an entry tells has a state, an event and a next state of the controller's machine, and so has each
-/// stop, but for the state of one that is `invalid` in a machine whose own function reads states: that is what the function answered.
+/// stop, as far as these are known.
 pub fn values_stay_members<D: Driver>()
     ensures controllers { (trees : List TreeRecord) (t : TopologyRecord) (seed cycles limit : ℕ)
         (driver : D)

@@ -3,9 +3,9 @@ use Rattle.std.proofs.Common.{◌≡◌, ℕ, List, [], Result, Ok, Err, IfOk, s
 use Rattle.ruby_outside.specs.declared.library.Got.{Got}
 use Rattle.ruby_outside.specs.Plan.{begun}
 use Rattle.ruby_outside.specs.Sink.{SinkState, IsPlannedWrite}
-use Rattle.ruby_cli.specs.declared.done.Done.{Done}
+use Rattle.ruby_answers.specs.declared.done.Done.{Done}
 use Rattle.ruby_cli.specs.Call.{IsAnswered}
-use Rattle.ruby_cli.specs.Words.{asked}
+use Rattle.ruby_cli.specs.Words.{asked_by}
 use Rattle.rows.specs.Call.{IsRow}
 use Rattle.rows.specs.Row.{row_of}
 
@@ -15,14 +15,14 @@ sink_failing room fails = record { written = []; most = room; room = room; plan 
 
 pub is_row : {L E : Type 0} (reads : L → List ℕ → ℕ → Got → L → Type 0) (room : ℕ) (call : List ℕ) (words : List (List ℕ)) (library library' : L)
     (fails : List ℕ) (before after : SinkState) (done : Done) (bytes : List ℕ) (result : Result (List ℕ) E)
-    → before ≡ sink_failing room fails → fails ≡ [] → IsAnswered reads IsPlannedWrite (asked words) library library' before after done
+    → before ≡ sink_failing room fails → fails ≡ [] → IsAnswered reads IsPlannedWrite (asked_by words) library library' before after done
     → bytes ≡ after.written → IfOk result (λ row. row ≡ row_of call bytes done.status)
     → IfOk result (IsRow reads room call words library library')
 is_row reads room call words library library' fails before after done bytes (Ok row) is none answered held printed = record {
   sink = after;
   done = done;
   answered =
-      subst (λ (s : SinkState). IsAnswered reads IsPlannedWrite (asked words) library library' s after done)
+      subst (λ (s : SinkState). IsAnswered reads IsPlannedWrite (asked_by words) library library' s after done)
       (is ∙ ap (λ (f : List ℕ). sink_failing room f) none) answered;
   text = printed ∙ ap (λ (b : List ℕ). row_of call b done.status) held;
 }

@@ -4,9 +4,9 @@ use Rattle.std.specs.Prelude.{◌≡◌, ℕ, List, []}
 use Rattle.ruby_outside.specs.declared.library.Got.{Got}
 use Rattle.ruby_outside.specs.Plan.{begun}
 use Rattle.ruby_outside.specs.Sink.{SinkState, IsPlannedWrite}
-use Rattle.ruby_cli.specs.declared.done.Done.{Done}
+use Rattle.ruby_answers.specs.declared.done.Done.{Done}
 use Rattle.ruby_cli.specs.Call.{IsAnswered}
-use Rattle.ruby_cli.specs.Words.{asked}
+use Rattle.ruby_cli.specs.Words.{asked_by}
 use Rattle.rows.specs.Row.{row_of}
 
 -- a sink with room for so many bytes
@@ -16,5 +16,5 @@ empty_sink room = record { written = []; most = room; room = room; plan = begun 
 pub record IsRow {L : Type 0} (reads : L → List ℕ → ℕ → Got → L → Type 0) (room : ℕ) (call : List ℕ) (words : List (List ℕ)) (library library' : L) (row : List ℕ) : Type 0 where
   pub sink : SinkState
   pub done : Done
-  pub answered : IsAnswered reads IsPlannedWrite (asked words) library library' (empty_sink room) sink done
+  pub answered : IsAnswered reads IsPlannedWrite (asked_by words) library library' (empty_sink room) sink done
   pub text : row ≡ row_of call sink.written done.status

@@ -1,7 +1,6 @@
-pub mod Answer
-pub mod Asked
 pub mod Call
 pub mod Find
 pub mod Headline
+pub mod Record
 pub mod Right
 pub mod Words

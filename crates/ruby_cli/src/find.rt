@@ -1,126 +1,135 @@
 // The answer to options, found before anything is written.
-ghost use Rattle.std.specs.Prelude.{◌≡◌, ◌<◌, ◌^◌, All, IfOk, IsUtf8};
-ghost use Rattle.slicc_files.specs.Gathering.{IsAllowed};
-ghost use Rattle.slicc_front.specs.Fronts.{IsFrontAllowed};
-ghost use Rattle.small_machine.specs.WellFormed.{IsWellFormed};
-ghost use Rattle.slicc_meaning.specs.Plan.{plan_of as plan_of_tree};
-ghost use Rattle.slicc_meaning.specs.Record.{IsWholeRun};
-ghost use Rattle.slicc_meaning.specs.Topology.{plain_of as plain_of_plan};
-ghost use Rattle.ruby_cli.specs.Asked.{setting_of as setting_of_plan};
-ghost use Rattle.ruby_cli.specs.Find.{IsReadFor, IsSmallMachine, IsAloneAnswer};
+ghost use Rattle.std.specs.Prelude.{◌≡◌, ◌≢◌, [], Some, IfOk, IsUtf8, false, true};
+ghost use Rattle.ruby_cli.specs.Find.{IsAfter, IsAloneAnswer, IsAnswerOf, IsFoundBy, IsFoundFurther, is_generated};
 ghost use Rattle.ruby_cli.specs.Headline.{IsByOneWorker};
-ghost use Rattle.ruby_cli.specs.Right.{IsRightFor, IsRightOf, IsRightTo, other_form as other_form_of};
-ghost use Rattle.ruby_cli.specs.declared.options.Command.TheVariants.{Plain};
+ghost use Rattle.ruby_cli.specs.Right.{IsRight, IsRightBy, IsRightGot, IsRightTo, IsTable, generated_files};
+ghost use Rattle.ruby_options.specs.Within.{IsWithin};
+ghost use Rattle.ruby_options.specs.declared.options.Command.TheVariants.{Code, Run};
+ghost use Rattle.ruby_answers.specs.declared.answer.Answer.TheVariants.{Generated, Ran};
 
-use crate::{Answer, Command, Options, Refused};
-use plain_run::run_plain;
-use ruby_base::{NoMemory, Text};
-use ruby_outside::Library;
-use slicc_ast::tree::Tree;
+use crate::runs::{plain_run, said_run};
+use crate::{Answer, Command, Options};
+use ruby_answers::table_rows;
+use ruby_base::{NoMemory, Seq, Text};
+use ruby_outside::{Got, Library, SureLibrary};
+use ruby_topology::TopoFault;
+use run_record::RunRecord;
 use slicc_front::{Front, front};
-use slicc_meaning::{PlainDriver, Plan as RunPlan, RunRecord, Setting, plain_of, plan_of};
 use slicc_plan::{Plan, counts};
-use small_form::machine_of;
-use small_machine::Machine;
 use std::alloc::Global;
 
-// What the run begins with: the plan over its plain topology, as the options ask.
-fn setting_of(alloc: Global, plan: RunPlan, options: &Options) -> Result<Setting, NoMemory>
-    ensures { IfOk result (λ s. s ≡ setting_of_plan plan (plain_of_plan plan) options.now) }
-{
-    let topology = plain_of(alloc, &plan)?;
-    Ok(Setting {
-        plan,
-        topology,
-        cycles: options.cycles,
-        limit: options.limit,
-        driver: PlainDriver {
-            requests: options.count,
-        },
-    })
-}
+// The most bytes of a topology's file.
+const FILE_LIMIT: u64 = 1_048_576;
 
-// The run of a machine's tree.
-fn run_of(alloc: Global, m: &Machine, options: &Options) -> Result<RunRecord, NoMemory>
-    requires form { IsWellFormed m.now }
-    requires cycles { options.now.cycles < 2 ^ 63 }
-    requires limit { options.now.limit < 2 ^ 63 }
-    ensures whole { IfOk result IsWholeRun }
-    ensures by_one_worker { IfOk result IsByOneWorker }
-    ensures setting { IfOk result (λ r. r.setting ≡ setting_of_plan (plan_of_tree m.now) (plain_of_plan (plan_of_tree m.now)) options.now) }
+// The answer that a run is, or why there is none.
+fn ran(run: Result<RunRecord, TopoFault>) -> Result<Answer, NoMemory>
+    requires alone { IfOk run IsByOneWorker }
+    ensures answer { IfOk result (IsAnswerOf Ran run) }
+    ensures alone { IfOk result IsAloneAnswer }
 {
-    let plan = plan_of(alloc, m)?;
-    let setting = setting_of(alloc, plan, options)?;
-    run_plain(alloc, setting)
-}
-
-// The refusal of a protocol of another form, whose place is the first byte of its file.
-fn other_form(alloc: Global, name: &[u8]) -> Result<Answer, NoMemory>
-    ensures { IfOk result (λ a. a ≡ Answer.Refused (other_form_of name.now)) }
-{
-    let code = Text::copied(alloc, b"U1")?;
-    let file = Text::copied(alloc, name)?;
-    Ok(Answer::Refused(Refused {
-        file,
-        line: 1,
-        column: 1,
-        code,
-        other: None,
-    }))
-}
-
-// The machine of the protocol, where it is of the small form.
-fn small_machine(alloc: Global, trees: &[Tree]) -> Result<Option<Machine>, NoMemory>
-    requires { All IsAllowed trees.now }
-    ensures { IfOk result (IsSmallMachine trees.now) }
-{
-    match trees {
-        [tree] => machine_of(alloc, tree),
-        _ => Ok(None),
+    match run {
+        Ok(record) => Ok(Answer::Ran(record)),
+        Err(TopoFault::Line { rule, line }) => Ok(Answer::Unfit { rule, line }),
+        Err(TopoFault::NoMemory) => Err(NoMemory),
     }
 }
 
-// The run of a protocol that keeps all rules, or the refusal of one of another form.
-fn ran(alloc: Global, options: &Options, trees: &[Tree]) -> Result<Answer, NoMemory>
-    requires allowed { All IsAllowed trees.now }
-    requires command { options.now.command ≡ Plain }
-    requires cycles { options.now.cycles < 2 ^ 63 }
-    requires limit { options.now.limit < 2 ^ 63 }
-    ensures right { IfOk result (IsRightFor trees.now options.now) }
+// The same for a run of a generated protocol.
+fn generated(run: Result<RunRecord, TopoFault>) -> Result<Answer, NoMemory>
+    requires alone { IfOk run IsByOneWorker }
+    ensures answer { IfOk result (IsAnswerOf Generated run) }
     ensures alone { IfOk result IsAloneAnswer }
 {
-    let Some(m) = small_machine(alloc, trees)? else {
-        return other_form(alloc, options.protocol.as_slice());
-    };
-    let record = run_of(alloc, &m, options);
-    drop(m);
-    Ok(Answer::Ran(record?))
+    match run {
+        Ok(record) => Ok(Answer::Generated(record)),
+        Err(TopoFault::Line { rule, line }) => Ok(Answer::Unfit { rule, line }),
+        Err(TopoFault::NoMemory) => Err(NoMemory),
+    }
+}
+
+// The answer to a run of a protocol, by what the library gave for the topology's file.
+fn answer_got(alloc: Global, options: Options, plan: Plan, got: Got) -> Result<Answer, NoMemory>
+    requires within { IsWithin options }
+    ensures right { IfOk result (IsRightGot options plan got) }
+    ensures alone { IfOk result IsAloneAnswer }
+{
+    match got {
+        Got::Bytes(bytes) if bytes.len() as u64 <= FILE_LIMIT => {
+            ran(said_run(alloc, plan, bytes.as_slice(), options))
+        }
+        Got::Bytes(_) => Ok(Answer::TooLarge(options.topology)),
+        Got::TooLarge => Ok(Answer::TooLarge(options.topology)),
+        Got::Absent => Ok(Answer::Absent(options.topology)),
+        Got::Failed => Ok(Answer::ReadFault(options.topology)),
+        Got::NoMemory => Err(NoMemory),
+    }
+}
+
+// The answer to a run of a protocol over the topology's file, which is read.
+fn answer_run<L: Library>(
+    alloc: Global,
+    options: Options,
+    plan: Plan,
+    library: &mut L,
+) -> Result<Answer, NoMemory>
+    requires name { IsUtf8 options.topology }
+    requires within { IsWithin options }
+    requires command { options.command ≡ Run }
+    ensures found { IsFoundFurther L.reads options library.old library.new (λ more. IfOk result (IsRightBy Run options plan more)) }
+    ensures alone { IfOk result IsAloneAnswer }
+{
+    let name = str::from_utf8(options.topology.as_slice()).unwrap();
+    let got = library.read(name, FILE_LIMIT);
+    answer_got(alloc, options, plan, got)
+}
+
+// The rows of a protocol's tables.
+fn table(alloc: Global, plan: Plan) -> Result<Answer, NoMemory>
+    ensures right { IfOk result (IsTable plan) }
+    ensures alone { IfOk result IsAloneAnswer }
+{
+    let rows = table_rows(alloc, &plan)?;
+    Ok(Answer::Tabled(plan, rows))
 }
 
 // The answer to the plan of a protocol.
-fn answer_to(alloc: Global, options: &Options, plan: &Plan) -> Result<Answer, NoMemory>
-    requires allowed { All IsAllowed plan.now }
-    requires cycles { options.now.cycles < 2 ^ 63 }
-    requires limit { options.now.limit < 2 ^ 63 }
-    ensures right { IfOk result (IsRightFor plan.now options.now) }
+fn answer_plan<L: Library>(
+    alloc: Global,
+    options: Options,
+    plan: Plan,
+    library: &mut L,
+) -> Result<Answer, NoMemory>
+    requires name { IsUtf8 options.topology }
+    requires within { IsWithin options }
+    requires command { options.command ≢ Code }
+    ensures found { IsFoundFurther L.reads options library.old library.new (λ more. IfOk result (IsRightBy options.command options plan more)) }
     ensures alone { IfOk result IsAloneAnswer }
 {
     match options.command {
-        Command::Check => Ok(Answer::Accepted(counts(plan))),
-        Command::Plain => ran(alloc, options, plan.trees()),
+        Command::Run => answer_run(alloc, options, plan, library),
+        Command::Plain => ran(plain_run(alloc, plan, options)),
+        Command::Check => Ok(Answer::Accepted(counts(&plan))),
+        Command::Table => table(alloc, plan),
+        Command::Gen => generated(plain_run(alloc, plan, options)),
+        Command::Code => unreachable!(),
     }
 }
 
 // The answer to what the protocol's files come to.
-fn answer_front(alloc: Global, options: &Options, found: Front) -> Result<Answer, NoMemory>
-    requires allowed { IsFrontAllowed found }
-    requires cycles { options.now.cycles < 2 ^ 63 }
-    requires limit { options.now.limit < 2 ^ 63 }
-    ensures right { IfOk result (IsRightTo options.now found) }
+fn answer_front<L: Library>(
+    alloc: Global,
+    options: Options,
+    found: Front,
+    library: &mut L,
+) -> Result<Answer, NoMemory>
+    requires name { IsUtf8 options.topology }
+    requires within { IsWithin options }
+    requires command { options.command ≢ Code }
+    ensures found { IsFoundFurther L.reads options library.old library.new (λ more. IsAfter found more × IfOk result (IsRightTo options found more)) }
     ensures alone { IfOk result IsAloneAnswer }
 {
     match found {
-        Front::Plan(plan) => answer_to(alloc, options, &plan),
+        Front::Plan(plan) => answer_plan(alloc, options, plan, library),
         Front::Refused(refused) => Ok(Answer::Refused(refused)),
         Front::Absent(name) => Ok(Answer::Absent(name)),
         Front::TooLarge(name) => Ok(Answer::TooLarge(name)),
@@ -129,18 +138,72 @@ fn answer_front(alloc: Global, options: &Options, found: Front) -> Result<Answer
     }
 }
 
-/// The answer to options over a library, from which the protocol's files are read.
-pub fn find_answer<L: Library>(
+// The answer to options that ask for a protocol of a library.
+fn find_read<L: Library>(
     alloc: Global,
-    options: &Options,
+    options: Options,
     library: &mut L,
 ) -> Result<Answer, NoMemory>
-    requires name { IsUtf8 options.now.protocol }
-    requires cycles { options.now.cycles < 2 ^ 63 }
-    requires limit { options.now.limit < 2 ^ 63 }
-    ensures found { IsReadFor L.reads options.now library.old library.new (λ g. IfOk result (IsRightOf options.now g)) }
+    requires names { IsUtf8 options.protocol × IsUtf8 options.topology }
+    requires within { IsWithin options }
+    requires command { options.command ≢ Code }
+    requires read { is_generated options.command ≡ false }
+    ensures found { IsFoundBy L.reads options library.old library.new (λ made. IfOk result (IsRight (Some options) made)) }
     ensures alone { IfOk result IsAloneAnswer }
 {
     let found = front(alloc, library, &options.protocol);
-    answer_front(alloc, options, found)
+    answer_front(alloc, options, found, library)
+}
+
+// A library with the file of a generated protocol alone.
+fn generated_library(alloc: Global, count: u64) -> Result<SureLibrary, NoMemory>
+    ensures { IfOk result (λ library. library ≡ generated_files count) }
+{
+    let name = Text::copied(alloc, gen_protocol::name().as_bytes())?;
+    let text = gen_protocol::text(alloc, count)?;
+    let mut files = Seq::new(alloc);
+    files.push((name, text))?;
+    Ok(SureLibrary::new(alloc, files))
+}
+
+// The answer to options that ask for a generated protocol.
+fn find_generated(alloc: Global, options: Options) -> Result<Answer, NoMemory>
+    requires name { IsUtf8 options.topology }
+    requires within { IsWithin options }
+    requires generated { is_generated options.command ≡ true }
+    ensures right { IfOk result (IsRight (Some options) []) }
+    ensures alone { IfOk result IsAloneAnswer }
+{
+    let name = Text::copied(alloc, gen_protocol::name().as_bytes())?;
+    let mut library = generated_library(alloc, options.count)?;
+    let found = front(alloc, &mut library, &name);
+    answer_front(alloc, options, found, &mut library)
+}
+
+fn is_generated(command: Command) -> bool
+    ensures { result ≡ is_generated command }
+{
+    match command {
+        Command::Gen => true,
+        _ => false,
+    }
+}
+
+/// The answer to options over a library, from which the protocol's files are read, and for a run over a topology's file that file.
+pub(crate) fn find_answer<L: Library>(
+    alloc: Global,
+    options: Options,
+    library: &mut L,
+) -> Result<Answer, NoMemory>
+    requires names { IsUtf8 options.protocol × IsUtf8 options.topology }
+    requires within { IsWithin options }
+    requires command { options.command ≢ Code }
+    ensures found { IsFoundBy L.reads options library.old library.new (λ made. IfOk result (IsRight (Some options) made)) }
+    ensures alone { IfOk result IsAloneAnswer }
+{
+    if is_generated(options.command) {
+        find_generated(alloc, options)
+    } else {
+        find_read(alloc, options, library)
+    }
 }

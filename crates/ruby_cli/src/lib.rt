@@ -1,21 +1,17 @@
-//! The program's work as a library: what its words ask for, and the calls that answer them. A call reads the protocol's
-//! files, finds the answer, which may be a run, makes its text, and then writes it.
+//! The program's work as a library: the calls that answer what words or options ask for. A call reads the protocol's files and, for a
+//! run over a topology's file, that file; it finds the answer, which may be a run, and then writes its text.
 #![tactic(auto)]
 
-mod answer;
-mod done;
 mod find;
 mod laws;
-mod options;
 mod program;
+mod runs;
 mod top;
-mod words;
 
-pub use answer::Answer;
-pub use done::{Done, exit_code};
 pub use laws::{answers_are_one, clauses_follow};
-pub use options::{Command, Options};
 pub use program::ruby;
+pub use ruby_answers::{Answer, Done, exit_code};
+pub use ruby_options::{Command, Options};
 pub use slicc_front::Refused;
 pub use slicc_plan::Counts;
 pub use top::ruby_alone;

@@ -1,34 +1,29 @@
 // The top call over the words of a command line.
-ghost use Rattle.std.specs.Prelude.{IfSome, None, map, string_bytes};
+ghost use Rattle.std.specs.Prelude.{IfSome, map, string_bytes};
 ghost use Rattle.ruby_outside.specs.Faults.{Rose};
-ghost use Rattle.slicc_meaning.specs.Record.{IsWholeRun};
 ghost use Rattle.ruby_cli.specs.Call.{IsAnswered, IsUsageAnswered};
 ghost use Rattle.ruby_cli.specs.Headline.{IsWokenOnce, IsMessageAccount, IsInvalidExactly, IsTallied, IsAsAsked, IsAsWritten, IsCaused, IsComplete, IsByOneWorker};
-ghost use Rattle.ruby_cli.specs.Words.{asked as asked_of};
+ghost use Rattle.ruby_cli.specs.Record.{IsWholeRun};
+ghost use Rattle.ruby_cli.specs.Words.{asked_by};
 
+use crate::laws::clauses_follow;
 use crate::top::ruby_alone;
-use crate::words::asked;
 use crate::{Answer, Done};
-use ruby_base::NoMemory;
+use ruby_answers::write_answer;
+use ruby_options::{OptionFault, read};
 use ruby_outside::{Gate, Library, Sink};
-use run_text::write_lines;
 use std::alloc::Global;
 use std::sync::Wait;
 use std::thread::Threads;
 
 // Answers words that ask for nothing.
-fn answer_usage<S: Sink>(alloc: Global, sink: &mut S) -> Done
+fn answer_usage<S: Sink>(sink: &mut S) -> Done
     ensures answered { IsUsageAnswered S.writes sink.old sink.new result }
     ensures by_one_worker { IfSome result.kept IsByOneWorker }
 {
     let answer = Answer::Usage;
-    match answer.text(alloc) {
-        Err(NoMemory) => Done::out_of_memory(),
-        Ok(text) => {
-            let whole = write_lines(sink, text.as_slice());
-            Done::of(answer, whole)
-        }
-    }
+    let whole = write_answer(sink, &answer);
+    Done::of(answer, whole)
 }
 
 // Answers what the words ask for, as `ruby`, and waits for nobody.
@@ -38,13 +33,13 @@ fn answer_words<L: Library, S: Sink>(
     library: &mut L,
     sink: &mut S,
 ) -> Done
-    ensures answered { IsAnswered L.reads S.writes (asked_of (map string_bytes words.now)) library.old library.new sink.old sink.new result }
+    ensures answered { IsAnswered L.reads S.writes (asked_by (map string_bytes words.now)) library.old library.new sink.old sink.new result }
     ensures by_one_worker { IfSome result.kept IsByOneWorker }
 {
-    match asked(alloc, words) {
-        Err(NoMemory) => Done::out_of_memory(),
-        Ok(None) => answer_usage(alloc, sink),
-        Ok(Some(options)) => ruby_alone(alloc, options, library, sink),
+    match read(alloc, words) {
+        Err(OptionFault::NoMemory) => Done::out_of_memory(),
+        Err(OptionFault::Words | OptionFault::Range) => answer_usage(sink),
+        Ok(options) => ruby_alone(alloc, options, library, sink),
     }
 }
 
@@ -61,21 +56,22 @@ pub fn ruby<R: Threads + Wait + Sync, L: Library, S: Sink, G: Gate + Sync>(
     _gate: &G,
 ) -> Done
     // All that the call does: it reads what it must, and writes the text of the right answer, up to a fault.
-    ensures answered { IsAnswered L.reads S.writes (asked_of (map string_bytes words.now)) library.old library.new sink.old sink.new result }
+    ensures answered { IsAnswered L.reads S.writes (asked_by (map string_bytes words.now)) library.old library.new sink.old sink.new result }
 
     // What follows of the record that is kept, of what is written, and of the status.
     ensures record_is_a_run { IfSome result.kept IsWholeRun }
-    ensures as_asked { IfSome result.kept (IsAsAsked (L.files library.old) (asked_of (map string_bytes words.now))) }
-    ensures as_written { IsAsWritten (L.files library.old) (asked_of (map string_bytes words.now)) (Rose (L.faults library.old) (L.faults library.new)) (S.written sink.old) (S.written sink.new) result }
+    ensures as_asked { IfSome result.kept (IsAsAsked (L.files library.old) (asked_by (map string_bytes words.now))) }
+    ensures as_written { IsAsWritten (L.files library.old) (asked_by (map string_bytes words.now)) (Rose (L.faults library.old) (L.faults library.new)) (S.written sink.old) (S.written sink.new) result }
     ensures woken_once { IfSome result.kept IsWokenOnce }
     ensures accounted { IfSome result.kept IsMessageAccount }
     ensures invalid_exactly { IfSome result.kept IsInvalidExactly }
     ensures tallied { IfSome result.kept IsTallied }
-    ensures causes { IsCaused (L.files library.old) (asked_of (map string_bytes words.now)) (Rose (L.faults library.old) (L.faults library.new)) (Rose (S.faults sink.old) (S.faults sink.new)) result }
-    ensures complete { IsComplete (L.files library.old) (asked_of (map string_bytes words.now)) (Rose (L.faults library.old) (L.faults library.new)) (Rose (S.faults sink.old) (S.faults sink.new)) result }
+    ensures causes { IsCaused (L.files library.old) (asked_by (map string_bytes words.now)) (Rose (L.faults library.old) (L.faults library.new)) (Rose (S.faults sink.old) (S.faults sink.new)) result }
+    ensures complete { IsComplete (L.files library.old) (asked_by (map string_bytes words.now)) (Rose (L.faults library.old) (L.faults library.new)) (Rose (S.faults sink.old) (S.faults sink.new)) result }
 
     // A fact of runs on one thread.
     ensures by_one_worker { IfSome result.kept IsByOneWorker }
 {
+    clauses_follow::<L, S>();
     answer_words(alloc, words, library, sink)
 }

@@ -1,6 +1,8 @@
 // Whole calls over libraries and sinks in memory, where those fail, where a text or a file is very long, and with options that no
 // words have.
-ghost use Rattle.std.specs.Prelude.{◌≡◌, ◌≤◌, ◌^◌, IfOk, IsUtf8};
+ghost use Rattle.std.specs.Prelude.{◌≡◌, ◌≢◌, ◌≤◌, ◌^◌, IfOk, IsUtf8};
+ghost use Rattle.ruby_options.specs.Within.{IsWithin};
+ghost use Rattle.ruby_options.specs.declared.options.Command.TheVariants.{Code};
 
 use ruby_base::{NoMemory, Seq, Text};
 use ruby_cli::{Command, Options, ruby, ruby_alone};
@@ -58,6 +60,24 @@ const FAULT: &str = "library fault tick.sm\n";
 const RUN: &str = "run tick.sm 3";
 
 const CHECK: &str = "check tick.sm";
+
+/// A run over a topology's file, which isn't there.
+const OVER: &str = "run tick.sm tick.topo";
+
+const OVER_FAULT: &str = "library fault tick.topo\n";
+
+const OVER_ABSENT: &str = "absent tick.topo\n";
+
+const TABLE: &str = "table tick.sm";
+
+const ROWS_OF_TABLE: &str = "Node A Go B p_pop
+Node B Go A p_pop
+";
+
+/// A run of a generated protocol, for which nothing is read.
+const GEN: &str = "gen 3";
+
+const GENERATED: &str = "gen 3 states 3 fired 3 final S0 quiet 3\n";
 
 /// What the file holds.
 #[derive(Clone, Copy)]
@@ -269,6 +289,14 @@ const FAULTS: &[Fault] = &[
     (CHECK, File::Ticker, 2, 4096, 9, 0, false, ACCEPTED, 1),
     (CHECK, File::Ticker, 9, 4096, 1, 5, false, FAULT, 1),
     (CHECK, File::Twice, 1, 4096, 9, 7, false, TWICE, 0),
+    (OVER, File::Ticker, 9, 4096, 1, 5, false, FAULT, 1),
+    (OVER, File::Ticker, 9, 4096, 2, 5, false, OVER_FAULT, 1),
+    (OVER, File::Ticker, 9, 4096, 3, 6, false, OVER_ABSENT, 1),
+    (OVER, File::Twice, 9, 4096, 2, 3, false, TWICE, 1),
+    (TABLE, File::Ticker, 2, 4096, 9, 7, false, ROWS_OF_TABLE, 1),
+    (TABLE, File::Ticker, 3, 4096, 9, 0, false, ROWS_OF_TABLE, 2),
+    (GEN, File::Ticker, 2, 4096, 1, 0, true, GENERATED, 1),
+    (GEN, File::Ticker, 1, 4096, 1, 7, true, GENERATED, 0),
 ];
 
 /// Whether this is the status, a record is kept or isn't, and these lines are written.
@@ -310,15 +338,24 @@ verdict quiet 4
 
 /// A plain run of three requests, with these bounds.
 fn options(alloc: Global, name: &str, cycles: u64, limit: u64) -> Result<Options, NoMemory>
-    ensures name { IfOk result (λ o. IsUtf8 o.protocol) }
-    ensures count { IfOk result (λ o. o.count ≡ 3) }
-    ensures bounds { IfOk result (λ o. (o.cycles ≡ cycles) × (o.limit ≡ limit)) }
+    requires cycles { (1 ≤ cycles) × (cycles ≤ 10 ^ 12) }
+    requires limit { (1 ≤ limit) × (limit ≤ 1000) }
+    ensures names { IfOk result (λ o. IsUtf8 o.protocol × IsUtf8 o.topology) }
+    ensures within { IfOk result IsWithin }
+    ensures command { IfOk result (λ o. o.command ≢ Code) }
 {
     Ok(Options {
         command: Command::Plain,
         protocol: Text::copied(alloc, name.as_bytes())?,
+        topology: Text::copied(alloc, b"")?,
         count: 3,
+        seed: 1,
+        checks: 100,
+        lines: 4,
         cycles,
+        workers: 0,
+        trace: true,
+        deadlock: 500_000,
         limit,
     })
 }

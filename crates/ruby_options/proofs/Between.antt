@@ -8,9 +8,9 @@ use Rattle.clap.proofs.WalkLemmas.{both}
 use Rattle.ruby_options.specs.declared.options.Command.{Command}
 use Rattle.ruby_options.specs.declared.options.Command.TheVariants.{Run, Plain, Check, Table, Code, Gen}
 use Rattle.ruby_options.specs.declared.tables.TheConstants.{REQUESTS, GENERATED, SEED, CHECKS, LINES, CYCLES, WORKERS, DEADLOCK, LIMIT}
-use Rattle.ruby_options.specs.Asked.{are_in_range, count_in, counting, name_at, numbers_in_range, options_of}
+use Rattle.ruby_options.specs.Asked.{are_in_range, count_in, counting, name_at, numbers_in_range, options_of, works_alone}
 use Rattle.ruby_options.specs.Numbers.{Between, OptionRow, are_digits, is_number_within, number_in, number_of, number_within, option_row, trace_in, value_of}
-use Rattle.ruby_options.specs.Within.{HasDefaults, IsBetween, IsWithin, requests_of}
+use Rattle.ruby_options.specs.Within.{HasDefaults, IsBetween, IsWithin, WorksAlone, requests_of}
 
 within : (b : Between) (word : Text) → is_number_within b word ≡ true → IsBetween b (value_of word)
 within b word e =
@@ -51,20 +51,18 @@ requests Table names count e = none count e
 requests Code names count e = none count e
 requests Gen names count e = some_within GENERATED (name_at names 0) count e
 
-no_workers : (command : Command) (found : List Row) → are_in_range found ≡ true → number_of (counting command found) (option_row WORKERS) ≡ 0
-unfolding are_in_range number_of number_in
-no_workers command found e = go command
+alone : (command : Command) (found : List Row) → are_in_range command found ≡ true
+    → WorksAlone command (number_of (counting command found) (option_row WORKERS))
+unfolding are_in_range
+alone command found e = go command (both (is_some (trace_in found)) _ (both (numbers_in_range found) _ e).1).1
   where
-    alone : number_of found (option_row WORKERS) ≡ 0
-    alone = eqb-true _ _ (both (is_some (trace_in found)) _ (both (numbers_in_range found) _ e).1).1
-
-    go : (command : Command) → number_of (counting command found) (option_row WORKERS) ≡ 0
-    go Run = alone
-    go Plain = alone
-    go Check = alone
-    go Table = alone
-    go Code = alone
-    go Gen = refl
+    go : (command : Command) → works_alone command found ≡ true → WorksAlone command (number_of (counting command found) (option_row WORKERS))
+    go Run is = eqb-true _ _ is
+    go Plain is = eqb-true _ _ is
+    go Check is = tt
+    go Table is = tt
+    go Code is = tt
+    go Gen is = tt
 
 generated : (names : List Text) (count : ℕ) → HasDefaults (options_of Gen names count [])
 unfolding number_of number_in trace_in
@@ -88,7 +86,7 @@ when_generated Check names count found is = absurd (cc is)
 when_generated Table names count found is = absurd (cc is)
 when_generated Code names count found is = absurd (cc is)
 
-pub are_within : (command : Command) (names : List Text) (count : ℕ) (found : List Row) → count_in command names ≡ Some count → are_in_range found ≡ true
+pub are_within : (command : Command) (names : List Text) (count : ℕ) (found : List Row) → count_in command names ≡ Some count → are_in_range command found ≡ true
     → IsWithin (options_of command names count (counting command found))
 are_within command names count found e range =
     let given = counting command found in
@@ -98,7 +96,8 @@ are_within command names count found e range =
       checks = option_between given (option_row CHECKS) (omega arith, omega arith);
       lines = option_between given (option_row LINES) (omega arith, omega arith);
       cycles = option_between given (option_row CYCLES) (omega arith, omega arith);
-      workers = no_workers command found range;
+      workers = option_between given (option_row WORKERS) (omega arith, omega arith);
+      alone = alone command found range;
       deadlock = option_between given (option_row DEADLOCK) (omega arith, omega arith);
       limit = option_between given (option_row LIMIT) (omega arith, omega arith);
       generated = when_generated command names count found;

@@ -3,7 +3,7 @@ ghost use Rattle.std.specs.Prelude.{◌≡◌, IfOk, IsUtf8, is_some, map, strin
 ghost use Rattle.std.specs.List.{list_all};
 ghost use Rattle.clap.specs.Matches.{found_of};
 ghost use Rattle.clap.specs.Walk.{rows_of};
-ghost use Rattle.ruby_options.specs.Asked.{IsRead, are_in_range, asked, asked_of, counting, has_no_workers, numbers_in_range, options_of, word_found};
+ghost use Rattle.ruby_options.specs.Asked.{IsRead, are_in_range, asked, asked_of, counting, has_no_workers, numbers_in_range, options_of, word_found, works_alone};
 ghost use Rattle.ruby_options.specs.CommandLine.{rows_given};
 ghost use Rattle.ruby_options.specs.Numbers.{number_in, number_of, option_row, trace_in};
 ghost use Rattle.ruby_options.specs.Within.{IsWithin};
@@ -32,11 +32,21 @@ fn numbers_in_range(matches: &ArgMatches<'_>) -> bool
     all_in_range(&NUMBERS, matches)
 }
 
-// All work is done by the calling thread, as long as there are no workers.
+// No workers are asked for.
 fn has_no_workers(matches: &ArgMatches<'_>) -> bool
     ensures { result ≡ has_no_workers (rows_of (found_of matches.now)) }
 {
     number_of(Some(matches), WORKERS) == 0
+}
+
+// A run that is asked for is the calling thread's work alone, as long as there are no workers.
+fn works_alone(command: Command, matches: &ArgMatches<'_>) -> bool
+    ensures { result ≡ works_alone command (rows_of (found_of matches.now)) }
+{
+    match command {
+        Command::Run | Command::Plain => has_no_workers(matches),
+        Command::Check | Command::Table | Command::Code | Command::Gen => true,
+    }
 }
 
 fn is_trace_in_range(matches: &ArgMatches<'_>) -> bool
@@ -47,13 +57,13 @@ fn is_trace_in_range(matches: &ArgMatches<'_>) -> bool
 
 // Whether each option that is given has a value in its range.
 #[tactic(auto, unfolding(crate::specs::Asked::are_in_range))]
-fn are_in_range(matches: &ArgMatches<'_>) -> bool
-    ensures { result ≡ are_in_range (rows_of (found_of matches.now)) }
+fn are_in_range(command: Command, matches: &ArgMatches<'_>) -> bool
+    ensures { result ≡ are_in_range command (rows_of (found_of matches.now)) }
 {
     if !numbers_in_range(matches) {
         return false;
     }
-    is_trace_in_range(matches) && has_no_workers(matches)
+    is_trace_in_range(matches) && works_alone(command, matches)
 }
 
 // What counts of what is given for options: nothing for a generated protocol.
@@ -127,7 +137,7 @@ fn asked_of(alloc: Global, matches: &ArgMatches<'_>) -> Result<Options, OptionFa
     let Some(count) = command.count(names) else {
         return Err(OptionFault::Range);
     };
-    if !are_in_range(matches) {
+    if !are_in_range(command, matches) {
         return Err(OptionFault::Range);
     }
     let given = counting(command, matches);

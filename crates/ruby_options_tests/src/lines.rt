@@ -311,9 +311,27 @@ pub(crate) const MORE_RANGES: &[Line] = &[
     (&["check", "a.sm", "--limit", "0"], Asked::Range),
     (&["check", "a.sm", "--limit", "1001"], Asked::Range),
     (&["check", "a.sm", "--workers", "0"], Asked::Options(CHECK)),
-    (&["check", "a.sm", "--workers", "1"], Asked::Range),
-    (&["check", "a.sm", "--workers", "16"], Asked::Range),
+    (
+        &["check", "a.sm", "--workers", "16"],
+        Asked::Options(Expected {
+            workers: 16,
+            ..CHECK
+        }),
+    ),
     (&["check", "a.sm", "--workers", "17"], Asked::Range),
+    (
+        &["table", "a.sm", "--workers", "1"],
+        Asked::Options(Expected {
+            workers: 1,
+            ..TABLE
+        }),
+    ),
+    (
+        &["run", "a.sm", "a.topo", "--workers", "0"],
+        Asked::Options(RUN),
+    ),
+    (&["run", "a.sm", "a.topo", "--workers", "1"], Asked::Range),
+    (&["run", "a.sm", "7", "--workers", "1"], Asked::Range),
     (&["check", "a.sm", "--trace", "on"], Asked::Options(CHECK)),
     (
         &["check", "a.sm", "--trace", "off"],
@@ -441,7 +459,7 @@ pub(crate) const GENERATED: &[Line] = &[
             "--cycles",
             "9",
             "--workers",
-            "0",
+            "9",
             "--trace",
             "off",
             "--deadlock",
@@ -455,7 +473,7 @@ pub(crate) const GENERATED: &[Line] = &[
         &["gen", "7", "--seed", "18446744073709551616"],
         Asked::Range,
     ),
-    (&["gen", "7", "--workers", "1"], Asked::Range),
+    (&["gen", "7", "--workers", "17"], Asked::Range),
 ];
 
 // Options that a command makes no use of are kept.

@@ -3,6 +3,7 @@
 -- statements for it, or where `z_stall` is among the actions, the transition is stalled: it runs no action, and the controller wakes
 -- in the next cycle. Else its actions are done in order, then the next state is set, and then the access permission, where the
 -- machine sets it. These see the line's entry and TBE as the actions have left them. Without a next state it is the state before.
+-- Where the machine's own function reads states, an answer that is no state counts as the first one.
 use Rattle.std.specs.Prelude.{ℕ, ◌+◌, ◌==◌, ◌&&◌, Bool, true, false, Option, None, Some, List, [], ◌∷◌, find, map, nat_lt, unwrap_or}
 use Rattle.std.specs.List.{list_any}
 use Rattle.slicc_ast.specs.declared.tree.statement.Block.{Block}
@@ -19,12 +20,12 @@ use Rattle.ruby_symbols.specs.States.{get_state_arguments, set_permission_argume
 use Rattle.acts.specs.declared.body_fault.BodyFault.TheVariants as own
 use Rattle.acts.specs.Act as act
 use Rattle.acts.specs.Acting.{Acting, ends as ends_body, ◌>>=◌, ◌>>◌, act as done, either, found}
-use Rattle.built_in_acts.specs.Values.{member}
 use Rattle.body_meaning.specs.declared.frame.About.{About}
 use Rattle.body_meaning.specs.declared.frame.Frame.{Frame}
 use Rattle.body_meaning.specs.Reading.{Reading}
 use Rattle.body_meaning.specs.declared.thing.Trigger.{Trigger}
 use Rattle.body_meaning.specs.Bodies.{calls_of}
+use Rattle.body_meaning.specs.Calls.{as_member}
 use Rattle.body_meaning.specs.Each.{each}
 use Rattle.body_meaning.specs.Frames.{Ended}
 use Rattle.body_meaning.specs.Statements.{all_done}
@@ -60,7 +61,7 @@ arguments_for m a state arguments = map (state_argument m a state) arguments
 abbrev pub state_by : Reading → About → Option ℕ → Acting ℕ
 state_by s a None = done (act.State (line_of a.address))
 state_by s a (Some function) =
-    calls_of s function (arguments_for s.machine a 0 (get_state_arguments s.machine)) >>= (λ t. ends_body (member (value_in t)))
+    calls_of s function (arguments_for s.machine a 0 (get_state_arguments s.machine)) >>= (λ t. ends_body (as_member s s.machine.states (value_in t)))
 
 abbrev pub read_state : Reading → About → Acting ℕ
 read_state s a = state_by s a s.machine.get_state

@@ -1,3 +1,1 @@
 pub mod TriesAs
-pub mod Few
-pub mod Spending

@@ -3,16 +3,13 @@ ghost use Rattle.std.specs.Prelude.{◌≡◌, ◌+◌, ◌<◌, [], ◌∷◌, 
 ghost use Rattle.acts.specs.DoesAs.{DoesAs, itself};
 ghost use Rattle.body_meaning.specs.Each.{each};
 ghost use Rattle.body_meaning.specs.Reading.{reading};
+ghost use Rattle.machine_bodies.specs.Few.{HasFew};
 ghost use Rattle.scan_meaning.specs.Actions.{need};
-ghost use Rattle.scan_meaning.specs.Transition.{about_left as about_left_is, action_done as action_done_is, is_among as is_among_is, is_short as is_short_is, is_stall_among as is_stall_among_is, table_short as table_short_is};
-ghost use Rattle.scan_walk.specs.Few.{HasFew};
+ghost use Rattle.scan_meaning.specs.Transition.{action_done as action_done_is, is_among as is_among_is, is_short as is_short_is, is_stall_among as is_stall_among_is, table_short as table_short_is};
 
-use crate::bodies::body_of_action;
-use crate::functions::body_done;
-use crate::needs::need_more;
-use acts::{BodyFault, Local, Trouble, free};
-use body_meaning::{About, Frame, Scope};
-use ruby_base::Seq;
+use acts::{Local, Trouble, free};
+use body_meaning::{About, Scope};
+use machine_bodies::{action_done, need_more};
 use ruby_symbols::TableSymbol;
 use std::alloc::Global;
 
@@ -21,37 +18,6 @@ pub(crate) fn split<X>(items: &[X]) -> Option<(&X, &[X])>
     ensures { MatchOption result (items.now ≡ []) (λ p. items.now ≡ p.0.now ∷ p.1.now) }
 {
     items.split_first()
-}
-
-fn about_left(a: About, frame: &Frame) -> About
-    ensures { result ≡ about_left_is a frame.now }
-{
-    match frame.about {
-        Some(left) => left,
-        None => a,
-    }
-}
-
-fn action_done<T: Local>(
-    alloc: Global,
-    s: Scope<'_>,
-    a: About,
-    number: u16,
-    local: &mut T,
-) -> Result<About, Trouble>
-    requires few { HasFew s.machine.now }
-    ensures { DoesAs itself (action_done_is (reading s.entry) a number) result (T.view local.old)
-        (T.view local.new) }
-{
-    let Some(block) = body_of_action(s, number) else {
-        return Err(Trouble::from(BodyFault::Reference));
-    };
-    let mut frame = Frame {
-        names: Seq::new(alloc),
-        about: Some(a),
-    };
-    let _flow = body_done(alloc, s, &block.statements, &mut frame, local)?;
-    Ok(about_left(a, &frame))
 }
 
 // Does actions one after another, each about what the one before has left.

@@ -1,44 +1,21 @@
 // The in ports of a machine, one after another.
-ghost use Rattle.acts.specs.DoesAs.{DoesAs, itself};
+ghost use Rattle.acts.specs.DoesAs.{itself};
+ghost use Rattle.body_meaning.specs.Reading.{reading};
+ghost use Rattle.machine_bodies.specs.Few.{HasFew};
 ghost use Rattle.scan_meaning.specs.Round.{IsRoundOf};
 ghost use Rattle.scan_meaning.specs.Scan.{after_port as after_port_is, port_done as port_done_is, port_tried as port_tried_is, ports_tried as ports_tried_is, scan as scan_is};
 ghost use Rattle.scan_meaning.specs.Trying.{nothing_known, with_known};
-ghost use Rattle.scan_walk.specs.Few.{HasFew};
 ghost use Rattle.scan_walk.specs.TriesAs.{IsEndOf, TriesAs};
-ghost use Rattle.body_meaning.specs.Reading.{reading};
 
 use crate::actions::split;
-use crate::bodies::body_of_port;
-use crate::functions::body_done;
 use crate::halt::{Halt, told};
 use crate::transition::tried;
-use acts::{BodyFault, Local, NoMemory, Trouble};
-use body_meaning::{Flow, Frame, Scope};
-use ruby_base::Seq;
+use acts::{Local, NoMemory};
+use body_meaning::{Flow, Scope};
+use machine_bodies::port_done;
 use ruby_symbols::PortSymbol;
 use scan_meaning::{Known, RoundEnd, Tried};
 use std::alloc::Global;
-
-fn port_done<T: Local>(
-    alloc: Global,
-    s: Scope<'_>,
-    p: &PortSymbol,
-    local: &mut T,
-) -> Result<Flow, Trouble>
-    requires few { HasFew s.machine.now }
-    ensures { DoesAs itself (port_done_is (reading s.entry) p.now) result (T.view local.old)
-        (T.view local.new) }
-{
-    let Some(block) = body_of_port(s.tree, p) else {
-        return Err(Trouble::from(BodyFault::Reference));
-    };
-    let mut frame = Frame {
-        names: Seq::new(alloc),
-        about: None,
-    };
-    let flow = body_done(alloc, s, &block.statements, &mut frame, local)?;
-    Ok(flow)
-}
 
 // What is known of a transition is nothing yet.
 fn port_known<T: Local>(

@@ -1,11 +1,9 @@
-//! What no printed text shows of a protocol: whether two are the same, what is known of its names, transitions and tables, and the
-//! parts of a machine of the small form. And how many of a sort there may be, where the text is long.
+//! What no printed text shows of a protocol: whether two are the same, and what is known of its names, transitions and tables. And how
+//! many of a sort there may be, where the text is long.
 #![tactic(auto)]
 
 #[cfg(test)]
 mod limits;
-#[cfg(test)]
-mod machine;
 #[cfg(test)]
 mod msi;
 #[cfg(test)]

@@ -15,7 +15,7 @@ use Rattle.scan_meaning.specs.declared.round.RoundEnd.TheVariants.{Idle}
 use Rattle.scan_meaning.specs.declared.tried.Tried.TheVariants.{Waits}
 use Rattle.scan_meaning.specs.Round.{IsRoundOf}
 use Rattle.scan_meaning.specs.Scan.{by_try, scan}
-use Rattle.scan_walk.specs.Few.{HasFew}
+use Rattle.machine_bodies.specs.Few.{HasFew}
 use Rattle.protocol_meaning.specs.Meaning.{scan_of}
 use Rattle.protocol_meaning.specs.Readings.{call_setting}
 

@@ -1,4 +1,3 @@
 pub mod Rows
-pub mod Forms
 pub mod Made
 pub mod Steps

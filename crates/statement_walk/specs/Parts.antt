@@ -1,46 +1,23 @@
 -- Names for parts of what statements do, each of which a function of this crate does. They say nothing of their own: what each is
 -- stands in the definition of the whole statement, with these parts written out.
-use Rattle.std.specs.Prelude.{ℕ, ◌+◌, Option, None, Some, List, [], ◌∷◌, codes, cond, length}
-use Rattle.std.specs.Str.{bytes_eq}
+use Rattle.std.specs.Prelude.{ℕ, ◌+◌, Option, None, Some, List, [], ◌∷◌, codes, length}
 use Rattle.slicc_ast.specs.declared.tree.expression.Expr.{Expr}
-use Rattle.slicc_ast.specs.declared.tree.expression.Suffix.{Suffix}
 use Rattle.slicc_ast.specs.declared.tree.statement.Block.{Block}
 use Rattle.slicc_ast.specs.declared.tree.statement.ElseIf.{ElseIf}
 use Rattle.slicc_ast.specs.declared.tree.statement.If.{If, out-If}
 use Rattle.slicc_ast.specs.declared.tree.statement.Stmt.{Stmt}
 use Rattle.ruby_value.specs.declared.value.Value.{Value}
-use Rattle.acts.specs.declared.body_fault.BodyFault.TheVariants as own
 use Rattle.acts.specs.Act as act
-use Rattle.acts.specs.Acting.{Acting, stops, ◌>>=◌, ◌>>◌, act as done, either, found}
-use Rattle.built_in_acts.specs.BuiltIn.{built_in}
-use Rattle.built_in_acts.specs.Values.{truth}
+use Rattle.acts.specs.Acting.{Acting, ◌>>=◌, ◌>>◌, act as done}
 use Rattle.body_meaning.specs.declared.frame.Frame.{Frame}
-use Rattle.body_meaning.specs.declared.place.Place.{Place}
 use Rattle.body_meaning.specs.declared.scope.Scope.{Scope}
 use Rattle.body_meaning.specs.declared.thing.Thing.{Thing}
 use Rattle.body_meaning.specs.declared.thing.Thing.TheVariants as thing
 use Rattle.body_meaning.specs.Bodies.{calls_within}
-use Rattle.body_meaning.specs.CallNumbers.{changes_receiver, stall_call, write_callback}
-use Rattle.body_meaning.specs.Calls.{Calls, value_call}
-use Rattle.body_meaning.specs.Expressions.{value, value_behind, values_of}
+use Rattle.body_meaning.specs.Calls.{Calls}
 use Rattle.body_meaning.specs.Frames.{Ended, bind, leave, outermost}
-use Rattle.body_meaning.specs.Places.{at_place, before_last, with_place}
 use Rattle.body_meaning.specs.Reading.{Reading, reading}
-use Rattle.body_meaning.specs.Statements.{all_done, block_in, called_alone, changed, chosen, ends_by, fields_made, latency, scoped, sent, went_on, written_back}
-use Rattle.body_meaning.specs.Things.{value_in}
-
--- the place with what a call made of its value
-abbrev pub put_back : Frame → Place → Option Value → Acting Ended
-put_back frame p w = found own.Reference w >>= (λ x. with_place frame p x >>= went_on)
-
--- the place with what the call of this number makes of these values
-abbrev pub remade : Reading → ℕ → Frame → Place → List Value → Acting Ended
-remade s n frame p values = built_in s.setting n 0 values >>= put_back frame p
-
--- the place with what a call of this name makes of its value
-abbrev pub remade_by : Reading → List ℕ → Frame → Place → Value → List Value → Acting Ended
-remade_by s text frame p v values =
-    found own.Reference (value_call v text) >>= (λ n. remade s n frame p (v ∷ values))
+use Rattle.body_meaning.specs.Statements.{all_done, block_in, chosen, fields_made, latency, scoped, sent, went_on}
 
 -- the block of `peek`, in which `in_msg` is a message with these fields
 abbrev pub viewed : (Frame → Acting Ended) → ℕ → List Value → Frame → Acting Ended
@@ -52,44 +29,6 @@ abbrev pub done_in : Scope → ℕ → List Stmt → Frame → Acting Ended
 done_in s depth statements = all_done (reading s) (calls_within (reading s) depth) statements
 
 module _ (s : Reading) (calls : Calls) where
-  -- `kind name := value;`
-  abbrev pub declared : List ℕ → Expr → Frame → Acting Ended
-  declared text e frame = value s calls frame e >>= (λ t. went_on (bind text t frame))
-
-  -- `assert(condition);`
-  abbrev pub asserted : Expr → Frame → Acting Ended
-  asserted condition frame =
-      value s calls frame condition >>= (λ t. either (truth (value_in t)) (went_on frame) (stops own.Assert))
-
-  -- `stall_and_wait` on the port of a buffer
-  abbrev pub stalled_on : ℕ → Expr → Frame → Acting Ended
-  stalled_on buffer address frame =
-      value s calls frame address
-      >>= (λ t. built_in s.setting stall_call buffer (value_in t ∷ []) >> went_on frame)
-
-  -- a call that changes what is at a place
-  abbrev pub changed_at : List ℕ → List Expr → Frame → Place → Acting Ended
-  changed_at text arguments frame p =
-      at_place frame p >>= (λ v. values_of s calls frame arguments >>= (λ vs. remade_by s text frame p v vs))
-
-  -- a `writeCallback` of this address with the block at a place
-  abbrev pub stored : Thing → List Expr → Frame → Place → Acting Ended
-  stored address others frame p =
-      at_place frame p
-      >>= (λ v. values_of s calls frame others
-      >>= (λ vs. remade s (write_callback (2 + length vs)) frame p (value_in address ∷ v ∷ vs)))
-
-  -- a call of this name
-  abbrev pub call_alone : List ℕ → List Expr → Frame → Acting Ended
-  call_alone text arguments frame = values_of s calls frame arguments >>= called_alone s calls text frame
-
-  -- a call of this name, which is the last of the suffixes
-  abbrev pub method_alone : Expr → List Suffix → List ℕ → List Expr → Frame → Acting Ended
-  method_alone inner suffixes text arguments frame =
-      cond (changes_receiver text) (changed s calls inner (before_last suffixes) text arguments frame)
-      (cond (bytes_eq text (codes "writeCallback")) (written_back s calls arguments frame)
-      (ends_by frame (value_behind s calls frame inner suffixes)))
-
   -- the sending of what was made in a block that began with n names
   abbrev pub sent_on : ℕ → Option Expr → ℕ → Frame → Acting Ended
   sent_on buffer written n frame =

@@ -1,12 +1,8 @@
-//! What the statements of a body do in a local.
+//! What the statements of a body do in a local, one after another: those with a block, which are `if`, `peek` and `enqueue`, and by
+//! `plain_statements` those without one.
 #![tactic(auto, using(acts::proofs::Walk::walk_steps))]
 
-mod alone;
-mod calls;
-mod changes;
-mod ends;
-mod found;
-mod plain;
+mod messages;
 mod sends;
 mod walk;
 

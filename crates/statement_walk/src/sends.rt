@@ -6,15 +6,24 @@ ghost use Rattle.body_meaning.specs.Bodies.{calls_within};
 ghost use Rattle.body_meaning.specs.Frames.{ended, outermost};
 ghost use Rattle.body_meaning.specs.Reading.{reading};
 ghost use Rattle.body_meaning.specs.Statements.{fields_made, latency, sent};
+ghost use Rattle.body_meaning.specs.Things.{value_in};
+ghost use Rattle.built_in_acts.specs.Values.{number};
 ghost use Rattle.statement_walk.specs.Parts.{sent_on};
 
-use crate::ends::number_in;
 use acts::{Fields, Local, NoMemory, Trouble, Value, send};
-use body_meaning::{Bound, Flow, Frame, Scope, Thing};
+use body_meaning::{Bound, Flow, Frame, Scope, Thing, value_in};
 use body_walk::{leave, value};
+use built_in_acts::number;
 use ruby_base::Seq;
 use slicc_ast::tree::Expr;
 use std::alloc::Global;
+
+// The number that a latency gives.
+fn number_in(t: Thing) -> i64
+    ensures { result ≡ number (value_in t) }
+{
+    number(&value_in(t))
+}
 
 // The latency that is written, and 1 where none is.
 fn latency<T: Local, F: Fn(u16, Seq<Value>, &mut T) -> Result<Thing, Trouble>>(

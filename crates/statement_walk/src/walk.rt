@@ -7,15 +7,14 @@ ghost use Rattle.body_meaning.specs.Reading.{reading};
 ghost use Rattle.body_meaning.specs.Statements.{all_done, block_in, enqueued, exec, if_done, peeked};
 ghost use Rattle.statement_walk.specs.Parts.{done_in, made_and_sent, others_of_if, viewed};
 
-use crate::alone::evaluated;
-use crate::changes::assigned;
-use crate::ends::is_true;
-use crate::found::{opened, port, structure};
-use crate::plain::{asserted, declared, failed, returned, stalled};
+use crate::messages::{opened, structure};
 use crate::sends::sent;
 use acts::{Fields, Local, Trouble, Value, front};
 use body_meaning::{Flow, Frame, Scope, Thing, bind};
 use body_walk::{leave, value};
+use plain_statements::{
+    asserted, assigned, declared, evaluated, failed, is_true, port, returned, stalled,
+};
 use ruby_base::Seq;
 use slicc_ast::tree::{Expr, If, Name, Stmt};
 use std::alloc::Global;

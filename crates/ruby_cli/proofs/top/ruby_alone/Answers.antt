@@ -1,38 +1,37 @@
-use Rattle.ruby_cli.proofs.Clauses.{theorem_holds}
 use Rattle.ruby_cli.proofs.top.ruby_alone.Goals as goal
 
 pub returns-clause-record_is_a_run : goal.returns-clause-record_is_a_run
 returns-clause-record_is_a_run g c =
-    (theorem_holds g.L.Library.files g.L.Library.faults g.L.Library.reads g.met.L.Library.lawful g.S.Sink.written g.S.Sink.faults g.S.Sink.writes g.met.S.Sink.lawful _ _ _ _ _ _ c.answer_options.ensures.answered).record_is_a_run
+    (c.clauses_follow.ensures _ _ _ _ _ _ c.requires.within c.answer_options.ensures.answered).record_is_a_run
 
 pub returns-clause-as_asked : goal.returns-clause-as_asked
 returns-clause-as_asked g c =
-    (theorem_holds g.L.Library.files g.L.Library.faults g.L.Library.reads g.met.L.Library.lawful g.S.Sink.written g.S.Sink.faults g.S.Sink.writes g.met.S.Sink.lawful _ _ _ _ _ _ c.answer_options.ensures.answered).as_asked
+    (c.clauses_follow.ensures _ _ _ _ _ _ c.requires.within c.answer_options.ensures.answered).as_asked
 
 pub returns-clause-as_written : goal.returns-clause-as_written
 returns-clause-as_written g c =
-    (theorem_holds g.L.Library.files g.L.Library.faults g.L.Library.reads g.met.L.Library.lawful g.S.Sink.written g.S.Sink.faults g.S.Sink.writes g.met.S.Sink.lawful _ _ _ _ _ _ c.answer_options.ensures.answered).as_written
+    (c.clauses_follow.ensures _ _ _ _ _ _ c.requires.within c.answer_options.ensures.answered).as_written
 
 pub returns-clause-woken_once : goal.returns-clause-woken_once
 returns-clause-woken_once g c =
-    (theorem_holds g.L.Library.files g.L.Library.faults g.L.Library.reads g.met.L.Library.lawful g.S.Sink.written g.S.Sink.faults g.S.Sink.writes g.met.S.Sink.lawful _ _ _ _ _ _ c.answer_options.ensures.answered).woken_once
+    (c.clauses_follow.ensures _ _ _ _ _ _ c.requires.within c.answer_options.ensures.answered).woken_once
 
 pub returns-clause-accounted : goal.returns-clause-accounted
 returns-clause-accounted g c =
-    (theorem_holds g.L.Library.files g.L.Library.faults g.L.Library.reads g.met.L.Library.lawful g.S.Sink.written g.S.Sink.faults g.S.Sink.writes g.met.S.Sink.lawful _ _ _ _ _ _ c.answer_options.ensures.answered).accounted
+    (c.clauses_follow.ensures _ _ _ _ _ _ c.requires.within c.answer_options.ensures.answered).accounted
 
 pub returns-clause-invalid_exactly : goal.returns-clause-invalid_exactly
 returns-clause-invalid_exactly g c =
-    (theorem_holds g.L.Library.files g.L.Library.faults g.L.Library.reads g.met.L.Library.lawful g.S.Sink.written g.S.Sink.faults g.S.Sink.writes g.met.S.Sink.lawful _ _ _ _ _ _ c.answer_options.ensures.answered).invalid_exactly
+    (c.clauses_follow.ensures _ _ _ _ _ _ c.requires.within c.answer_options.ensures.answered).invalid_exactly
 
 pub returns-clause-tallied : goal.returns-clause-tallied
 returns-clause-tallied g c =
-    (theorem_holds g.L.Library.files g.L.Library.faults g.L.Library.reads g.met.L.Library.lawful g.S.Sink.written g.S.Sink.faults g.S.Sink.writes g.met.S.Sink.lawful _ _ _ _ _ _ c.answer_options.ensures.answered).tallied
+    (c.clauses_follow.ensures _ _ _ _ _ _ c.requires.within c.answer_options.ensures.answered).tallied
 
 pub returns-clause-causes : goal.returns-clause-causes
 returns-clause-causes g c =
-    (theorem_holds g.L.Library.files g.L.Library.faults g.L.Library.reads g.met.L.Library.lawful g.S.Sink.written g.S.Sink.faults g.S.Sink.writes g.met.S.Sink.lawful _ _ _ _ _ _ c.answer_options.ensures.answered).causes
+    (c.clauses_follow.ensures _ _ _ _ _ _ c.requires.within c.answer_options.ensures.answered).causes
 
 pub returns-clause-complete : goal.returns-clause-complete
 returns-clause-complete g c =
-    (theorem_holds g.L.Library.files g.L.Library.faults g.L.Library.reads g.met.L.Library.lawful g.S.Sink.written g.S.Sink.faults g.S.Sink.writes g.met.S.Sink.lawful _ _ _ _ _ _ c.answer_options.ensures.answered).complete
+    (c.clauses_follow.ensures _ _ _ _ _ _ c.requires.within c.answer_options.ensures.answered).complete

@@ -1,0 +1,35 @@
+// What things are at the ends of statements.
+ghost use Rattle.std.specs.Prelude.{◌≡◌, ◌∷◌, IfOk};
+ghost use Rattle.body_meaning.specs.Statements.{flow_of};
+ghost use Rattle.body_meaning.specs.Things.{value_in};
+ghost use Rattle.built_in_acts.specs.Values.{truth};
+
+use acts::{NoMemory, Value};
+use body_meaning::{Flow, Thing, value_in};
+use built_in_acts::truth;
+use ruby_base::Seq;
+
+// How a statement ends that is an expression, by what that gives.
+pub(crate) fn flow_of(t: Thing) -> Flow
+    ensures { result ≡ flow_of t }
+{
+    match t {
+        Thing::Trigger(t) => Flow::Triggered(t),
+        _ => Flow::WentOn,
+    }
+}
+
+/// Whether what a condition gives is true.
+pub fn is_true(t: Thing) -> bool
+    ensures { result ≡ truth (value_in t) }
+{
+    truth(&value_in(t))
+}
+
+// A value before others.
+pub(crate) fn with_first(v: Value, mut values: Seq<Value>) -> Result<Seq<Value>, NoMemory>
+    ensures { IfOk result (λ all. all ≡ v ∷ values) }
+{
+    values.insert(0, v)?;
+    Ok(values)
+}

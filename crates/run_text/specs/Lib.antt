@@ -1,4 +1,0 @@
-pub mod Examples
-pub mod Line
-pub mod Pieces
-pub mod Text
