@@ -139,7 +139,7 @@ pub fn as_member(s: Scope<'_>, enumeration: u16, v: &Value) -> u16
 }
 
 fn event_at(s: Scope<'_>, arguments: &[Value]) -> u16
-    ensures { result ≡ as_member_is (reading s.entry) s.machine.now.events (argument_of arguments.now 0) }
+    ensures { result ≡ as_member_is (reading s.entry) (reading s.entry).machine.events (argument_of arguments.now 0) }
 {
     match arguments.get(0) {
         Some(v) => as_member(s, s.machine.events, v),

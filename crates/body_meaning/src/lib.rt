@@ -17,8 +17,8 @@ mod thing;
 pub use bound::{bind, thing_bound, thing_in, with_entry, with_tbe};
 pub use call_numbers::{changes_receiver, plain_call, write_callback};
 pub use called::{
-    as_member, called_on, indexed_on, permission_called, reference_at, thing_of, trigger_of, value_call,
-    value_in, with_receiver,
+    as_member, called_on, indexed_on, permission_called, reference_at, thing_of, trigger_of,
+    value_call, value_in, with_receiver,
 };
 pub use calls::Numbered;
 pub use frame::{About, Bound, Flow, Frame};

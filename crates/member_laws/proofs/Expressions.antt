@@ -404,20 +404,20 @@ module _ (s : Reading) (controllers : ℕ) (kept : List Value) (is : ReadingWith
       cond_both (nat_lt k (length e.members)) k 0 (IsMember E enumeration)
       (λ test. is_member E enumeration k e there (ltb-true k (length e.members) test)) (λ _. zero_member E enumeration)
 
-  pub member_within : (enumeration : ℕ) (v : Value) → IsMember E enumeration (as_member s enumeration v)
-  member_within enumeration (plain.Enum number k) =
+  pub as_member_within : (enumeration : ℕ) (v : Value) → IsMember E enumeration (as_member s enumeration v)
+  as_member_within enumeration (plain.Enum number k) =
       cond_both (number == enumeration) (member_among k (slice_get s.symbols.enumerations number)) 0 (IsMember E enumeration)
       (λ test. let same : number ≡ enumeration = eqb-true number enumeration test in
       subst (λ (n : ℕ). IsMember E enumeration (member_among k (slice_get s.symbols.enumerations n))) (sym same) (among_within enumeration k (slice_get s.symbols.enumerations enumeration) refl))
       (λ _. zero_member E enumeration)
-  member_within enumeration (plain.Bool x) = zero_member E enumeration
-  member_within enumeration (plain.Int x) = zero_member E enumeration
-  member_within enumeration (plain.Addr x) = zero_member E enumeration
-  member_within enumeration (plain.Machine x) = zero_member E enumeration
-  member_within enumeration (plain.Dest x) = zero_member E enumeration
-  member_within enumeration (plain.Block x) = zero_member E enumeration
-  member_within enumeration (plain.Entry x) = zero_member E enumeration
-  member_within enumeration (plain.Tbe x) = zero_member E enumeration
+  as_member_within enumeration (plain.Bool x) = zero_member E enumeration
+  as_member_within enumeration (plain.Int x) = zero_member E enumeration
+  as_member_within enumeration (plain.Addr x) = zero_member E enumeration
+  as_member_within enumeration (plain.Machine x) = zero_member E enumeration
+  as_member_within enumeration (plain.Dest x) = zero_member E enumeration
+  as_member_within enumeration (plain.Block x) = zero_member E enumeration
+  as_member_within enumeration (plain.Entry x) = zero_member E enumeration
+  as_member_within enumeration (plain.Tbe x) = zero_member E enumeration
 
   permission_within : (m : MachineSymbols) (v : Value) → All (IsMember E 1) m.permissions → IsWithin E (permission_of m v)
   permission_within m v all = by (slice_get m.permissions (member v)) (All-found (IsMember E 1) m.permissions (member v) all)
@@ -439,7 +439,7 @@ module _ (s : Reading) (controllers : ℕ) (kept : List Value) (is : ReadingWith
   free_stays : (text : List ℕ) (arguments : List Value) → AreWithin E arguments → Things-stay (free_call s text arguments)
   unfolding free_call
   free_stays text arguments within =
-      cond_stays B (bytes_eq text (codes "trigger")) (ends (thing.Trigger (trigger_of s arguments))) (plain_or s text arguments (plain_call text)) (ends_stays B (member_within s.machine.events (argument arguments 0))) (plain_stays text arguments (plain_call text) (plain_small text) within)
+      cond_stays B (bytes_eq text (codes "trigger")) (ends (thing.Trigger (trigger_of s arguments))) (plain_or s text arguments (plain_call text)) (ends_stays B (as_member_within s.machine.events (argument arguments 0))) (plain_stays text arguments (plain_call text) (plain_small text) within)
 
   -- calls of functions that answer what is within the bounds
   abbrev pub Calls-stay : Calls → Type 0

@@ -39,7 +39,7 @@ use Rattle.member_laws.proofs.Bodies.{AnswersWithin, AsksWithin, EndsWithin, Sta
 use Rattle.member_laws.proofs.Reading.{FlowWithin, ReadingWithin, TransitionWithin, bounds_of, extent_of}
 use Rattle.member_laws.proofs.Scan.{NoteWithin, ScanWithin, StopWithin}
 use Rattle.member_laws.proofs.Acts.{does_keeps}
-use Rattle.member_laws.proofs.Expressions.{member_within, zero_member}
+use Rattle.member_laws.proofs.Expressions.{as_member_within, zero_member}
 use Rattle.member_laws.proofs.Mail.{again_keeps}
 use Rattle.member_laws.proofs.Statements.{block_done_stays, calls_stay, no_names}
 use Rattle.member_laws.proofs.Stay.{Stay, act_stays, and_stays, done_stays, either_stays, ends_stays, found_stays, then_stays}
@@ -144,7 +144,7 @@ module _ (s : Reading) (controllers : ℕ) (kept : List Value) (is : ReadingWith
   read_by a None = act_stays Bs (act.State (line_of a.address)) tt
   read_by a (Some k) =
       then_stays Bs (calls_stay s controllers kept is k (arguments_for s.machine a 0 (get_state_arguments s.machine)) (arguments_within a 0 (get_state_arguments s.machine) (zero_member Es s.machine.states)))
-      (λ t _. ends_stays Bs (member_within s controllers kept is s.machine.states (value_in t)))
+      (λ t _. ends_stays Bs (as_member_within s controllers kept is s.machine.states (value_in t)))
 
   set_stays : (a : About) (next : ℕ) (function : Option ℕ) → Of-state next → Stay Bs Nothing-asked (state_set s a next function)
   set_stays a next None here = done_stays Bs (act.SetState (line_of a.address) next) here
