@@ -34,3 +34,6 @@ on-requires-clause-fits g c =
     let place : Place Ctl = record { controller = ctl_in h; finished = false; holder = Some c.args.worker } in
     may-begin g.D.Driver.drive g.D.Driver.least v c.args.worker h c.requires lawful run.0 run.1
     (c.controllers_fit.ensures (meaning_of v.trees) (setting_in v) (c.meanings_are_lawful.ensures v.trees) lawful v.history run.0 v.journal run.1 h.controller place here.place)
+
+pub returns : goal.returns
+returns g c = c.on.ensures

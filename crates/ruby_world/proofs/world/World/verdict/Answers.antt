@@ -1,4 +1,3 @@
-use Rattle.std.proofs.Common.{rules}
 use Rattle.std.specs.Option.{option_copied}
 use Rattle.ruby_world.specs.Data.{view_of}
 use Rattle.ruby_world.proofs.ReadOff.{verdict-is}
@@ -9,4 +8,4 @@ returns g c =
     let w = c.self.inside in
     let facts = c.self.invariant in
     rw (← c.self.view_is)
-    (verdict-is g.D.Driver.drive (view_of g.D.Driver.opening w.plan w.topology w.limits w.state) facts.held w.state facts.kept.run (option_copied c.as_ref.result) (search rules))
+    (verdict-is g.D.Driver.drive (view_of g.D.Driver.opening w.plan w.topology w.limits w.state) facts.held w.state facts.kept.run (option_copied c.as_ref.result) c.as_ref.ensures.value)

@@ -1,0 +1,177 @@
+// The run of a row.
+ghost use Rattle.std.specs.Prelude.{◌≡◌, ◌≤◌, IfOk, IfSome, length};
+ghost use Rattle.ctl_face.specs.Fits.{last_cycle};
+ghost use Rattle.scripted_driver.specs.Script.{opening};
+ghost use Rattle.topology_fit.specs.FitsPlan.{FitsPlan};
+
+use crate::worlds::entries::write_entries;
+use crate::worlds::row::Row;
+use crate::worlds::script::requests_of;
+use ruby_base::{NoMemory, Text};
+use ruby_options::{Command, Options};
+use ruby_outside::{Got, Library, Sink};
+use ruby_topology::{TopoFault, Topology, read_topology};
+use ruby_world::{RunLimits, RunRecord, run_whole};
+use scripted_driver::Script;
+use slicc_front::{Front, front};
+use slicc_interpreter::Interpreted;
+use slicc_plan::{Plan, copy_plan};
+use std::alloc::Global;
+use topology_fit::topologies_fit;
+use trace_print::{RunText, write_rest};
+
+// The most bytes that the file of a topology may have, and that of a script.
+const FILE_LIMIT: u64 = 1_048_576;
+
+const SCRIPT_LIMIT: u64 = 16_777_216;
+
+// The options of a run with these bounds.
+fn options_of(alloc: Global, limits: &RunLimits) -> Options
+    ensures { result.cycles ≡ limits.now.cycles }
+{
+    Options {
+        command: Command::Run,
+        protocol: Text::new(alloc),
+        topology: Text::new(alloc),
+        count: 0,
+        seed: limits.seed,
+        checks: 1,
+        lines: 1,
+        cycles: limits.cycles,
+        workers: 0,
+        trace: true,
+        deadlock: 1,
+        limit: limits.limit,
+    }
+}
+
+// The bytes of a file, if it is there and has no more than so many.
+fn bytes_of<L: Library>(library: &mut L, file: &str, limit: u64) -> Option<Text>
+    ensures { IfSome result (λ bytes. length bytes ≤ limit) }
+{
+    match library.read(file, limit) {
+        Got::Bytes(bytes) if bytes.len() as u64 <= limit => Some(bytes),
+        _ => None,
+    }
+}
+
+// The topology that a file says.
+fn topology_of(alloc: Global, bytes: &[u8], plan: &Plan) -> Result<Topology, TopoFault>
+    requires { length bytes.now ≤ 1048576 }
+    ensures { IfOk result (λ topology. FitsPlan plan.now topology) }
+{
+    topologies_fit();
+    let _trees = plan.trees();
+    read_topology(alloc, bytes, plan)
+}
+
+// The driver of the script in a file's bytes.
+fn script_of(alloc: Global, bytes: &[u8]) -> Result<Script, NoMemory>
+    ensures { IfOk result (λ script. opening script ≡ script) }
+{
+    let text = str::from_utf8(bytes).unwrap_or("");
+    Ok(Script::new(requests_of(alloc, text)?))
+}
+
+fn write_record<S: Sink>(
+    alloc: Global,
+    sink: &mut S,
+    record: &RunRecord,
+    whole: bool,
+) -> Result<bool, NoMemory> {
+    let names = &record.topology.names;
+    if whole && !write_entries(alloc, sink, &record.plan, names, record.journal.as_slice())? {
+        return Ok(false);
+    }
+    let rest = RunText {
+        plan: &record.plan,
+        names,
+        finals: &record.finals,
+        account: &record.account,
+        verdict: &record.verdict,
+    };
+    Ok(write_rest(sink, &rest))
+}
+
+// The run of a plan over a topology.
+fn run_of(
+    alloc: Global,
+    limits: &RunLimits,
+    plan: Plan,
+    topology: Topology,
+    script: Script,
+) -> Result<RunRecord, NoMemory>
+    requires cycles { limits.now.cycles ≤ last_cycle }
+    requires fits { FitsPlan plan topology }
+    requires opening { opening script ≡ script }
+{
+    let protocol = Interpreted::new(copy_plan(&plan)?);
+    run_whole(
+        alloc,
+        &protocol,
+        plan,
+        topology,
+        options_of(alloc, limits),
+        script,
+    )
+}
+
+// The run of a plan over the topology that a file's bytes say.
+fn write_over<S: Sink>(
+    alloc: Global,
+    sink: &mut S,
+    row: &Row<'_>,
+    plan: Plan,
+    bytes: &[u8],
+    script: Script,
+) -> Result<bool, NoMemory>
+    requires cycles { row.now.limits.cycles ≤ last_cycle }
+    requires length { length bytes.now ≤ 1048576 }
+    requires opening { opening script ≡ script }
+{
+    match topology_of(alloc, bytes, &plan) {
+        Ok(topology) => {
+            let record = run_of(alloc, &row.limits, plan, topology, script)?;
+            write_record(alloc, sink, &record, row.whole)
+        }
+        Err(_) => Ok(false),
+    }
+}
+
+// The run of a protocol over these bytes of a topology's file, by this script.
+fn write_by<L: Library, S: Sink>(
+    alloc: Global,
+    library: &mut L,
+    sink: &mut S,
+    row: &Row<'_>,
+    topology: &[u8],
+    script: Script,
+) -> Result<bool, NoMemory>
+    requires cycles { row.now.limits.cycles ≤ last_cycle }
+    requires length { length topology.now ≤ 1048576 }
+    requires opening { opening script ≡ script }
+{
+    let name = Text::copied(alloc, row.protocol.as_bytes())?;
+    match front(alloc, library, &name) {
+        Front::Plan(plan) => write_over(alloc, sink, row, plan, topology, script),
+        _ => Ok(false),
+    }
+}
+
+/// Writes the run of a row, and answers whether it was written whole.
+pub(crate) fn write_run<L: Library, S: Sink>(
+    alloc: Global,
+    library: &mut L,
+    sink: &mut S,
+    row: &Row<'_>,
+) -> Result<bool, NoMemory>
+    requires { row.now.limits.cycles ≤ last_cycle }
+{
+    let topology = bytes_of(library, row.topology, FILE_LIMIT);
+    let script = bytes_of(library, row.script, SCRIPT_LIMIT);
+    let (Some(topology), Some(script)) = (topology, script) else {
+        return Ok(false);
+    };
+    let script = script_of(alloc, script.as_slice())?;
+    write_by(alloc, library, sink, row, topology.as_slice(), script)
+}
