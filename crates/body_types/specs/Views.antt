@@ -10,7 +10,7 @@ use Rattle.declared_types.specs.Lent.{type_of}
 use Rattle.body_types.specs.declared.meaning.Meaning.{Meaning}
 use Rattle.body_types.specs.declared.meaning.Meaning.TheVariants.{Value, NoLine, BareLine, NewLine, Incoming, Outgoing, Table, InPort, OutPort, Nothing, Unknown}
 use Rattle.body_types.specs.declared.meaning.Wanted.{Wanted}
-use Rattle.body_types.specs.declared.meaning.Wanted.TheVariants.{Anything, AnyValue, OneOf, AnyLine, OnlyNoLine, Comparable, NewLineOf, TableOf, AnyInPort, AnyOutPort}
+use Rattle.body_types.specs.declared.meaning.Wanted.TheVariants.{Anything, AnyValue, OneOf, AnyLine, OnlyNoLine, Comparable, NewLineOf, AddressOrLineOf, TableOf, AnyInPort, AnyOutPort}
 use Rattle.body_types.specs.declared.meaning.Written.{Written}
 use Rattle.body_types.specs.declared.meaning.Written.TheVariants.{Local, Field, NoPlace}
 
@@ -38,6 +38,7 @@ wanted_of AnyLine = meaning.any_line
 wanted_of OnlyNoLine = meaning.only_no_line
 wanted_of Comparable = meaning.comparable
 wanted_of (NewLineOf t) = meaning.new_line_of (type_if t)
+wanted_of (AddressOrLineOf t) = meaning.address_or_line_of (type_if t)
 wanted_of (TableOf b) = meaning.table_of b
 wanted_of AnyInPort = meaning.any_in_port
 wanted_of AnyOutPort = meaning.any_out_port

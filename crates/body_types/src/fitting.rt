@@ -143,6 +143,9 @@ fn value_fits<'a>(lines: Lines<'a>, wanted: Wanted<'a>, t: KnownType<'a>) -> boo
     match wanted {
         Wanted::Anything | Wanted::AnyValue => true,
         Wanted::OneOf(u, w) => agrees_if(t, u) || agrees_if(t, w),
+        Wanted::AddressOrLineOf(line) => {
+            agree(KnownType::BuiltIn(BuiltInType::Address), t) || agrees_if(t, line)
+        }
         Wanted::AnyLine => is_line(lines, t),
         Wanted::Comparable => is_comparable(lines, t),
         _ => false,
@@ -154,7 +157,11 @@ fn no_line_fits<'a>(lines: Lines<'a>, wanted: Wanted<'a>) -> bool
     ensures { result ≡ no_line_fits_of lines.entry.machine.now (wanted_of wanted.entry) }
 {
     match wanted {
-        Wanted::Anything | Wanted::AnyValue | Wanted::AnyLine | Wanted::OnlyNoLine => true,
+        Wanted::Anything
+        | Wanted::AnyValue
+        | Wanted::AnyLine
+        | Wanted::OnlyNoLine
+        | Wanted::AddressOrLineOf(_) => true,
         Wanted::OneOf(t, u) => is_line_if(lines, t) || is_line_if(lines, u),
         _ => false,
     }

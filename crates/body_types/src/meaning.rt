@@ -43,6 +43,8 @@ pub enum Wanted<'a> {
     Comparable,
     /// `new` and the name of this type.
     NewLineOf(Option<KnownType<'a>>),
+    /// An address, or a reference to a line of this type, of which `OOD` is one also where there is no such type.
+    AddressOrLineOf(Option<KnownType<'a>>),
     /// A table of this type.
     TableOf(BuiltInType),
     AnyInPort,

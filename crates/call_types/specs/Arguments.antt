@@ -2,7 +2,7 @@
 use Rattle.std.specs.Prelude.{ℕ, ◌++◌, ◌∷◌, Option, None, Some, List, [], length}
 use Rattle.slicc_ast.specs.declared.tree.span.Span.{Span}
 use Rattle.slicc_plan.specs.declared.broken.Broken.{Broken}
-use Rattle.slicc_plan.specs.declared.broken.Rule.TheVariants.{WrongType}
+use Rattle.slicc_plan.specs.declared.broken.Rule.TheVariants.{NotThere}
 use Rattle.slicc_plan.specs.CallTypes.{Given, Typed, plain, wrong_argument, wrong_arguments, wrong_count}
 use Rattle.slicc_plan.specs.Environment.{Environment}
 use Rattle.slicc_plan.specs.Meanings.{Wanted, told, unknown}
@@ -21,4 +21,4 @@ after_arguments env at always perhaps given first =
 
 -- an index of what isn't indexed
 abbrev pub not_indexed : Span → Typed → Given → Typed
-not_indexed at on key = plain unknown (on.broken ++ told WrongType at ∷ (key.typed.broken ++ []))
+not_indexed at on key = plain unknown (on.broken ++ told NotThere at ∷ (key.typed.broken ++ []))

@@ -109,7 +109,7 @@ pub fn method_call<'a>(
 fn not_indexed<'a>(at: Span, on: Typed<'a>, key: Given<'a>) -> Typed<'a>
     ensures { found_of (typed_of result) ≡ found_of (not_indexed_of at (typed_of on.entry) (given_of key.entry)) }
 {
-    let told_of = earlier_of_two(Some(told(Rule::WrongType, at)), key.typed.broken);
+    let told_of = earlier_of_two(Some(told(Rule::NotThere, at)), key.typed.broken);
     plain(Meaning::Unknown, earlier_of_two(on.broken, told_of))
 }
 

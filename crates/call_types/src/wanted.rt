@@ -36,10 +36,9 @@ pub fn wanted_for<'a>(lines: Lines<'a>, on: Receiver, a: Argument) -> Option<Wan
         Argument::NewLine => {
             Some(Wanted::NewLineOf(type_of_line(lines, structure_on(lines, on))))
         }
-        Argument::AddressOrLine => Some(Wanted::OneOf(
-            Some(KnownType::BuiltIn(BuiltInType::Address)),
-            type_of_line(lines, structure_on(lines, on)),
-        )),
+        Argument::AddressOrLine => {
+            Some(Wanted::AddressOrLineOf(type_of_line(lines, structure_on(lines, on))))
+        }
         Argument::CacheLine => Some(line_wanted(type_of_line(lines, lines.entry))),
         Argument::TbeLine => Some(line_wanted(type_of_line(lines, lines.tbe))),
         Argument::OwnCacheLine => own_line(type_of_line(lines, lines.entry)),

@@ -17,14 +17,14 @@ use Rattle.slicc_ast.specs.declared.tree.declaration.Structure.{Structure}
 use Rattle.slicc_plan.specs.declared.broken.Broken.{Broken}
 use Rattle.slicc_plan.specs.declared.broken.Rule.TheVariants.{NotThere, NotAllowedHere, NotWritable, WrongCount, WrongType}
 use Rattle.slicc_plan.specs.declared.built_in.BuiltInType.{BuiltInType}
-use Rattle.slicc_plan.specs.declared.built_in.BuiltInType.TheVariants.{Address, NetDest, DataBlock, Cache, Directory, TbeTable, Sequencer}
+use Rattle.slicc_plan.specs.declared.built_in.BuiltInType.TheVariants.{NetDest, DataBlock, Cache, Directory, TbeTable, Sequencer}
 use Rattle.slicc_plan.specs.Buffers.{listed}
 use Rattle.slicc_plan.specs.BuiltInCalls.{Receiver, in_port as port_receiver, cache, directory, tbe_table, net_dest, data_block, sequencer, entry, nothing as no_receiver, Argument, value_of, new_line as new_line_argument, address_or_line, cache_line, tbe_line, own_cache_line, own_tbe_line, event, state_of, Answer, no_value, answered, line, Change, no_change, of_receiver, of_block, of_lines, Call, calls, permission_call, permission_reading}
 use Rattle.slicc_plan.specs.Declarations.{Declaration, function, within, first_named, machine_declarations, machines_of}
 use Rattle.slicc_plan.specs.Environment.{Bound, Environment, is_allowed, type_named, value_named, wrong_type_name}
 use Rattle.slicc_plan.specs.Limits.{is_events, is_states}
 use Rattle.slicc_plan.specs.Machines.{directory_structure, entry_structure, tbe_structure}
-use Rattle.slicc_plan.specs.Meanings.{Meaning, value, new_line, table, in_port, nothing, unknown, Wanted, one_of, only_no_line, new_line_of, answer_of_type, is_line_of, like_it, line_of_structure, of_built_in, told, unfit, unless, value_of_type}
+use Rattle.slicc_plan.specs.Meanings.{Meaning, value, new_line, table, in_port, nothing, unknown, Wanted, one_of, only_no_line, new_line_of, address_or_line_of, answer_of_type, is_line_of, like_it, line_of_structure, of_built_in, told, unfit, unless, value_of_type}
 use Rattle.slicc_plan.specs.Types.{KnownType, built_in, structured, declared_type, type_in}
 
 -- what of an expression may be written
@@ -82,7 +82,7 @@ structure_on m _ = None
 abbrev pub wanted_for : Machine → Receiver → Argument → List Wanted
 wanted_for m on (value_of b) = of_built_in b ∷ []
 wanted_for m on new_line_argument = new_line_of (type_of_line m (structure_on m on)) ∷ []
-wanted_for m on address_or_line = one_of (built_in Address ∷ listed (type_of_line m (structure_on m on))) ∷ []
+wanted_for m on address_or_line = address_or_line_of (type_of_line m (structure_on m on)) ∷ []
 wanted_for m on cache_line = line_wanted (type_of_line m (entry_structure m)) ∷ []
 wanted_for m on tbe_line = line_wanted (type_of_line m (tbe_structure m)) ∷ []
 wanted_for m on own_cache_line = listed (option_map (λ (t : KnownType). one_of (t ∷ [])) (type_of_line m (entry_structure m)))
@@ -272,7 +272,7 @@ method_call env at on called given =
     (found_method env at on called (call_named env.machine on.meaning called.text) given)
 
 abbrev pub found_index : Environment → Span → Typed → Option Call → List Given → Typed
-found_index env at on None given = plain unknown (on.broken ++ told WrongType at ∷ broken_in given)
+found_index env at on None given = plain unknown (on.broken ++ told NotThere at ∷ broken_in given)
 found_index env at on (Some c) given = built_in_call env at on c given
 
 abbrev pub index_call : Environment → Span → Typed → Given → Typed

@@ -12,7 +12,7 @@ use Rattle.slicc_plan.specs.declared.broken.Broken.{Broken}
 use Rattle.slicc_plan.specs.declared.broken.Rule.{Rule}
 use Rattle.slicc_plan.specs.declared.broken.Rule.TheVariants.{WrongType}
 use Rattle.slicc_plan.specs.declared.built_in.BuiltInType.{BuiltInType}
-use Rattle.slicc_plan.specs.declared.built_in.BuiltInType.TheVariants.{NetDest, Void}
+use Rattle.slicc_plan.specs.declared.built_in.BuiltInType.TheVariants.{Address, NetDest, Void}
 use Rattle.slicc_plan.specs.Buffers.{is_same_known, listed}
 use Rattle.slicc_plan.specs.BuiltIn.{Nature, number, boolean, address, enumeration, other_value, structure as structure_nature, table as table_nature, nothing as nothing_nature, is_table_nature, nature_of}
 use Rattle.slicc_plan.specs.Declarations.{within}
@@ -129,6 +129,8 @@ pub data Wanted : Type 0 where
   comparable : Wanted
   -- `new` and the name of this type
   new_line_of : Option KnownType → Wanted
+  -- an address, or a reference to a line of this type, of which `OOD` is one also where there is no such type
+  address_or_line_of : Option KnownType → Wanted
   -- a table of this type
   table_of : BuiltInType → Wanted
   any_in_port : Wanted
@@ -163,6 +165,7 @@ abbrev pub value_fits : Machine → Wanted → KnownType → Bool
 value_fits m anything t = true
 value_fits m any_value t = true
 value_fits m (one_of types) t = list_any (λ u. agree u t) types
+value_fits m (address_or_line_of line) t = list_any (λ u. agree u t) (built_in Address ∷ listed line)
 value_fits m any_line t = is_line m t
 value_fits m comparable t = is_comparable m t
 value_fits m _ t = false
@@ -173,6 +176,7 @@ no_line_fits m any_value = true
 no_line_fits m (one_of types) = list_any (is_line m) types
 no_line_fits m any_line = true
 no_line_fits m only_no_line = true
+no_line_fits m (address_or_line_of line) = true
 no_line_fits m _ = false
 
 abbrev pub bare_line_fits : Wanted → Bool
