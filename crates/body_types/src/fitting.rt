@@ -49,21 +49,12 @@ pub fn is_built_in(b: BuiltInType, t: KnownType) -> bool
     }
 }
 
-fn is_number(b: BuiltInType) -> bool
-    ensures { result ≡ is_number_nature (nature_of b) }
-{
-    match b {
-        BuiltInType::Int | BuiltInType::Cycles | BuiltInType::Tick => true,
-        _ => false,
-    }
-}
-
 // Whether the values of a type are numbers.
 fn has_numbers(t: KnownType) -> bool
     ensures { result ≡ is_number_nature (nature_in (type_of t.entry)) }
 {
     match t {
-        KnownType::BuiltIn(b) => is_number(b),
+        KnownType::BuiltIn(BuiltInType::Int | BuiltInType::Cycles | BuiltInType::Tick) => true,
         _ => false,
     }
 }

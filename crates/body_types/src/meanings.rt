@@ -1,7 +1,7 @@
 //! What declared types mean in a body, and what is told where something unwanted stands.
 ghost use Rattle.std.specs.Prelude.{◌≡◌};
 ghost use Rattle.std.specs.Option.{option_copied};
-ghost use Rattle.slicc_plan.specs.BuiltIn.{is_table_nature, nature_of};
+ghost use Rattle.slicc_plan.specs.BuiltIn.{is_table_nature};
 ghost use Rattle.slicc_plan.specs.Meanings.{answer_of_type as answer_of, incoming_of_type as incoming_of, is_answer_type as is_answer, is_message as is_message_of, is_object_type as is_object, like_it as like_it_of, line_of_structure as line_of, message_type as message_of, object_of_type as object_of, outgoing_of_type as outgoing_of, told as told_of, unfit as unfit_of, unless as unless_of, value_of_type as value_of};
 ghost use Rattle.slicc_plan.specs.Order.{first_of};
 ghost use Rattle.slicc_plan.specs.Types.{nature_in};
@@ -12,22 +12,10 @@ ghost use Rattle.body_types.specs.Views.{meaning_of, type_if, wanted_of};
 use crate::fitting::{fits, is_built_in, is_value};
 use crate::lines::Lines;
 use crate::meaning::{Meaning, Wanted};
+use built_ins::is_table;
 use declared_types::{KnownType, Scope};
 use slicc_ast::tree::{Span, Structure};
 use slicc_plan::{Broken, BuiltInType, Rule};
-
-fn is_table(b: BuiltInType) -> bool
-    ensures { result ≡ is_table_nature (nature_of b) }
-{
-    match b {
-        BuiltInType::Cache
-        | BuiltInType::Directory
-        | BuiltInType::TbeTable
-        | BuiltInType::Sequencer
-        | BuiltInType::Buffer => true,
-        _ => false,
-    }
-}
 
 /// Whether messages may be of this type.
 pub fn is_message(t: KnownType) -> bool

@@ -4,6 +4,7 @@ ghost use Rattle.std.specs.Option.{option_map};
 ghost use Rattle.slicc_plan.specs.Declarations.{within};
 ghost use Rattle.slicc_plan.specs.Types.{type_in};
 ghost use Rattle.slicc_plan.specs.Environment.{bound_as as bound_as_of, declared_value as declared_value_of, is_allowed as is_allowed_of, known_in_bodies as known_in_bodies_of, fixed as fixed_of, names_everywhere as names_everywhere_of, no_type as no_type_of, type_named as type_named_of, value_named as value_named_of, value_outside as value_outside_of, meaning_of_found, wrong_type_name as wrong_type_name_of, wrong_value_name as wrong_value_name_of, meaning_named as meaning_named_of, wrong_meaning as wrong_meaning_of};
+ghost use Rattle.slicc_plan.specs.Meanings.{message_type as message_of, object_of_type as object_of};
 ghost use Rattle.slicc_plan.specs.Order.{first_of};
 ghost use Rattle.declared_types.specs.Lent.{declaration_of, type_of};
 ghost use Rattle.body_types.specs.Environments.{IsEnvironment, bound_of, environment_of};
@@ -15,7 +16,7 @@ use crate::fitting::is_built_in;
 use crate::meaning::{Meaning, Wanted};
 use crate::meanings::{message_type, object_of_type, told, unfit};
 use declared_types::{Declared, KnownType};
-use slicc_ast::tree::{Name, Span};
+use slicc_ast::tree::{Name, Span, TypeName};
 use slicc_plan::{Broken, BuiltInType, Rule};
 
 /// The innermost of the names of a body that is written so, the outermost being first.
@@ -72,31 +73,41 @@ fn type_of_name<'a>(env: Environment<'_, 'a>, name: &[u8]) -> Option<KnownType<'
     env.scopes.type_in(env.scope, name)
 }
 
+// The value that a declaration with this name and type declares.
+fn object_named<'a>(env: Environment<'_, 'a>, name: &'a Name, kind: &TypeName) -> Bound<'a>
+    requires { IsEnvironment env }
+    ensures { bound_of result ≡ fixed_of name.entry.now.text (object_of env.entry.lines.machine.now (type_in env.entry.scopes.now.trees.now (within env.entry.lines.machine.now) kind.now.text)) }
+{
+    let t = type_of_name(env, kind.text.as_slice());
+    fixed(name.text.as_slice(), object_of_type(env.lines, t))
+}
+
+// The type of a port's messages.
+fn message_named<'a>(env: Environment<'_, 'a>, message: &TypeName) -> Option<KnownType<'a>>
+    requires { IsEnvironment env }
+    ensures { type_if result ≡ message_of (type_in env.entry.scopes.now.trees.now (within env.entry.lines.machine.now) message.now.text) }
+{
+    message_type(type_of_name(env, message.text.as_slice()))
+}
+
 // The value that a declaration of the machine declares.
 fn declared_value<'a>(env: Environment<'_, 'a>, d: Declared<'a>) -> Option<Bound<'a>>
     requires { IsEnvironment env }
     ensures { option_map bound_of result ≡ declared_value_of env.entry.scopes.now.trees.now env.entry.lines.machine.now (declaration_of d.entry) }
 {
-    let (name, meaning) = match d {
-        Declared::Parameter(p) => {
-            let t = type_of_name(env, p.kind.text.as_slice());
-            (&p.name, object_of_type(env.lines, t))
-        }
-        Declared::Object(o) => {
-            let t = type_of_name(env, o.kind.text.as_slice());
-            (&o.name, object_of_type(env.lines, t))
-        }
+    match d {
+        Declared::Parameter(p) => Some(object_named(env, &p.name, &p.kind)),
+        Declared::Object(o) => Some(object_named(env, &o.name, &o.kind)),
         Declared::InPort(p) => {
-            let t = type_of_name(env, p.message.text.as_slice());
-            (&p.name, Meaning::InPort(message_type(t)))
+            let t = message_named(env, &p.message);
+            Some(fixed(p.name.text.as_slice(), Meaning::InPort(t)))
         }
         Declared::OutPort(p) => {
-            let t = type_of_name(env, p.message.text.as_slice());
-            (&p.name, Meaning::OutPort(message_type(t)))
+            let t = message_named(env, &p.message);
+            Some(fixed(p.name.text.as_slice(), Meaning::OutPort(t)))
         }
-        _ => return None,
-    };
-    Some(fixed(name.text.as_slice(), meaning))
+        _ => None,
+    }
 }
 
 /// The value that a name stands for, where it stands for one.
@@ -164,9 +175,11 @@ pub fn wrong_type_name(env: Environment, name: &[u8], place: Span) -> Option<Bro
     requires { IsEnvironment env }
     ensures { result ≡ first_of (wrong_type_name_of (environment_of env.entry) name.now place) }
 {
-    match (value_named(env, name), type_named(env, name)) {
-        (Some(_), _) => Some(told(Rule::WrongType, place)),
-        (None, None) => Some(told(Rule::NotThere, place)),
-        (None, Some(_)) => None,
+    match value_named(env, name) {
+        Some(_) => Some(told(Rule::WrongType, place)),
+        None => match type_named(env, name) {
+            None => Some(told(Rule::NotThere, place)),
+            Some(_) => None,
+        },
     }
 }
