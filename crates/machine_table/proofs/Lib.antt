@@ -1,9 +1,5 @@
-mod FirstPlaces
-mod Lists
 mod Behind
-mod RowsOfPlaces
 mod NumbersOfNames
-mod Sharing
-mod OneRow
+mod AmongParts
 pub mod TablesOfMachines
 mod Summing

@@ -1,25 +1,28 @@
 -- Numbers that are found by names, as more names get theirs.
-use Rattle.std.proofs.Common.{◌≡◌, ℕ, zero, suc, ◌+◌, ◌<◌, ◌≤◌, Bool, true, false, cond, not, ◌||◌, Option, None, Some, is_some, List, [], ◌∷◌, ◌++◌, map, filter_map, length, take, position, slice_get, slice_index_or, option_and_then, nat_lt, eqb, refl, sym, ap, subst, ◌∙◌, arith, add-one, append-nil, bytes_eq}
+use Rattle.std.proofs.Common.{◌≡◌, ℕ, zero, suc, ◌+◌, ◌<◌, ◌≤◌, Bool, true, false, cond, not, ◌||◌, Option, None, Some, is_some, List, [], ◌∷◌, ◌++◌, map, filter, filter_map, flat_map, length, take, position, slice_get, slice_index_or, option_and_then, nat_lt, eqb, refl, sym, ap, subst, ◌∙◌, arith, add-one, append-nil, bytes_eq}
 use Rattle.std.specs.List.{cons_option, list_any, position_or_len}
 use Rattle.std.specs.Option.{option_or}
 use Rattle.std.proofs.Math.Seq.{take-suc}
 use Rattle.std.proofs.lemmas.List.{length-append, map-append}
-use Rattle.std.proofs.lemmas.List.Elements.{filter_map-append}
+use Rattle.std.proofs.lemmas.List.Elements.{filter-append, filter_map-append}
 use Rattle.std.proofs.lemmas.List.Folds.{position_or_len_push}
 use Rattle.std.proofs.lemmas.List.Quantifiers.{position-Some}
 use Rattle.std.proofs.lemmas.List.Sums.{prefix_len-le-length}
 use Rattle.std.proofs.lemmas.Slice.Eq.{bytes_eq-Decides}
-use Rattle.std.proofs.lemmas.Grind.{common_steps}
+use Rattle.std.proofs.lemmas.Grind.{common_steps, flat_map-append}
 use Rattle.slicc_ast.specs.declared.tree.name.Name.{Name}
+use Rattle.slicc_ast.specs.declared.tree.machine.Action.{Action}
+use Rattle.slicc_ast.specs.declared.tree.machine.Decl.{Decl}
+use Rattle.slicc_ast.specs.declared.tree.machine.Decl.TheVariants.{States as StatesDecl, Enumeration as EnumerationDecl, Structure as StructureDecl, OutPort as OutPortDecl, InPort as InPortDecl, Action as ActionDecl, Transition as TransitionDecl, Function as FunctionDecl, Object as ObjectDecl}
 use Rattle.slicc_ast.specs.declared.tree.machine.Machine.{Machine}
 use Rattle.slicc_ast.specs.declared.tree.machine.Transition.{Transition}
-use Rattle.slicc_plan.specs.Limits.{event_members, state_members}
+use Rattle.slicc_plan.specs.Limits.{event_members, is_action, state_members}
 use Rattle.slicc_plan.specs.Machines.{actions_of, each_once, names_in, next_number, transitions_of, written, written_of}
 use Rattle.machine_table.specs.declared.written.PartNumbers.{PartNumbers}
 use Rattle.slicc_plan.specs.Buffers.{listed}
-use Rattle.slicc_plan.specs.Declarations.{Declaration, is_named, is_text, name_of}
+use Rattle.slicc_plan.specs.Declarations.{Declaration, action, is_named, is_text, name_of, named_declarations}
 use Rattle.name_index.specs.Numbering.{is_name, number_among, with_name}
-use Rattle.machine_table.specs.Found.{Finding, found_by, found_in, found_next, found_with, written_with}
+use Rattle.machine_table.specs.Found.{Finding, actions_among, found_by, found_in, found_next, found_with, written_with}
 
 listed_option : {Y : Type 0} (o : Option Y) → cons_option o [] ≡ listed o
 listed_option None = refl
@@ -124,6 +127,39 @@ member_step f ms i m n text old new below is name e g =
     let len : length (map f (take i ms)) ≡ i = grind (arith, common_steps) in
     named_push (map f (take i ms)) (f m) n text old new name e (g ∙ ap (λ k. option_or old (cond (bytes_eq n.text text) (Some k) None)) (sym len))
     ∙ ap (position (is_named text)) (sym (map-append f (take i ms) (m ∷ []))) ∙ ap (λ xs. position (is_named text) (map f xs)) (sym taken)
+
+-- one more of a machine's declarations, where it is an action
+pub actions_step : (ds : List Decl) (i : ℕ) (d : Decl) → i < length ds → d ≡ slice_index_or ds i d → actions_among (take (i + 1) ds) ≡ actions_among (take i ds) ++ filter is_action (named_declarations d)
+actions_step ds i d below is =
+    let taken : take (i + 1) ds ≡ take i ds ++ d ∷ [] = rw (add-one, take-suc ds i d below) (ap (λ x. take i ds ++ x ∷ []) (sym is)) in
+    ap actions_among taken ∙ ap (filter is_action) (flat_map-append named_declarations (take i ds) (d ∷ []))
+    ∙ filter-append is_action (flat_map named_declarations (take i ds)) (flat_map named_declarations (d ∷ []))
+    ∙ ap (λ xs. actions_among (take i ds) ++ filter is_action xs) (append-nil (named_declarations d))
+
+no_action : (d : Decl) → ((a : Action) → d ≡ ActionDecl a → ⊥) → filter is_action (named_declarations d) ≡ []
+no_action (StatesDecl s) h = refl
+no_action (EnumerationDecl e) h = refl
+no_action (StructureDecl s) h = refl
+no_action (OutPortDecl p) h = refl
+no_action (InPortDecl p) h = refl
+no_action (ActionDecl a) h = absurd (h a refl)
+no_action (TransitionDecl t) h = refl
+no_action (FunctionDecl f) h = refl
+no_action (ObjectDecl o) h = refl
+
+pub action_skipped : (ds : List Decl) (i : ℕ) (d : Decl) → i < length ds → d ≡ slice_index_or ds i d → ((a : Action) → d ≡ ActionDecl a → ⊥) → actions_among (take (i + 1) ds) ≡ actions_among (take i ds)
+action_skipped ds i d below at none =
+    actions_step ds i d below at ∙ ap (λ xs. actions_among (take i ds) ++ xs) (no_action d none) ∙ append-nil (actions_among (take i ds))
+
+pub action_added : (ds : List Decl) (i k : ℕ) (d : Decl) (a : Action) (text : List ℕ) (old new : Option ℕ) → i < length ds → d ≡ slice_index_or ds i d → d ≡ ActionDecl a → k ≡ length (actions_among (take i ds)) → old ≡ position (is_named text) (actions_among (take i ds)) → new ≡ option_or old (cond (bytes_eq a.name.text text) (Some k) None) → new ≡ position (is_named text) (actions_among (take (i + 1) ds))
+action_added ds i k d a text old new below at is count e f =
+    named_push (actions_among (take i ds)) (action a) a.name text old new refl e (f ∙ ap (λ n. option_or old (cond (bytes_eq a.name.text text) (Some n) None)) count)
+    ∙ ap (position (is_named text)) (sym (actions_step ds i d below at ∙ ap (λ x. actions_among (take i ds) ++ filter is_action (named_declarations x)) is))
+
+pub action_counted : (ds : List Decl) (i k : ℕ) (d : Decl) (a : Action) → i < length ds → d ≡ slice_index_or ds i d → d ≡ ActionDecl a → k ≡ length (actions_among (take i ds)) → k + 1 ≡ length (actions_among (take (i + 1) ds))
+action_counted ds i k d a below at is count =
+    ap (λ n. n + 1) count ∙ sym (length-append (actions_among (take i ds)) (action a ∷ []))
+    ∙ ap length (sym (actions_step ds i d below at ∙ ap (λ x. actions_among (take i ds) ++ filter is_action (named_declarations x)) is))
 
 -- Names in transitions.
 

@@ -9,10 +9,13 @@ use Rattle.slicc_plan.specs.Buffers.{listed}
 use Rattle.slicc_plan.specs.Machines.{in_each_from, rows}
 use Rattle.slicc_plan.specs.Order.{first_after}
 use Rattle.slicc_plan.proofs.Firsts.{first_after-append}
-use Rattle.machine_table.specs.declared.table.Table.{Table}
-use Rattle.machine_table.specs.Answers.{answer_of}
+use Rattle.pair_table.specs.declared.table.Table.{Table}
+use Rattle.pair_table.specs.Tables.{answer_of}
 use Rattle.machine_table.specs.TablesOf.{rows_of_found}
-use Rattle.machine_table.proofs.OneRow.{both_empty}
+
+both_empty : {X : Type 0} (xs ys : List X) → xs ++ ys ≡ [] → (xs ≡ []) × (ys ≡ [])
+both_empty [] ys h = (refl, h)
+both_empty (x ∷ xs) ys h = cc
 
 pub in_each_from-push : (n : ℕ) (found : ℕ → Machine → List Broken) (ms : List Machine) (m : Machine) → in_each_from n found (ms ++ m ∷ []) ≡ in_each_from n found ms ++ found (n + length ms) m
 in_each_from-push n found [] m = append-nil (found n m) ∙ ap (λ k. found k m) (sym (add-zero n))

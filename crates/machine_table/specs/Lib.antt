@@ -1,6 +1,5 @@
 pub mod Answers
 pub mod Built
 pub mod Found
-pub mod PairPlaces
 pub mod Sums
 pub mod TablesOf

@@ -1,6 +1,6 @@
 -- What the tables of a protocol's machines answer: for a machine, a state and an event, by their numbers, the one row that is
 -- written for them, or none. There are tables where no state and event of a machine have two written transitions.
-use Rattle.std.specs.Prelude.{ℕ, ◌≡◌, ◌+◌, ◌*◌, Option, None, Some, List, [], cond, flat_map, nat_lt, slice_get}
+use Rattle.std.specs.Prelude.{ℕ, ◌≡◌, Option, None, Some, List, [], flat_map, slice_get}
 use Rattle.slicc_ast.specs.declared.tree.item.Tree.{Tree}
 use Rattle.slicc_ast.specs.declared.tree.machine.Machine.{Machine}
 use Rattle.slicc_plan.specs.declared.row.Row.{Row}
@@ -28,12 +28,3 @@ AreTablesOf trees tables =
 -- the machines of a file
 abbrev pub machines_in : Tree → List Machine
 machines_in t = flat_map machine_in (flat_map item_declarations t.items)
-
--- A table has a place for each pair of its machine, with a row there or none.
-
-abbrev pub inner : {X : Type 0} → Option (Option X) → Option X
-inner None = None
-inner (Some o) = o
-
-abbrev pub answer_at : ℕ → List (Option Row) → ℕ → ℕ → Option Row
-answer_at events rows state event = cond (nat_lt event events) (inner (slice_get rows (state * events + event))) None

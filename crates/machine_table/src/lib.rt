@@ -7,9 +7,6 @@ mod machine_list;
 mod making;
 mod numbers;
 mod parts;
-mod places;
-mod rows;
-mod shared;
 mod table;
 mod written;
 

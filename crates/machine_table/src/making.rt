@@ -1,44 +1,23 @@
 //! The tables of a protocol, made from its trees.
-ghost use Rattle.std.specs.Prelude.{◌≡◌, ◌<◌, ◌≤◌, ◌^◌, [], None, All, length, map, IfOk};
+ghost use Rattle.std.specs.Prelude.{◌≡◌, [], None, map, IfOk};
 ghost use Rattle.slicc_plan.specs.Machines.{in_each_from, written_of};
 ghost use Rattle.slicc_plan.specs.Order.{first_after};
-ghost use Rattle.slicc_plan.specs.TwoTransitions.{shared_after, shared_pairs, shared_pairs_in};
-ghost use Rattle.machine_table.specs.PairPlaces.{IsAmong};
-ghost use Rattle.machine_table.specs.Answers.{AreRightUnlessShared, IsTableOf, answer};
+ghost use Rattle.slicc_plan.specs.TwoTransitions.{shared_pairs, shared_pairs_in};
+ghost use Rattle.pair_table.specs.Tables.{IsTableOf};
+ghost use Rattle.machine_table.specs.Answers.{AreRightUnlessShared, answer};
 ghost use Rattle.machine_table.specs.TablesOf.{AreTablesOf};
 ghost use Rattle.machine_table.specs.Built.{IsBuilt};
 
 use crate::by_name::kept_number;
 use crate::machine_list::machines;
 use crate::parts::{event_count, state_count};
-use crate::places::first_numbers;
-use crate::rows::table_rows;
-use crate::shared::first_shared;
-use crate::table::{Table, TableFault, Tables};
+use crate::table::{TableFault, Tables};
 use crate::written::written_transitions;
+use pair_table::{Table, table_of};
 use ruby_base::{NoMemory, Seq};
 use slicc_ast::tree::{Machine, Tree};
-use slicc_plan::{Broken, Written};
+use slicc_plan::Broken;
 use std::alloc::Global;
-
-fn table_of(
-    alloc: Global,
-    first: Option<Broken>,
-    number: u16,
-    ws: &[Written],
-    states: usize,
-    events: usize,
-) -> Result<(Option<Broken>, Table), NoMemory>
-    requires few { (states ≤ 2 ^ 16) × (events ≤ 2 ^ 16) × (length ws.now < 2 ^ 32) }
-    requires among { All (IsAmong states events) ws.now }
-    ensures first { IfOk result (λ r. r.0 ≡ first_after first (shared_after number [] ws.now)) }
-    ensures rows { IfOk result (λ r. shared_after number [] ws.now ≡ [] → IsTableOf ws.now r.1) }
-{
-    let firsts = first_numbers(alloc, ws, states, events)?;
-    let found = first_shared(alloc, first, number, ws, &firsts, states, events)?;
-    let rows = table_rows(alloc, ws, &firsts, states, events)?;
-    Ok((found, Table { events, rows }))
-}
 
 // The table of the machine of this number.
 fn machine_table(

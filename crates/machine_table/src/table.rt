@@ -1,16 +1,9 @@
-//! The table of a machine.
-ghost use Rattle.std.specs.Prelude.{◌≡◌, ◌≤◌, ◌^◌};
+//! The tables of the machines of a protocol.
+ghost use Rattle.std.specs.Prelude.{◌≡◌};
 
+use pair_table::Table;
 use ruby_base::Seq;
 use slicc_plan::{Row, Span};
-
-/// The rows of a machine, at the places of their pairs.
-#[derive(Drop)]
-pub struct Table {
-    pub(crate) events: usize,
-    pub(crate) rows: Seq<Option<Row>>,
-    ghost few: { events ≤ 2 ^ 16 },
-}
 
 /// The tables of a protocol's machines.
 #[derive(Drop)]
@@ -28,24 +21,6 @@ pub enum TableFault {
         second: Span,
     },
     NoMemory,
-}
-
-impl Table {
-    ghost use Rattle.std.specs.Option.{option_copied};
-    ghost use Rattle.machine_table.specs.TablesOf.{answer_at};
-
-    fn row(&self, state: u16, event: u16) -> Option<&Row>
-        ensures { option_copied result ≡ answer_at self.now.events self.now.rows state event }
-    {
-        let event = event as usize;
-        if event >= self.events {
-            return None;
-        }
-        match self.rows.get(state as usize * self.events + event) {
-            None => None,
-            Some(row) => row.as_ref(),
-        }
-    }
 }
 
 impl Tables {

@@ -1,5 +1,5 @@
 use Rattle.std.proofs.Common.{◌∙◌}
-use Rattle.machine_table.proofs.OneRow.{among_as}
+use Rattle.machine_table.proofs.AmongParts.{among_as}
 use Rattle.machine_table.proofs.making.machine_table.Goals as goal
 
 pub table_of-requires-clause-among : goal.table_of-requires-clause-among

@@ -3,7 +3,7 @@ use Rattle.slicc_plan.specs.Buffers.{listed}
 use Rattle.slicc_plan.specs.Machines.{in_each_from}
 use Rattle.slicc_plan.specs.Order.{first_after}
 use Rattle.slicc_plan.specs.TwoTransitions.{shared_pairs_in}
-use Rattle.machine_table.specs.Answers.{answer_of}
+use Rattle.pair_table.specs.Tables.{answer_of}
 use Rattle.machine_table.specs.TablesOf.{rows_of_found}
 use Rattle.machine_table.proofs.making.tables_of.Given as goal
 

@@ -1,6 +1,0 @@
-use Rattle.std.proofs.Common.{◌≡◌, take}
-use Rattle.machine_table.specs.PairPlaces.{least_at}
-use Rattle.machine_table.proofs.places.least.Given as goal
-
-abbrev pub invariant-loop-place : goal.invariant-loop-place
-invariant-loop-place l = l.least ≡ least_at l.firsts (take l.place-index l.places) l.most

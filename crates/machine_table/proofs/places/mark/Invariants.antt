@@ -1,6 +1,0 @@
-use Rattle.std.proofs.Common.{◌≡◌, take}
-use Rattle.machine_table.specs.PairPlaces.{marked}
-use Rattle.machine_table.proofs.places.mark.Given as goal
-
-abbrev pub invariant-loop-place : goal.invariant-loop-place
-invariant-loop-place l = l.firsts.items ≡ marked l.number (take l.place-index l.places) l.initial.firsts.items

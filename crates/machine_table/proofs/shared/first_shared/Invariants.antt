@@ -1,7 +1,0 @@
-use Rattle.std.proofs.Common.{◌≡◌, [], take}
-use Rattle.slicc_plan.specs.Order.{first_after}
-use Rattle.slicc_plan.specs.TwoTransitions.{shared_after}
-use Rattle.machine_table.proofs.shared.first_shared.Given as goal
-
-abbrev pub invariant-loop-k : goal.invariant-loop-k
-invariant-loop-k l = l.found ≡ first_after l.fn.first (shared_after l.number [] (take l.k l.ws))

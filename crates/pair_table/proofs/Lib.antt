@@ -1,0 +1,5 @@
+mod FirstPlaces
+mod Lists
+mod RowsOfPlaces
+mod Sharing
+mod OneRow
