@@ -1,5 +1,5 @@
 -- The arms of the walk over expressions: what an expression does that has another one in a box, or arguments, where those have done theirs.
-use Rattle.std.proofs.Common.{◌≡◌, ◌∙◌, ◌++◌, ◌∷◌, [], ℕ, List, Option, Result, Ok, Err, refl, sym, ap, subst}
+use Rattle.std.proofs.Common.{◌≡◌, ◌∙◌, ◌++◌, ◌∷◌, [], ℕ, List, Option, Result, Ok, Err, sym, ap, subst}
 use Rattle.slicc_ast.specs.declared.tree.span.Span.{Span}
 use Rattle.slicc_ast.specs.declared.tree.name.Name.{Name}
 use Rattle.slicc_ast.specs.declared.tree.name.TypeName.{TypeName}
@@ -11,17 +11,20 @@ use Rattle.slicc_ast.specs.declared.tree.expression.Expr.TheViews as views
 use Rattle.ruby_value.specs.declared.value.Value.{Value}
 use Rattle.ctl_face.specs.declared.trouble.Trouble.{Trouble}
 use Rattle.ctl_face.specs.LocalView.{LocalView}
-use Rattle.acts.specs.Acting.{Acting, ends, ◌>>=◌}
+use Rattle.acts.specs.Acting.{Acting, ends, given, ◌>>=◌}
 use Rattle.acts.specs.DoesAs.{DoesAs, itself}
 use Rattle.acts.proofs.Walk.{does_ends_as, then_does, then_stops}
 use Rattle.body_meaning.specs.declared.frame.Frame.{Frame}
 use Rattle.body_meaning.specs.declared.thing.Thing.{Thing}
 use Rattle.body_meaning.specs.declared.thing.Thing.TheVariants as thing
 use Rattle.body_meaning.specs.Reading.{Reading}
-use Rattle.body_meaning.specs.Calls.{Calls, method_call, named_call}
+use Rattle.body_meaning.specs.Calls.{Calls, method_call}
 use Rattle.body_meaning.specs.Each.{each}
-use Rattle.body_meaning.specs.Expressions.{names_line, names_nothing, negation_of, not_so, operand_step, suffixed, value, value_step, values_of, with_value}
+use Rattle.body_meaning.specs.Expressions.{negation_of, operand_step, suffixed, value, value_step, values_of, with_value}
 use Rattle.body_meaning.specs.Things.{value_in}
+use Rattle.body_walk.specs.declared.operators.Unary.{Unary}
+use Rattle.body_walk.specs.declared.operators.Unary.TheVariants.{Not, Negate, IsValid, IsInvalid}
+use Rattle.body_walk.specs.Parts.{called, of_operand, operation, thing_made}
 use Rattle.body_walk.proofs.Forms.{suffixed_of_Method, value_of_Call, value_of_Cast, value_of_Group, value_of_IsInvalid, value_of_IsValid, value_of_Negate, value_of_Not, value_of_Operation, value_of_Postfix}
 
 -- Something, and then what comes of it.
@@ -38,53 +41,31 @@ module _ {A B : Type 0} (whole : Acting B) (p q : Acting A) (next : A → Acting
       (then_stops itself itself p next e u v w (subst (λ (r : Acting A). DoesAs itself r (Err e) u v) same first))
 
 module _ (s : Reading) (calls : Calls) (frame : Frame) where
-  pub not_does : (e inner got : Expr) (span : Span) (t r : Thing) (u v : LocalView) → e ≡ views.Not inner span → got ≡ inner
-      → DoesAs itself (value s calls frame got) (Ok t) u v → r ≡ not_so t → DoesAs itself (value s calls frame e) (Ok r) u v
-  not_does e inner got span t r u v is same first made =
-      through_does (value s calls frame e) (value s calls frame inner) (value s calls frame got) (λ t. ends (not_so t)) t (Ok r) u v v
-      (ap (value s calls frame) is ∙ value_of_Not s calls frame inner span) (ap (value s calls frame) same) first (does_ends_as itself (not_so t) r v made)
+  -- what is made of one operand
+  unary_does : (unary : Unary) (e inner got : Expr) (result : Result Thing Trouble) (u v : LocalView) → value s calls frame e ≡ value s calls frame inner >>= thing_made unary → got ≡ inner
+      → DoesAs itself (of_operand s calls frame unary got) result u v → DoesAs itself (value s calls frame e) result u v
+  unary_does unary e inner got result u v is same does =
+      subst (λ (p : Acting Thing). DoesAs itself p result u v) (sym (is ∙ ap (λ (x : Expr). value s calls frame x >>= thing_made unary) (sym same))) does
 
-  pub not_stops : (e inner got : Expr) (span : Span) (x : Trouble) (u v w : LocalView) → e ≡ views.Not inner span → got ≡ inner
-      → DoesAs itself (value s calls frame got) (Err x) u v → DoesAs itself (value s calls frame e) (Err x) u w
-  not_stops e inner got span x u v w is same first =
-      through_stops (value s calls frame e) (value s calls frame inner) (value s calls frame got) (λ t. ends (not_so t)) x u v w
-      (ap (value s calls frame) is ∙ value_of_Not s calls frame inner span) (ap (value s calls frame) same) first
+  pub not_does : (e inner got : Expr) (span : Span) (result : Result Thing Trouble) (u v : LocalView) → e ≡ views.Not inner span → got ≡ inner
+      → DoesAs itself (of_operand s calls frame Not got) result u v → DoesAs itself (value s calls frame e) result u v
+  unfolding thing_made given ◌>>=◌
+  not_does e inner got span result u v is = unary_does Not e inner got result u v (ap (value s calls frame) is ∙ value_of_Not s calls frame inner span)
 
-  pub negate_does : (e inner got : Expr) (span : Span) (t : Thing) (result : Result Thing Trouble) (u v w : LocalView) → e ≡ views.Negate inner span → got ≡ inner
-      → DoesAs itself (value s calls frame got) (Ok t) u v → DoesAs itself (negation_of t) result v w → DoesAs itself (value s calls frame e) result u w
-  negate_does e inner got span t result u v w is same first rest =
-      through_does (value s calls frame e) (value s calls frame inner) (value s calls frame got) negation_of t result u v w
-      (ap (value s calls frame) is ∙ value_of_Negate s calls frame inner span) (ap (value s calls frame) same) first rest
+  pub negate_does : (e inner got : Expr) (span : Span) (result : Result Thing Trouble) (u v : LocalView) → e ≡ views.Negate inner span → got ≡ inner
+      → DoesAs itself (of_operand s calls frame Negate got) result u v → DoesAs itself (value s calls frame e) result u v
+  unfolding thing_made negation_of
+  negate_does e inner got span result u v is = unary_does Negate e inner got result u v (ap (value s calls frame) is ∙ value_of_Negate s calls frame inner span)
 
-  pub negate_stops : (e inner got : Expr) (span : Span) (x : Trouble) (u v w : LocalView) → e ≡ views.Negate inner span → got ≡ inner
-      → DoesAs itself (value s calls frame got) (Err x) u v → DoesAs itself (value s calls frame e) (Err x) u w
-  negate_stops e inner got span x u v w is same first =
-      through_stops (value s calls frame e) (value s calls frame inner) (value s calls frame got) negation_of x u v w
-      (ap (value s calls frame) is ∙ value_of_Negate s calls frame inner span) (ap (value s calls frame) same) first
+  pub valid_does : (e inner got : Expr) (span : Span) (result : Result Thing Trouble) (u v : LocalView) → e ≡ views.IsValid inner span → got ≡ inner
+      → DoesAs itself (of_operand s calls frame IsValid got) result u v → DoesAs itself (value s calls frame e) result u v
+  unfolding thing_made given ◌>>=◌
+  valid_does e inner got span result u v is = unary_does IsValid e inner got result u v (ap (value s calls frame) is ∙ value_of_IsValid s calls frame inner span)
 
-  pub valid_does : (e inner got : Expr) (span : Span) (t r : Thing) (u v : LocalView) → e ≡ views.IsValid inner span → got ≡ inner
-      → DoesAs itself (value s calls frame got) (Ok t) u v → r ≡ names_line t → DoesAs itself (value s calls frame e) (Ok r) u v
-  valid_does e inner got span t r u v is same first made =
-      through_does (value s calls frame e) (value s calls frame inner) (value s calls frame got) (λ t. ends (names_line t)) t (Ok r) u v v
-      (ap (value s calls frame) is ∙ value_of_IsValid s calls frame inner span) (ap (value s calls frame) same) first (does_ends_as itself (names_line t) r v made)
-
-  pub valid_stops : (e inner got : Expr) (span : Span) (x : Trouble) (u v w : LocalView) → e ≡ views.IsValid inner span → got ≡ inner
-      → DoesAs itself (value s calls frame got) (Err x) u v → DoesAs itself (value s calls frame e) (Err x) u w
-  valid_stops e inner got span x u v w is same first =
-      through_stops (value s calls frame e) (value s calls frame inner) (value s calls frame got) (λ t. ends (names_line t)) x u v w
-      (ap (value s calls frame) is ∙ value_of_IsValid s calls frame inner span) (ap (value s calls frame) same) first
-
-  pub invalid_does : (e inner got : Expr) (span : Span) (t r : Thing) (u v : LocalView) → e ≡ views.IsInvalid inner span → got ≡ inner
-      → DoesAs itself (value s calls frame got) (Ok t) u v → r ≡ names_nothing t → DoesAs itself (value s calls frame e) (Ok r) u v
-  invalid_does e inner got span t r u v is same first made =
-      through_does (value s calls frame e) (value s calls frame inner) (value s calls frame got) (λ t. ends (names_nothing t)) t (Ok r) u v v
-      (ap (value s calls frame) is ∙ value_of_IsInvalid s calls frame inner span) (ap (value s calls frame) same) first (does_ends_as itself (names_nothing t) r v made)
-
-  pub invalid_stops : (e inner got : Expr) (span : Span) (x : Trouble) (u v w : LocalView) → e ≡ views.IsInvalid inner span → got ≡ inner
-      → DoesAs itself (value s calls frame got) (Err x) u v → DoesAs itself (value s calls frame e) (Err x) u w
-  invalid_stops e inner got span x u v w is same first =
-      through_stops (value s calls frame e) (value s calls frame inner) (value s calls frame got) (λ t. ends (names_nothing t)) x u v w
-      (ap (value s calls frame) is ∙ value_of_IsInvalid s calls frame inner span) (ap (value s calls frame) same) first
+  pub invalid_does : (e inner got : Expr) (span : Span) (result : Result Thing Trouble) (u v : LocalView) → e ≡ views.IsInvalid inner span → got ≡ inner
+      → DoesAs itself (of_operand s calls frame IsInvalid got) result u v → DoesAs itself (value s calls frame e) result u v
+  unfolding thing_made given ◌>>=◌
+  invalid_does e inner got span result u v is = unary_does IsInvalid e inner got result u v (ap (value s calls frame) is ∙ value_of_IsInvalid s calls frame inner span)
 
   pub group_does : (e inner got : Expr) (span : Span) (result : Result Thing Trouble) (u v : LocalView) → e ≡ views.Group inner span → got ≡ inner
       → DoesAs itself (value s calls frame got) result u v → DoesAs itself (value s calls frame e) result u v
@@ -112,43 +93,28 @@ module _ (s : Reading) (calls : Calls) (frame : Frame) where
       through_stops (value s calls frame e) (value s calls frame inner) (value s calls frame got) (λ t. each (suffixed s calls frame) t suffixes) x u v w
       (ap (value s calls frame) is ∙ value_of_Postfix s calls frame inner suffixes span) (ap (value s calls frame) same) first
 
-  pub operation_does : (e inner got : Expr) (others held : List Operand) (span : Span) (t : Thing) (left a : Value) (u v w : LocalView)
-      → e ≡ views.Operation inner others span → got ≡ inner → held ≡ others → DoesAs itself (value s calls frame got) (Ok t) u v → left ≡ value_in t
-      → DoesAs itself (each (operand_step s calls frame) left held) (Ok a) v w → DoesAs itself (value s calls frame e) (Ok (thing.Value a)) u w
-  operation_does e inner got others held span t left a u v w is same all first made rest =
-      through_does (value s calls frame e) (value s calls frame inner) (value s calls frame got) (λ x. each (operand_step s calls frame) (value_in x) others >>= (λ b. ends (thing.Value b))) t (Ok (thing.Value a)) u v w
-      (ap (value s calls frame) is ∙ value_of_Operation s calls frame inner others span) (ap (value s calls frame) same) first
-      (through_does _ (each (operand_step s calls frame) (value_in t) others) (each (operand_step s calls frame) left held) (λ b. ends (thing.Value b)) a (Ok (thing.Value a)) v w w
-      refl (ap (λ x. each (operand_step s calls frame) x held) made ∙ ap (each (operand_step s calls frame) (value_in t)) all) rest (does_ends_as itself (thing.Value a) (thing.Value a) w refl))
-
   pub operation_stops : (e inner got : Expr) (others : List Operand) (span : Span) (x : Trouble) (u v w : LocalView)
       → e ≡ views.Operation inner others span → got ≡ inner → DoesAs itself (value s calls frame got) (Err x) u v → DoesAs itself (value s calls frame e) (Err x) u w
   operation_stops e inner got others span x u v w is same first =
       through_stops (value s calls frame e) (value s calls frame inner) (value s calls frame got) (λ t. each (operand_step s calls frame) (value_in t) others >>= (λ b. ends (thing.Value b))) x u v w
       (ap (value s calls frame) is ∙ value_of_Operation s calls frame inner others span) (ap (value s calls frame) same) first
 
-  pub operation_stops_later : (e inner got : Expr) (others held : List Operand) (span : Span) (t : Thing) (left : Value) (x : Trouble) (u v w o : LocalView)
+  pub operation_does : (e inner got : Expr) (others held : List Operand) (span : Span) (t : Thing) (left : Value) (result : Result Thing Trouble) (u v w : LocalView)
       → e ≡ views.Operation inner others span → got ≡ inner → held ≡ others → DoesAs itself (value s calls frame got) (Ok t) u v → left ≡ value_in t
-      → DoesAs itself (each (operand_step s calls frame) left held) (Err x) v w → DoesAs itself (value s calls frame e) (Err x) u o
-  operation_stops_later e inner got others held span t left x u v w o is same all first made rest =
-      through_does (value s calls frame e) (value s calls frame inner) (value s calls frame got) (λ y. each (operand_step s calls frame) (value_in y) others >>= (λ b. ends (thing.Value b))) t (Err x) u v o
+      → DoesAs itself (operation s calls frame left held) result v w → DoesAs itself (value s calls frame e) result u w
+  operation_does e inner got others held span t left result u v w is same all first made rest =
+      through_does (value s calls frame e) (value s calls frame inner) (value s calls frame got) (λ x. operation s calls frame (value_in x) others) t result u v w
       (ap (value s calls frame) is ∙ value_of_Operation s calls frame inner others span) (ap (value s calls frame) same) first
-      (through_stops _ (each (operand_step s calls frame) (value_in t) others) (each (operand_step s calls frame) left held) (λ b. ends (thing.Value b)) x v w o
-      refl (ap (λ y. each (operand_step s calls frame) y held) made ∙ ap (each (operand_step s calls frame) (value_in t)) all) rest)
+      (subst (λ (xs : List Operand). DoesAs itself (operation s calls frame (value_in t) xs) result v w) all
+      (subst (λ (x : Value). DoesAs itself (operation s calls frame x held) result v w) made rest))
 
-  pub call_does : (e : Expr) (called : Name) (arguments : Args) (span : Span) (held : List Expr) (text : List ℕ) (vs : List Value) (result : Result Thing Trouble) (u v w : LocalView)
-      → e ≡ views.Call called arguments span → held ≡ arguments.items → text ≡ called.text
-      → DoesAs itself (values_of s calls frame held) (Ok vs) u v → DoesAs itself (named_call s calls text vs) result v w → DoesAs itself (value s calls frame e) result u w
-  call_does e called arguments span held text vs result u v w is all same first rest =
-      through_does (value s calls frame e) (values_of s calls frame arguments.items) (values_of s calls frame held) (named_call s calls called.text) vs result u v w
-      (ap (value s calls frame) is ∙ value_of_Call s calls frame called arguments span) (ap (values_of s calls frame) all) first
-      (subst (λ (name : List ℕ). DoesAs itself (named_call s calls name vs) result v w) same rest)
-
-  pub call_stops : (e : Expr) (called : Name) (arguments : Args) (span : Span) (held : List Expr) (x : Trouble) (u v w : LocalView)
-      → e ≡ views.Call called arguments span → held ≡ arguments.items → DoesAs itself (values_of s calls frame held) (Err x) u v → DoesAs itself (value s calls frame e) (Err x) u w
-  call_stops e called arguments span held x u v w is all first =
-      through_stops (value s calls frame e) (values_of s calls frame arguments.items) (values_of s calls frame held) (named_call s calls called.text) x u v w
-      (ap (value s calls frame) is ∙ value_of_Call s calls frame called arguments span) (ap (values_of s calls frame) all) first
+  pub call_does : (e : Expr) (name : Name) (arguments : Args) (span : Span) (held : List Expr) (text : List ℕ) (result : Result Thing Trouble) (u v : LocalView)
+      → e ≡ views.Call name arguments span → held ≡ arguments.items → text ≡ name.text
+      → DoesAs itself (called s calls frame text held) result u v → DoesAs itself (value s calls frame e) result u v
+  call_does e name arguments span held text result u v is all same does =
+      subst (λ (p : Acting Thing). DoesAs itself p result u v)
+      (sym (ap (value s calls frame) is ∙ value_of_Call s calls frame name arguments span
+      ∙ ap (called s calls frame name.text) (sym all) ∙ ap (λ (x : List ℕ). called s calls frame x held) (sym same))) does
 
   pub method_does : (t : Thing) (suffix : Suffix) (called : Name) (arguments : Args) (span : Span) (held : List Expr) (text : List ℕ) (vs : List Value) (result : Result Thing Trouble) (u v w : LocalView)
       → suffix ≡ Method called arguments span → held ≡ arguments.items → text ≡ called.text
@@ -166,6 +132,7 @@ module _ (s : Reading) (calls : Calls) (frame : Frame) where
       (ap (suffixed s calls frame t) is ∙ suffixed_of_Method s calls frame t called arguments span) (ap (values_of s calls frame) all) first
 
   -- one more argument
+
   pub value_added : (before vs : List Value) (e : Expr) (t : Thing) (u v : LocalView) → DoesAs itself (value s calls frame e) (Ok t) u v → vs ≡ before ++ value_in t ∷ []
       → DoesAs itself (value_step s calls frame before e) (Ok vs) u v
   unfolding with_value

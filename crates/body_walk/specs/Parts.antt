@@ -1,6 +1,47 @@
--- What the answers of a walk mean, under names by which its contracts cite it.
+-- What the answers of a walk mean, and parts of what expressions give, under names by which its contracts cite them. They say nothing of
+-- their own: what an expression gives stands in `body_meaning`, with these parts written out.
+use Rattle.std.specs.Prelude.{ℕ, not, Result, Ok, List, is_none, is_some}
+use Rattle.slicc_ast.specs.declared.tree.expression.Expr.{Expr}
+use Rattle.slicc_ast.specs.declared.tree.expression.Operand.{Operand}
+use Rattle.ruby_value.specs.declared.value.Value.{Value}
+use Rattle.ruby_value.specs.declared.value.Value.TheVariants as plain
+use Rattle.acts.specs.declared.body_fault.BodyFault.{BodyFault}
+use Rattle.acts.specs.Acting.{Acting, ends, given, ◌>>=◌}
+use Rattle.built_in_acts.specs.Values.{reference, truth}
 use Rattle.body_meaning.specs.declared.frame.Frame.{Frame}
+use Rattle.body_meaning.specs.declared.thing.Thing.{Thing}
+use Rattle.body_meaning.specs.declared.thing.Thing.TheVariants as thing
+use Rattle.body_meaning.specs.Calls.{Calls, named_call}
+use Rattle.body_meaning.specs.Each.{each}
+use Rattle.body_meaning.specs.Expressions.{operand_step, value, values_of}
+use Rattle.body_meaning.specs.Operators.{negated}
+use Rattle.body_meaning.specs.Reading.{Reading}
+use Rattle.body_meaning.specs.Things.{value_in}
+use Rattle.body_walk.specs.declared.operators.Unary.{Unary}
+use Rattle.body_walk.specs.declared.operators.Unary.TheVariants.{Not, Negate, IsValid, IsInvalid}
 
 -- of a call that changes what the body has of its own, and answers nothing
 abbrev pub left_frame : Frame → Unit {0} → Frame
 left_frame frame done = frame
+
+-- what is made of one operand
+abbrev pub value_made : Unary → Value → Result Value BodyFault
+value_made Not v = Ok (plain.Bool (not (truth v)))
+value_made Negate v = negated v
+value_made IsValid v = Ok (plain.Bool (is_some (reference v)))
+value_made IsInvalid v = Ok (plain.Bool (is_none (reference v)))
+
+unfoldable pub thing_made : Unary → Thing → Acting Thing
+thing_made unary t = given (value_made unary (value_in t)) >>= (λ v. ends (thing.Value v))
+
+module _ (s : Reading) (calls : Calls) (frame : Frame) where
+  abbrev pub of_operand : Unary → Expr → Acting Thing
+  of_operand unary operand = value s calls frame operand >>= thing_made unary
+
+  -- operators with their right sides, behind a value
+  abbrev pub operation : Value → List Operand → Acting Thing
+  operation left others = each (operand_step s calls frame) left others >>= (λ v. ends (thing.Value v))
+
+  -- a call without a receiver
+  abbrev pub called : List ℕ → List Expr → Acting Thing
+  called text arguments = values_of s calls frame arguments >>= named_call s calls text

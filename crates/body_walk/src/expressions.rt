@@ -5,14 +5,16 @@ ghost use Rattle.body_meaning.specs.Bodies.{calls_within};
 ghost use Rattle.body_meaning.specs.Each.{each};
 ghost use Rattle.body_meaning.specs.Expressions.{operand_step, suffixed, value, value_behind, values_of};
 ghost use Rattle.body_meaning.specs.Reading.{reading};
+ghost use Rattle.body_walk.specs.Parts.{called, of_operand, operation};
 
-use crate::operators::{joined_values, names_line, names_nothing, negation_of, not_so};
+use crate::operators::{Unary, joined_values, thing_made};
 use acts::{Local, Trouble, Value};
 use body_calls::{field_in, index, method_call, named_call, value_found, variable};
 use body_meaning::{Frame, Scope, Thing, member_value, settled, value_in};
 use ruby_base::Seq;
 use slicc_ast::tree::{Expr, Operand, Suffix};
 use std::alloc::Global;
+use std::mem;
 
 /// What an expression gives in a body that has this of its own.
 #[cycle(value)]
@@ -34,16 +36,15 @@ pub fn value<T: Local, F: Fn(u16, Seq<Value>, &mut T) -> Result<Thing, Trouble>>
     match e {
         Expr::Operation { first, others, .. } => {
             let t = value(alloc, s, depth, calls, frame, first.get(), local)?;
-            let v = operands(alloc, s, depth, calls, frame, value_in(t), others, local)?;
-            Ok(Thing::Value(v))
+            operation(alloc, s, depth, calls, frame, value_in(t), others, local)
         }
         Expr::Not(operand, _) => {
-            let t = value(alloc, s, depth, calls, frame, operand.get(), local)?;
-            Ok(not_so(t))
+            let operand = operand.get();
+            of_operand(alloc, s, depth, calls, frame, Unary::Not, operand, local)
         }
         Expr::Negate(operand, _) => {
-            let t = value(alloc, s, depth, calls, frame, operand.get(), local)?;
-            negation_of(t, local)
+            let operand = operand.get();
+            of_operand(alloc, s, depth, calls, frame, Unary::Negate, operand, local)
         }
         Expr::Postfix {
             value: inner,
@@ -65,24 +66,117 @@ pub fn value<T: Local, F: Fn(u16, Seq<Value>, &mut T) -> Result<Thing, Trouble>>
             name,
             arguments,
             ..
-        } => {
-            let vs = values_of(alloc, s, depth, calls, frame, &arguments.items, local)?;
-            named_call(alloc, s, depth, calls, &name.text, vs, local)
-        }
+        } => called(
+            alloc,
+            s,
+            depth,
+            calls,
+            frame,
+            &name.text,
+            &arguments.items,
+            local,
+        ),
         Expr::New(..) => Ok(Thing::Nothing),
         Expr::IsValid(inner, _) => {
-            let t = value(alloc, s, depth, calls, frame, inner.get(), local)?;
-            Ok(names_line(t))
+            let operand = inner.get();
+            of_operand(
+                alloc,
+                s,
+                depth,
+                calls,
+                frame,
+                Unary::IsValid,
+                operand,
+                local,
+            )
         }
         Expr::IsInvalid(inner, _) => {
-            let t = value(alloc, s, depth, calls, frame, inner.get(), local)?;
-            Ok(names_nothing(t))
+            let operand = inner.get();
+            of_operand(
+                alloc,
+                s,
+                depth,
+                calls,
+                frame,
+                Unary::IsInvalid,
+                operand,
+                local,
+            )
         }
         Expr::Cast { value: inner, .. } => {
             value(alloc, s, depth, calls, frame, inner.get(), local)
         }
         Expr::Group(inner, _) => value(alloc, s, depth, calls, frame, inner.get(), local),
     }
+}
+
+// What is made of an operand.
+#[cycle(value)]
+fn of_operand<T: Local, F: Fn(u16, Seq<Value>, &mut T) -> Result<Thing, Trouble>>(
+    alloc: Global,
+    s: Scope<'_>,
+    depth: u16,
+    calls: &F,
+    frame: &Frame,
+    unary: Unary,
+    operand: &Expr,
+    local: &mut T,
+) -> Result<Thing, Trouble>
+    requires callable { F.IsAlwaysCallable calls.now }
+    requires does { CallsDo T.view F.Fn calls.now (calls_within (reading s) depth) }
+    ensures { DoesAs itself
+        (of_operand (reading s.entry) (calls_within (reading s.entry) depth) frame.now unary
+        operand.now)
+        result (T.view local.old) (T.view local.new) }
+{
+    let t = value(alloc, s, depth, calls, frame, operand, local)?;
+    thing_made(unary, t, local)
+}
+
+// Operators with their right sides, behind a value, as an expression.
+#[cycle(value)]
+fn operation<T: Local, F: Fn(u16, Seq<Value>, &mut T) -> Result<Thing, Trouble>>(
+    alloc: Global,
+    s: Scope<'_>,
+    depth: u16,
+    calls: &F,
+    frame: &Frame,
+    left: Value,
+    others: &[Operand],
+    local: &mut T,
+) -> Result<Thing, Trouble>
+    requires callable { F.IsAlwaysCallable calls.now }
+    requires does { CallsDo T.view F.Fn calls.now (calls_within (reading s) depth) }
+    ensures { DoesAs itself
+        (operation (reading s.entry) (calls_within (reading s.entry) depth) frame.now left
+        others.now)
+        result (T.view local.old) (T.view local.new) }
+{
+    let v = operands(alloc, s, depth, calls, frame, left, others, local)?;
+    Ok(Thing::Value(v))
+}
+
+// A call without a receiver.
+#[cycle(value)]
+fn called<T: Local, F: Fn(u16, Seq<Value>, &mut T) -> Result<Thing, Trouble>>(
+    alloc: Global,
+    s: Scope<'_>,
+    depth: u16,
+    calls: &F,
+    frame: &Frame,
+    name: &[u8],
+    arguments: &[Expr],
+    local: &mut T,
+) -> Result<Thing, Trouble>
+    requires callable { F.IsAlwaysCallable calls.now }
+    requires does { CallsDo T.view F.Fn calls.now (calls_within (reading s) depth) }
+    ensures { DoesAs itself
+        (called (reading s.entry) (calls_within (reading s.entry) depth) frame.now name.now
+        arguments.now)
+        result (T.view local.old) (T.view local.new) }
+{
+    let vs = values_of(alloc, s, depth, calls, frame, arguments, local)?;
+    named_call(alloc, s, depth, calls, name, vs, local)
 }
 
 // An operator and its right side, behind a value.
@@ -137,7 +231,7 @@ fn operands<T: Local, F: Fn(u16, Seq<Value>, &mut T) -> Result<Thing, Trouble>>(
     Ok(left)
 }
 
-// A suffix of a thing.
+// A suffix of a thing, of which a call takes what it is on.
 #[cycle(value)]
 fn suffixed<T: Local, F: Fn(u16, Seq<Value>, &mut T) -> Result<Thing, Trouble>>(
     alloc: Global,
@@ -145,29 +239,31 @@ fn suffixed<T: Local, F: Fn(u16, Seq<Value>, &mut T) -> Result<Thing, Trouble>>(
     depth: u16,
     calls: &F,
     frame: &Frame,
-    t: Thing,
+    t: &mut Thing,
     suffix: &Suffix,
     local: &mut T,
 ) -> Result<Thing, Trouble>
     requires callable { F.IsAlwaysCallable calls.now }
     requires does { CallsDo T.view F.Fn calls.now (calls_within (reading s) depth) }
     ensures { DoesAs itself
-        (suffixed (reading s.entry) (calls_within (reading s.entry) depth) frame.now t suffix.now)
+        (suffixed (reading s.entry) (calls_within (reading s.entry) depth) frame.now t.old
+        suffix.now)
         result (T.view local.old) (T.view local.new) }
 {
     match suffix {
-        Suffix::Field(name, _) => field_in(s, &name.text, &t, local),
+        Suffix::Field(name, _) => field_in(s, &name.text, t, local),
         Suffix::Method {
             name,
             arguments,
             ..
         } => {
             let vs = values_of(alloc, s, depth, calls, frame, &arguments.items, local)?;
-            method_call(alloc, s, t, &name.text, vs, local)
+            let receiver = mem::replace(t, Thing::Nothing);
+            method_call(alloc, s, receiver, &name.text, vs, local)
         }
         Suffix::Index(key, _) => {
             let k = value(alloc, s, depth, calls, frame, key, local)?;
-            index(alloc, s, &t, value_in(k), local)
+            index(alloc, s, t, value_in(k), local)
         }
     }
 }
@@ -193,7 +289,7 @@ fn suffixed_all<T: Local, F: Fn(u16, Seq<Value>, &mut T) -> Result<Thing, Troubl
 {
     let mut t = first;
     for suffix in suffixes {
-        t = suffixed(alloc, s, depth, calls, frame, t, suffix, local)?;
+        t = suffixed(alloc, s, depth, calls, frame, &mut t, suffix, local)?;
     }
     Ok(t)
 }

@@ -1,42 +1,45 @@
-// What is made of the value of an operand, of two, and of a test for a line.
+// What is made of the value of an operand, and of two.
 ghost use Rattle.std.specs.Prelude.{◌≡◌};
 ghost use Rattle.acts.specs.Acting.{given};
 ghost use Rattle.acts.specs.DoesAs.{DoesAs, itself};
-ghost use Rattle.body_meaning.specs.Expressions.{names_line, names_nothing, negation_of, not_so};
 ghost use Rattle.body_meaning.specs.Operators.{joined};
+ghost use Rattle.body_walk.specs.Parts.{thing_made, value_made};
 
-use acts::{Local, Trouble, Value};
+use acts::{BodyFault, Local, Trouble, Value};
 use body_meaning::{Thing, joined, negated, value_in};
 use built_in_acts::{reference, truth};
 use slicc_ast::tree::Operator;
 
-/// The negation of a truth value.
-pub(crate) fn not_so(t: Thing) -> Thing
-    ensures { result ≡ not_so t }
-{
-    Thing::Value(Value::Bool(!truth(&value_in(t))))
+/// What an expression makes of the value of one operand.
+#[derive(Clone, Copy)]
+pub(crate) enum Unary {
+    /// The negation of a truth value.
+    Not,
+    /// The negation of a number.
+    Negate,
+    /// Whether it is a reference to a line.
+    IsValid,
+    /// Whether it is a reference to nothing.
+    IsInvalid,
 }
 
-/// Whether it is a reference to a line.
-pub(crate) fn names_line(t: Thing) -> Thing
-    ensures { result ≡ names_line t }
+fn value_made(unary: Unary, v: &Value) -> Result<Value, BodyFault>
+    ensures { result ≡ value_made unary v.now }
 {
-    Thing::Value(Value::Bool(reference(&value_in(t)).is_some()))
+    match unary {
+        Unary::Not => Ok(Value::Bool(!truth(v))),
+        Unary::Negate => negated(v),
+        Unary::IsValid => Ok(Value::Bool(reference(v).is_some())),
+        Unary::IsInvalid => Ok(Value::Bool(reference(v).is_none())),
+    }
 }
 
-/// Whether it is a reference to nothing.
-pub(crate) fn names_nothing(t: Thing) -> Thing
-    ensures { result ≡ names_nothing t }
+/// What is made of what an operand gives.
+#[tactic(auto, using(acts::proofs::Walk::walk_steps), unfolding(crate::specs::Parts::thing_made))]
+pub(crate) fn thing_made<T: Local>(unary: Unary, t: Thing, local: &T) -> Result<Thing, Trouble>
+    ensures { DoesAs itself (thing_made unary t) result (T.view local.now) (T.view local.now) }
 {
-    Thing::Value(Value::Bool(reference(&value_in(t)).is_none()))
-}
-
-/// The negation of a number.
-#[tactic(auto, using(acts::proofs::Walk::walk_steps), unfolding(body_meaning::specs::Expressions::negation_of))]
-pub(crate) fn negation_of<T: Local>(t: Thing, local: &T) -> Result<Thing, Trouble>
-    ensures { DoesAs itself (negation_of t) result (T.view local.now) (T.view local.now) }
-{
-    let v = negated(&value_in(t))?;
+    let v = value_made(unary, &value_in(t))?;
     Ok(Thing::Value(v))
 }
 

@@ -14,43 +14,50 @@ use acts::{BodyFault, Local, NoMemory, Trouble, Value, get, set};
 use body_meaning::{Frame, Place, Thing, thing_bound};
 use std::alloc::Global;
 
+fn copy_of(v: &Value) -> Result<Value, NoMemory>
+    ensures { IfOk result (λ copy. copy ≡ v.now) }
+{
+    Ok(v.clone()?)
+}
+
 fn value_of(t: &Thing) -> Result<Value, NoMemory>
     ensures { IfOk result (λ v. v ≡ value_in t.now) }
 {
     match t {
-        Thing::Value(v) => Ok(v.clone()?),
+        Thing::Value(v) => copy_of(v),
         _ => Ok(Value::Bool(false)),
     }
 }
 
-fn value_under(t: Option<&Thing>) -> Result<Option<Value>, NoMemory>
-    ensures { IfOk result (λ v. v ≡ option_map value_in (option_copied t.entry)) }
-{
-    match t {
-        Some(t) => Ok(Some(value_of(t)?)),
-        None => Ok(None),
-    }
-}
-
-fn part_of(k: u16, t: Option<&Thing>) -> Result<Option<Value>, NoMemory>
-    ensures { IfOk result (λ v. v ≡ part_of k (option_copied t.entry)) }
-{
-    match t {
-        Some(Thing::Message(_, fields)) => match fields.get(k) {
-            Some(v) => Ok(Some(v.clone()?)),
-            None => Ok(None),
-        },
-        _ => Ok(None),
-    }
-}
-
-// The value, which is to be there.
+// The value of what a name is, which is to be bound.
 #[tactic(auto, using(acts::proofs::Walk::walk_steps, crate::proofs::Ends::last_steps))]
-fn found<T: Local>(v: Option<Value>, local: &T) -> Result<Value, Trouble>
-    ensures { DoesAs itself (found own.Reference v) result (T.view local.now) (T.view local.now) }
+fn named_value<T: Local>(t: Option<&Thing>, local: &T) -> Result<Value, Trouble>
+    ensures { DoesAs itself (found own.Reference (option_map value_in (option_copied t.entry)))
+        result (T.view local.now) (T.view local.now) }
+{
+    match t {
+        Some(t) => Ok(value_of(t)?),
+        None => Err(Trouble::from(BodyFault::Reference)),
+    }
+}
+
+fn part_of(k: u16, t: Option<&Thing>) -> Option<&Value>
+    ensures { option_copied result ≡ part_of k (option_copied t.entry) }
+{
+    match t {
+        Some(Thing::Message(_, fields)) => fields.get(k),
+        _ => None,
+    }
+}
+
+// The field of a message, which is to be there.
+#[tactic(auto, using(acts::proofs::Walk::walk_steps, crate::proofs::Ends::last_steps))]
+fn part_value<T: Local>(v: Option<&Value>, local: &T) -> Result<Value, Trouble>
+    ensures { DoesAs itself (found own.Reference (option_copied v.entry)) result
+        (T.view local.now) (T.view local.now) }
 {
     match v {
-        Some(v) => Ok(v),
+        Some(v) => Ok(copy_of(v)?),
         None => Err(Trouble::from(BodyFault::Reference)),
     }
 }
@@ -61,14 +68,8 @@ pub fn at_place<T: Local>(frame: &Frame, p: &Place, local: &T) -> Result<Value, 
         (T.view local.now) }
 {
     match p {
-        Place::Named(name) => {
-            let v = value_under(thing_bound(&frame.names, name))?;
-            found(v, local)
-        }
-        Place::Part(name, k) => {
-            let v = part_of(*k, thing_bound(&frame.names, name))?;
-            found(v, local)
-        }
+        Place::Named(name) => named_value(thing_bound(&frame.names, name), local),
+        Place::Part(name, k) => part_value(part_of(*k, thing_bound(&frame.names, name)), local),
         Place::Line(r, k) => get(local, r, *k),
     }
 }

@@ -1,10 +1,13 @@
-use Rattle.std.proofs.Common.{◌∙◌, ◌++◌, ◌∷◌, [], ap}
+use Rattle.std.proofs.Common.{◌∙◌, ◌++◌, ◌∷◌, [], ap, subst}
 use Rattle.std.proofs.lemmas.Result.{err_from_is_err_and}
+use Rattle.acts.specs.DoesAs.{DoesAs, itself}
+use Rattle.body_meaning.specs.declared.thing.Thing.{Thing}
 use Rattle.body_meaning.specs.Bodies.{calls_within}
+use Rattle.body_meaning.specs.Calls.{method_call}
 use Rattle.body_meaning.specs.Each.{each}
 use Rattle.body_meaning.specs.Expressions.{operand_step, suffixed, value_step, values_of}
 use Rattle.body_meaning.specs.Reading.{reading}
-use Rattle.body_walk.proofs.Arms.{call_does, call_stops, cast_does, group_does, invalid_does, invalid_stops, method_does, method_stops, negate_does, negate_stops, not_does, not_stops, operation_does, operation_stops, operation_stops_later, postfix_does, postfix_stops, valid_does, valid_stops, value_added, value_not_added}
+use Rattle.body_walk.proofs.Arms.{call_does, cast_does, group_does, invalid_does, method_does, method_stops, negate_does, not_does, operation_does, operation_stops, postfix_does, postfix_stops, valid_does, value_added, value_not_added}
 use Rattle.body_walk.proofs.Each.{leads_ends, leads_more, leads_stops}
 use Rattle.body_walk.proofs.expressions.+value.Goals as goal
 
@@ -69,65 +72,41 @@ values_of-returns g t c = leads_ends (value_step (reading c.args.s) (calls_withi
 pub suffixed-returns-in_err-vs-in-Method : goal.suffixed-returns-in_err-vs-in-Method
 suffixed-returns-in_err-vs-in-Method g t c =
     let p = err_from_is_err_and c.from_residual.result c.from_residual.ensures.1 in
-    rw (p.1, p.2) (method_stops (reading c.args.s) (calls_within (reading c.args.s) c.args.depth) c.args.frame.now c.args.t c.args.suffix.now c.in-Method.name c.in-Method.arguments c.in-Method.span c.deref-in-Method.result.now _ _ _ _
+    rw (p.1, p.2) (method_stops (reading c.args.s) (calls_within (reading c.args.s) c.args.depth) c.args.frame.now c.args.t.now c.args.suffix.now c.in-Method.name c.in-Method.arguments c.in-Method.span c.deref-in-Method.result.now _ _ _ _
     c.in-Method.is c.deref-in-Method.ensures c.in_err-vs-in-Method.ensures)
 
 pub suffixed-returns-in_ok-vs-in-Method : goal.suffixed-returns-in_ok-vs-in-Method
 suffixed-returns-in_ok-vs-in-Method g t c =
-    method_does (reading c.args.s) (calls_within (reading c.args.s) c.args.depth) c.args.frame.now c.args.t c.args.suffix.now c.in-Method.name c.in-Method.arguments c.in-Method.span c.deref-in-Method.result.now c.deref-in-Method-2.result.now c.in_ok-vs-in-Method.vs c.method_call.result _ _ _
-    c.in-Method.is c.deref-in-Method.ensures c.deref-in-Method-2.ensures c.in_ok-vs-in-Method.ensures c.method_call.ensures
+    method_does (reading c.args.s) (calls_within (reading c.args.s) c.args.depth) c.args.frame.now c.args.t.now c.args.suffix.now c.in-Method.name c.in-Method.arguments c.in-Method.span c.deref-in-Method.result.now c.deref-in-Method-2.result.now c.in_ok-vs-in-Method.vs c.method_call.result _ _ _
+    c.in-Method.is c.deref-in-Method.ensures c.deref-in-Method-2.ensures c.in_ok-vs-in-Method.ensures
+    (subst (λ (x : Thing). DoesAs itself (method_call (reading c.args.s) x c.deref-in-Method-2.result.now c.in_ok-vs-in-Method.vs) c.method_call.result (g.T.Local.view c.values_of.new.local) (g.T.Local.view c.method_call.new.local))
+    c.replace-receiver.ensures.value c.method_call.ensures)
 
 pub value-returns-in_err-t-in-Operation : goal.value-returns-in_err-t-in-Operation
 value-returns-in_err-t-in-Operation g t c =
     let p = err_from_is_err_and c.from_residual.result c.from_residual.ensures.1 in
     rw (p.1, p.2) (operation_stops (reading c.args.s) (calls_within (reading c.args.s) c.args.depth) c.args.frame.now c.args.e.now c.in-Operation.first c.get.result.now c.in-Operation.others c.in-Operation.span _ _ _ _ c.in-Operation.is c.get.ensures c.in_err-t-in-Operation.ensures)
 
-pub value-returns-in_err-v-in-Operation : goal.value-returns-in_err-v-in-Operation
-value-returns-in_err-v-in-Operation g t c =
-    let p = err_from_is_err_and c.from_residual-in_err-v-in-Operation.result c.from_residual-in_err-v-in-Operation.ensures.1 in
-    rw (p.1, p.2) (operation_stops_later (reading c.args.s) (calls_within (reading c.args.s) c.args.depth) c.args.frame.now c.args.e.now c.in-Operation.first c.get.result.now c.in-Operation.others c.deref.result.now c.in-Operation.span c.in_ok-t-in-Operation.t c.value_in.result _ _ _ _ _
-    c.in-Operation.is c.get.ensures c.deref.ensures c.in_ok-t-in-Operation.ensures c.value_in.ensures c.in_err-v-in-Operation.ensures)
+pub value-returns-in_ok-t-in-Operation : goal.value-returns-in_ok-t-in-Operation
+value-returns-in_ok-t-in-Operation g t c =
+    operation_does (reading c.args.s) (calls_within (reading c.args.s) c.args.depth) c.args.frame.now c.args.e.now c.in-Operation.first c.get.result.now c.in-Operation.others c.deref.result.now c.in-Operation.span c.in_ok-t-in-Operation.t c.value_in.result c.operation.result _ _ _
+    c.in-Operation.is c.get.ensures c.deref.ensures c.in_ok-t-in-Operation.ensures c.value_in.ensures c.operation.ensures
 
-pub value-returns-in_ok-v-in-Operation : goal.value-returns-in_ok-v-in-Operation
-value-returns-in_ok-v-in-Operation g t c =
-    operation_does (reading c.args.s) (calls_within (reading c.args.s) c.args.depth) c.args.frame.now c.args.e.now c.in-Operation.first c.get.result.now c.in-Operation.others c.deref.result.now c.in-Operation.span c.in_ok-t-in-Operation.t c.value_in.result c.in_ok-v-in-Operation.v _ _ _
-    c.in-Operation.is c.get.ensures c.deref.ensures c.in_ok-t-in-Operation.ensures c.value_in.ensures c.in_ok-v-in-Operation.ensures
+pub value-returns-in-Not : goal.value-returns-in-Not
+value-returns-in-Not g t c =
+    not_does (reading c.args.s) (calls_within (reading c.args.s) c.args.depth) c.args.frame.now c.args.e.now c.in-Not.operand c.get-operand.result.now c.in-Not.field-1 c.of_operand.result _ _ c.in-Not.is c.get-operand.ensures c.of_operand.ensures
 
-pub value-returns-in_err-t-in-Not : goal.value-returns-in_err-t-in-Not
-value-returns-in_err-t-in-Not g t c =
-    let p = err_from_is_err_and c.from_residual-in_err-t-in-Not.result c.from_residual-in_err-t-in-Not.ensures.1 in
-    rw (p.1, p.2) (not_stops (reading c.args.s) (calls_within (reading c.args.s) c.args.depth) c.args.frame.now c.args.e.now c.in-Not.operand c.get-in-Not.result.now c.in-Not.field-1 _ _ _ _ c.in-Not.is c.get-in-Not.ensures c.in_err-t-in-Not.ensures)
+pub value-returns-in-Negate : goal.value-returns-in-Negate
+value-returns-in-Negate g t c =
+    negate_does (reading c.args.s) (calls_within (reading c.args.s) c.args.depth) c.args.frame.now c.args.e.now c.in-Negate.operand c.get-operand-in-Negate.result.now c.in-Negate.field-1 c.of_operand-in-Negate.result _ _ c.in-Negate.is c.get-operand-in-Negate.ensures c.of_operand-in-Negate.ensures
 
-pub value-returns-in_ok-t-in-Not : goal.value-returns-in_ok-t-in-Not
-value-returns-in_ok-t-in-Not g t c =
-    not_does (reading c.args.s) (calls_within (reading c.args.s) c.args.depth) c.args.frame.now c.args.e.now c.in-Not.operand c.get-in-Not.result.now c.in-Not.field-1 c.in_ok-t-in-Not.t c.not_so.result _ _ c.in-Not.is c.get-in-Not.ensures c.in_ok-t-in-Not.ensures c.not_so.ensures
+pub value-returns-in-IsValid : goal.value-returns-in-IsValid
+value-returns-in-IsValid g t c =
+    valid_does (reading c.args.s) (calls_within (reading c.args.s) c.args.depth) c.args.frame.now c.args.e.now c.in-IsValid.inner c.get-operand-in-IsValid.result.now c.in-IsValid.field-1 c.of_operand-in-IsValid.result _ _ c.in-IsValid.is c.get-operand-in-IsValid.ensures c.of_operand-in-IsValid.ensures
 
-pub value-returns-in_err-t-in-Negate : goal.value-returns-in_err-t-in-Negate
-value-returns-in_err-t-in-Negate g t c =
-    let p = err_from_is_err_and c.from_residual-in_err-t-in-Negate.result c.from_residual-in_err-t-in-Negate.ensures.1 in
-    rw (p.1, p.2) (negate_stops (reading c.args.s) (calls_within (reading c.args.s) c.args.depth) c.args.frame.now c.args.e.now c.in-Negate.operand c.get-in-Negate.result.now c.in-Negate.field-1 _ _ _ _ c.in-Negate.is c.get-in-Negate.ensures c.in_err-t-in-Negate.ensures)
-
-pub value-returns-in_ok-t-in-Negate : goal.value-returns-in_ok-t-in-Negate
-value-returns-in_ok-t-in-Negate g t c =
-    negate_does (reading c.args.s) (calls_within (reading c.args.s) c.args.depth) c.args.frame.now c.args.e.now c.in-Negate.operand c.get-in-Negate.result.now c.in-Negate.field-1 c.in_ok-t-in-Negate.t c.negation_of.result _ _ _ c.in-Negate.is c.get-in-Negate.ensures c.in_ok-t-in-Negate.ensures c.negation_of.ensures
-
-pub value-returns-in_err-t-in-IsValid : goal.value-returns-in_err-t-in-IsValid
-value-returns-in_err-t-in-IsValid g t c =
-    let p = err_from_is_err_and c.from_residual-in_err-t-in-IsValid.result c.from_residual-in_err-t-in-IsValid.ensures.1 in
-    rw (p.1, p.2) (valid_stops (reading c.args.s) (calls_within (reading c.args.s) c.args.depth) c.args.frame.now c.args.e.now c.in-IsValid.inner c.get-in-IsValid.result.now c.in-IsValid.field-1 _ _ _ _ c.in-IsValid.is c.get-in-IsValid.ensures c.in_err-t-in-IsValid.ensures)
-
-pub value-returns-in_ok-t-in-IsValid : goal.value-returns-in_ok-t-in-IsValid
-value-returns-in_ok-t-in-IsValid g t c =
-    valid_does (reading c.args.s) (calls_within (reading c.args.s) c.args.depth) c.args.frame.now c.args.e.now c.in-IsValid.inner c.get-in-IsValid.result.now c.in-IsValid.field-1 c.in_ok-t-in-IsValid.t c.names_line.result _ _ c.in-IsValid.is c.get-in-IsValid.ensures c.in_ok-t-in-IsValid.ensures c.names_line.ensures
-
-pub value-returns-in_err-t-in-IsInvalid : goal.value-returns-in_err-t-in-IsInvalid
-value-returns-in_err-t-in-IsInvalid g t c =
-    let p = err_from_is_err_and c.from_residual-in_err-t-in-IsInvalid.result c.from_residual-in_err-t-in-IsInvalid.ensures.1 in
-    rw (p.1, p.2) (invalid_stops (reading c.args.s) (calls_within (reading c.args.s) c.args.depth) c.args.frame.now c.args.e.now c.in-IsInvalid.inner c.get-in-IsInvalid.result.now c.in-IsInvalid.field-1 _ _ _ _ c.in-IsInvalid.is c.get-in-IsInvalid.ensures c.in_err-t-in-IsInvalid.ensures)
-
-pub value-returns-in_ok-t-in-IsInvalid : goal.value-returns-in_ok-t-in-IsInvalid
-value-returns-in_ok-t-in-IsInvalid g t c =
-    invalid_does (reading c.args.s) (calls_within (reading c.args.s) c.args.depth) c.args.frame.now c.args.e.now c.in-IsInvalid.inner c.get-in-IsInvalid.result.now c.in-IsInvalid.field-1 c.in_ok-t-in-IsInvalid.t c.names_nothing.result _ _ c.in-IsInvalid.is c.get-in-IsInvalid.ensures c.in_ok-t-in-IsInvalid.ensures c.names_nothing.ensures
+pub value-returns-in-IsInvalid : goal.value-returns-in-IsInvalid
+value-returns-in-IsInvalid g t c =
+    invalid_does (reading c.args.s) (calls_within (reading c.args.s) c.args.depth) c.args.frame.now c.args.e.now c.in-IsInvalid.inner c.get-operand-in-IsInvalid.result.now c.in-IsInvalid.field-1 c.of_operand-in-IsInvalid.result _ _ c.in-IsInvalid.is c.get-operand-in-IsInvalid.ensures c.of_operand-in-IsInvalid.ensures
 
 pub value-returns-in_err-t-in-Postfix : goal.value-returns-in_err-t-in-Postfix
 value-returns-in_err-t-in-Postfix g t c =
@@ -139,15 +118,10 @@ value-returns-in_ok-t-in-Postfix g t c =
     postfix_does (reading c.args.s) (calls_within (reading c.args.s) c.args.depth) c.args.frame.now c.args.e.now c.in-Postfix.inner c.get-in-Postfix.result.now c.in-Postfix.suffixes c.deref-in-Postfix.result.now c.in-Postfix.span c.in_ok-t-in-Postfix.t c.suffixed_all.result _ _ _
     c.in-Postfix.is c.get-in-Postfix.ensures c.deref-in-Postfix.ensures c.in_ok-t-in-Postfix.ensures c.suffixed_all.ensures
 
-pub value-returns-in_err-vs-in-Call : goal.value-returns-in_err-vs-in-Call
-value-returns-in_err-vs-in-Call g t c =
-    let p = err_from_is_err_and c.from_residual-in_err-vs-in-Call.result c.from_residual-in_err-vs-in-Call.ensures.1 in
-    rw (p.1, p.2) (call_stops (reading c.args.s) (calls_within (reading c.args.s) c.args.depth) c.args.frame.now c.args.e.now c.in-Call.name c.in-Call.arguments c.in-Call.span c.deref-in-Call.result.now _ _ _ _ c.in-Call.is c.deref-in-Call.ensures c.in_err-vs-in-Call.ensures)
-
-pub value-returns-in_ok-vs-in-Call : goal.value-returns-in_ok-vs-in-Call
-value-returns-in_ok-vs-in-Call g t c =
-    call_does (reading c.args.s) (calls_within (reading c.args.s) c.args.depth) c.args.frame.now c.args.e.now c.in-Call.name c.in-Call.arguments c.in-Call.span c.deref-in-Call.result.now c.deref-in-Call-2.result.now c.in_ok-vs-in-Call.vs c.named_call.result _ _ _
-    c.in-Call.is c.deref-in-Call.ensures c.deref-in-Call-2.ensures c.in_ok-vs-in-Call.ensures c.named_call.ensures
+pub value-returns-in-Call : goal.value-returns-in-Call
+value-returns-in-Call g t c =
+    call_does (reading c.args.s) (calls_within (reading c.args.s) c.args.depth) c.args.frame.now c.args.e.now c.in-Call.name c.in-Call.arguments c.in-Call.span c.deref-in-Call-2.result.now c.deref-in-Call.result.now c.called.result _ _
+    c.in-Call.is c.deref-in-Call-2.ensures c.deref-in-Call.ensures c.called.ensures
 
 pub value-returns-in-Cast : goal.value-returns-in-Cast
 value-returns-in-Cast g t c =
