@@ -2,13 +2,10 @@
 //! run over a topology's file, that file; it finds the answer, which may be a run, and then writes its text.
 #![tactic(auto)]
 
-mod find;
-mod laws;
 mod program;
-mod runs;
 mod top;
 
-pub use laws::{answers_are_one, clauses_follow};
+pub use call_meaning::{answers_are_one, clauses_follow};
 pub use program::ruby;
 pub use ruby_answers::{Answer, Done, exit_code};
 pub use ruby_options::{Command, Options};

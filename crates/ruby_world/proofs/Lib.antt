@@ -1,12 +1,1 @@
-pub mod ReadOff
-pub mod Holders
-pub mod Stays
-pub mod Openings
-pub mod Steps
-pub mod Adds
-pub mod Frames
-pub mod Progress
-pub mod Views
-pub mod HeldScans
-pub mod Ended
 pub mod WholeRuns

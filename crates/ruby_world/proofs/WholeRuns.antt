@@ -1,5 +1,5 @@
 -- A run from its opening to its record: nobody is held at the opening, and what the record says is of the driver that was given.
-use Rattle.std.proofs.Common.{◌≡◌, ℕ, Bool, false, ◌||◌, List, [], ◌∷◌, Result, Ok, Err, IfOk, Some, map, refl, sym, ◌∙◌, ap, subst}
+use Rattle.std.proofs.Common.{◌≡◌, ℕ, false, List, [], ◌∷◌, map, refl, sym, ◌∙◌, ap, subst}
 use Rattle.std.specs.List.{list_any}
 use Rattle.std.proofs.lemmas.Option.{same_Some}
 use Rattle.slicc_ast.specs.declared.tree.item.Tree.{Tree}
@@ -9,12 +9,12 @@ use Rattle.ruby_runs.specs.Rules.{Rules}
 use Rattle.ruby_runs.specs.Run.{IsRun, Ran}
 use Rattle.ruby_runs.specs.World.{World, is_held, opening, opening_place}
 use Rattle.ruby_topology.specs.declared.topology.Topology.{Topology}
-use Rattle.ruby_world.specs.declared.record.RunLimits.{RunLimits}
+use Rattle.world_events.specs.declared.limits.RunLimits.{RunLimits}
 use Rattle.run_record.specs.declared.record.RunRecord.{RunRecord}
-use Rattle.ruby_world.specs.Adds.{HasAddedAlone}
-use Rattle.ruby_world.specs.Records as records
-use Rattle.ruby_world.specs.Worlds.{InWorld, IsNobodyHeld, WorldView, opened, rules_in}
-use Rattle.ruby_world.proofs.Views.{alone-all}
+use Rattle.one_worker.specs.Adds.{HasAddedAlone}
+use Rattle.one_worker.specs.Records as records
+use Rattle.world_events.specs.Worlds.{InWorld, IsNobodyHeld, WorldView, opened, rules_in}
+use Rattle.one_worker.proofs.Views.{alone-all}
 use Rattle.sequencer.specs.Drive.{Drive}
 use Rattle.sequencer.specs.Seats.{Seat}
 

@@ -1,8 +1,4 @@
-pub mod Records
-pub mod Worlds
-pub mod Held
-pub mod Data
-pub mod Opening
-pub mod Adds
-pub mod Waking
-pub mod Scanned
+pub use Rattle.world_events.specs.Worlds
+pub use Rattle.world_events.specs.Held
+pub use Rattle.one_worker.specs.Records
+pub use Rattle.one_worker.specs.Adds

@@ -2,16 +2,12 @@
 ghost use Rattle.std.specs.Prelude.{◌≡◌, ◌≤◌, IfOk, length};
 ghost use Rattle.ctl_face.specs.Fits.{last_cycle};
 ghost use Rattle.ruby_runs.specs.Alone.{IsAlone};
-ghost use Rattle.ruby_runs.specs.Run.{HasEnded};
-ghost use Rattle.ruby_world.specs.Records.{IsWholeRunBy, rules_in as rules_of};
-ghost use Rattle.ruby_world.specs.Worlds.{InWorld, rules_in};
+ghost use Rattle.one_worker.specs.Records.{IsWholeRunBy, rules_in};
 ghost use Rattle.topology_fit.specs.FitsPlan.{FitsPlan};
 
-use crate::laws::runs_from_the_opening_are_alone;
-use crate::record::RunLimits;
-use crate::world::World;
+use crate::alone::run_alone;
+use one_worker::{into_record, runs_from_the_opening_are_alone};
 use protocol_meaning::Protocol;
-use ruby_base::Seq;
 use ruby_options::Options;
 use ruby_topology::Topology;
 use ruby_value::NoMemory;
@@ -19,28 +15,7 @@ use run_record::RunRecord;
 use sequencer::Driver;
 use slicc_plan::Plan;
 use std::alloc::Global;
-
-// The record of a run that one worker has brought to its end.
-fn record_of<D: Driver>(
-    alloc: Global,
-    ended: World<D>,
-    options: Options,
-) -> Result<RunRecord, NoMemory>
-    requires ended { InWorld D.drive ended HasEnded }
-    requires seed { options.seed ≡ ended.limits.seed }
-    requires cycles { options.cycles ≡ ended.limits.cycles }
-    requires limit { options.limit ≡ ended.limits.limit }
-    ensures plan { IfOk result (λ r. r.plan ≡ ended.trees) }
-    ensures topology { IfOk result (λ r. r.topology ≡ ended.topology) }
-    ensures options { IfOk result (λ r. r.options ≡ options) }
-    ensures whole { IfOk result (IsWholeRunBy D.drive ended.opening) }
-    ensures alone { IfOk result (λ r. IsAlone (rules_in D.drive ended) ended.history
-        → IsAlone (rules_of D.drive ended.opening r) r.history) }
-{
-    let mut tallies = Seq::new(alloc);
-    tallies.push(ended.tally(0))?;
-    ended.into_record(alloc, options, tallies)
-}
+use world_events::{RunLimits, World};
 
 /// A whole run, by one worker, of a protocol over a topology that fits it, with the bounds of these options, by a driver that is as its
 /// constructor made it and finds the seats that it needs.
@@ -61,7 +36,7 @@ pub fn run_whole<P: Protocol, D: Driver>(
     ensures topology { IfOk result (λ r. r.topology ≡ topology) }
     ensures options { IfOk result (λ r. r.options ≡ options) }
     ensures whole { IfOk result (IsWholeRunBy D.drive driver) }
-    ensures alone { IfOk result (λ r. IsAlone (rules_of D.drive driver r) r.history) }
+    ensures alone { IfOk result (λ r. IsAlone (rules_in D.drive driver r) r.history) }
 {
     let limits = RunLimits {
         seed: options.seed,
@@ -69,7 +44,7 @@ pub fn run_whole<P: Protocol, D: Driver>(
         limit: options.limit,
     };
     let opened = World::new(alloc, plan, topology, limits, driver)?;
-    let ended = opened.run_alone(alloc, protocol)?;
+    let ended = run_alone(alloc, protocol, opened)?;
     runs_from_the_opening_are_alone::<D>();
-    record_of(alloc, ended, options)
+    into_record(alloc, ended, options)
 }

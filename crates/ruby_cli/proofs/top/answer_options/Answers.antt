@@ -1,4 +1,4 @@
-use Rattle.ruby_cli.proofs.Answering.{answered, read_once, unanswered}
+use Rattle.ruby_cli.proofs.Answered.{answered, read_once, unanswered}
 use Rattle.ruby_cli.proofs.top.answer_options.Goals as goal
 
 pub returns-in-Err-clause-answered : goal.returns-in-Err-clause-answered

@@ -1,5 +1,5 @@
 use Rattle.std.proofs.lemmas.Result.{MatchResult-weaker}
-use Rattle.ruby_world.specs.declared.record.RunLimits.{RunLimits}
+use Rattle.world_events.specs.declared.limits.RunLimits.{RunLimits}
 use Rattle.ruby_world.proofs.WholeRuns.{begins-nobody, whole-alone}
 use Rattle.ruby_world.proofs.whole.run_whole.Goals as goal
 
@@ -11,7 +11,7 @@ run_alone-requires-clause-nobody g c κs within =
 pub returns-clause-alone : goal.returns-clause-alone
 returns-clause-alone g c =
     let limits : RunLimits = record { seed = c.args.options.seed; cycles = c.args.options.cycles; limit = c.args.options.limit } in
-    MatchResult-weaker c.record_of.result c.record_of.ensures.alone
+    MatchResult-weaker c.into_record.result c.into_record.ensures.alone
     (λ r leads.
     whole-alone g.D.Driver.drive c.in_ok-opened.opened c.args.plan c.args.topology limits c.args.driver c.in_ok-opened.ensures c.in_ok-ended.ended
     c.in_ok-ended.ensures.alone r leads)

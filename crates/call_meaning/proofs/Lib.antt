@@ -1,0 +1,9 @@
+pub mod ReadsMade
+pub mod OnePlain
+pub mod WholeRuns
+pub mod OneRecord
+pub mod OneAnswer
+pub mod OverFiles
+pub mod RightRuns
+pub mod Causes
+pub mod Clauses

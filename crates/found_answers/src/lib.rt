@@ -1,0 +1,8 @@
+//! The answer to options, which is found before anything is written: by the protocol's files, the file of a topology and a run, where one
+//! is asked for.
+#![tactic(auto)]
+
+mod find;
+mod runs;
+
+pub use find::find_answer;

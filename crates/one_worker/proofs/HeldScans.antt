@@ -1,0 +1,145 @@
+-- A scan of a controller that is held: it begins as a draft may, and what code has done as a round is what the run has of it.
+use Rattle.std.proofs.Common.{◌≡◌, ◌≤◌, ℕ, Bool, true, false, cond, List, Ok, Some, sym, ◌∙◌, ap, subst, slice_get, arith}
+use Rattle.std.proofs.lemmas.Option.{same_Some}
+use Rattle.ruby_value.specs.declared.message.Message.{Message}
+use Rattle.ruby_value.specs.declared.setup.MachineSetup.{MachineSetup}
+use Rattle.run_journal.specs.declared.entry.End.TheVariants as end
+use Rattle.run_journal.specs.declared.entry.FireNote.{FireNote}
+use Rattle.run_journal.specs.declared.entry.StopAt.{StopAt}
+use Rattle.ruby_runs.specs.Change.{Filled, Halted, Idled}
+use Rattle.ruby_runs.specs.Rules.{Fired, Idle, Scan}
+use Rattle.ruby_runs.specs.World.{World}
+use Rattle.ctl_face.specs.Acts.{Acts}
+use Rattle.ctl_face.specs.Again.{again}
+use Rattle.ctl_face.specs.Ctl.{Ctl}
+use Rattle.ctl_face.specs.declared.routes.Routes.{Routes}
+use Rattle.ctl_face.specs.Fits.{Fits, last_cycle}
+use Rattle.ctl_face.specs.LocalView.{Actor, LocalView}
+use Rattle.ctl_face.specs.RoutesFit.{HasRoutes}
+use Rattle.ctl_face.specs.ScanView.{scan_view}
+use Rattle.ctl_face.proofs.OwnBuffers.{fit_each}
+use Rattle.ctl_store.specs.declared.outcome.Outcome.{Outcome as Sealed}
+use Rattle.ctl_store.specs.Kept.{machine_of, me_of}
+use Rattle.ctl_store.specs.Sealed.{IsOutcomeFor, IsOutcomeOf, note_of, outcome_acts, outcome_ctl}
+use Rattle.protocol_meaning.specs.Meaning.{meaning_of, outcome_of, scan_of}
+use Rattle.protocol_meaning.specs.Rounds.{outcome_of_round}
+use Rattle.protocol_meaning.proofs.Fired.{fired_same}
+use Rattle.protocol_meaning.proofs.Rounds.{round_told}
+use Rattle.protocol_runs.specs.IsSetting.{IsSetting}
+use Rattle.protocol_runs.specs.Kept.{FitsRun}
+use Rattle.protocol_runs.specs.Machines.{actor_of, setup_of}
+use Rattle.protocol_runs.specs.Meaning.{Meaning, acts_told}
+use Rattle.protocol_runs.specs.Setting.{Setting}
+use Rattle.protocol_runs.proofs.Controllers.{IsOne, and-some, controller-is, one-of}
+use Rattle.protocol_runs.proofs.Scans as scans
+use Rattle.scan_meaning.specs.declared.round.RoundEnd.{RoundEnd}
+use Rattle.scan_meaning.specs.declared.round.RoundEnd.TheVariants as round
+use Rattle.scan_meaning.specs.Round.{IsRoundOf}
+use Rattle.scan_meaning.specs.Scan.{left_idle}
+use Rattle.sequencer.specs.Drive.{Drive}
+use Rattle.sequencer.specs.Seats.{Seat}
+use Rattle.world_state.specs.Ended.{rested}
+use Rattle.world_events.specs.declared.held.Held.{Held}
+use Rattle.world_events.specs.Held.{Holds, IsScanEnded, IsScanFired, ctl_in}
+use Rattle.one_worker.specs.Scanned.{begun}
+use Rattle.world_events.specs.Worlds.{IsWorldOf, WorldView, rules_in, setting_in}
+
+-- the controller of a scan that rests
+rests : (before after : LocalView) (b : Bool) → after.acts.again ≡ b → (left_idle before after).ctl ≡ rested b before.now before.ctl
+rests before after true is = ap (λ (b : Bool). (cond b (again before) before).ctl) is
+rests before after false is = ap (λ (b : Bool). (cond b (again before) before).ctl) is
+
+module _ {D : Type 0} (drive : D → List Seat → ℕ → Drive D) (least : D → ℕ) (v : WorldView D) (worker : ℕ) (h : Held) (holds : Holds drive v worker h)
+    (lawful : IsSetting least (setting_in v)) where
+  abbrev S : Setting D
+  S = setting_in v
+
+  abbrev P : Meaning
+  P = meaning_of v.trees
+
+  -- its machine
+  machine-there : slice_get S.machines h.machine ≡ Some (machine_of h.store)
+  machine-there =
+      let found = one-of S h.controller (machine_of h.store) holds.made.setup in
+      let same : found.machine ≡ h.machine = same_Some found.machine h.machine (sym found.found ∙ holds.machine) in
+      ap (λ (k : ℕ). slice_get S.machines k) (sym same) ∙ found.there
+
+  abbrev one : IsOne S h.controller (machine_of h.store)
+  one = record { machine = h.machine; found = holds.machine; there = machine-there }
+
+  pub may-go : HasRoutes (machine_of h.store) (me_of h.store) h.routes
+  may-go =
+      subst (λ (r : Routes). HasRoutes (machine_of h.store) (me_of h.store) r) (sym holds.made.routes)
+      (subst (λ (n : ℕ). HasRoutes (machine_of h.store) n S.routes) (sym holds.made.me)
+      (fit_each S.machines S.ranges (machine_of h.store) (actor_of S h.controller) (controller-is S least lawful h.controller (machine_of h.store) one)))
+
+  module _ (w : World Ctl D) (is : IsWorldOf drive v w) (run : FitsRun S h.controller (ctl_in h) w.now) where
+    pub in-time : h.cycle ≤ last_cycle
+    in-time = let here = holds.holding w is in omega (arith, here.cycle, run.bound, lawful.cycles)
+
+    pub may-begin : Fits (machine_of h.store) (me_of h.store) (ctl_in h) h.cycle
+    may-begin =
+        let here = holds.holding w is in
+        let (m, there, fits) = and-some (λ (m : MachineSetup). Fits m h.controller (ctl_in h) w.now) (setup_of S h.controller) run.fits in
+        let same : m ≡ machine_of h.store = same_Some m (machine_of h.store) (sym there ∙ holds.made.setup) in
+        subst (λ (n : ℕ). Fits (machine_of h.store) (me_of h.store) (ctl_in h) n) (sym here.cycle)
+        (subst (λ (n : ℕ). Fits (machine_of h.store) n (ctl_in h) w.now) (sym holds.made.me)
+        (subst (λ (x : MachineSetup). Fits x h.controller (ctl_in h) w.now) same fits))
+
+  -- the local in which the scan begins
+  begun-is : begun h ≡ scan_view (machine_of h.store) (actor_of S h.controller) h.cycle (ctl_in h)
+  begun-is =
+      let view : Actor → LocalView = λ a. scan_view (machine_of h.store) a h.cycle (ctl_in h) in
+      ap (λ (n : ℕ). view (record { me = n; seed = h.seed; routes = h.routes })) holds.made.me
+      ∙ ap (λ (n : ℕ). view (record { me = h.controller; seed = n; routes = h.routes })) holds.seed
+      ∙ ap (λ (r : Routes). view (record { me = h.controller; seed = v.limits.seed; routes = r })) holds.made.routes
+
+  abbrev scanned : Scan Ctl Message
+  scanned = (rules_in drive v).scan h.controller (ctl_in h) h.cycle
+
+  scan-is : scanned ≡ P.scan h.machine (begun h) h.limit
+  scan-is =
+      scans.scan-is P drive least S lawful h.controller (ctl_in h) h.cycle (machine_of h.store) one
+      ∙ ap (λ (u : LocalView). P.scan h.machine u v.limits.limit) (sym begun-is)
+      ∙ ap (λ (n : ℕ). P.scan h.machine (begun h) n) (sym holds.limit)
+
+  -- what code has done as a round
+  module _ (before after : LocalView) (begins : before ≡ begun h) (e : RoundEnd)
+      (does : IsRoundOf (scan_of v.trees h.machine h.limit h.fired before) (Ok e) after before) where
+    told : scanned.outcome ≡ outcome_of_round e after before
+    told =
+        ap (λ (s : Scan Ctl Message). s.outcome) scan-is
+        ∙ ap (λ (u : LocalView). (P.scan h.machine u h.limit).outcome) (sym begins)
+        ∙ ap (λ (n : ℕ). outcome_of (scan_of v.trees h.machine h.limit n before))
+        (ap (λ (u : LocalView). u.ctl.fired) begins ∙ sym holds.fired)
+        ∙ round_told (scan_of v.trees h.machine h.limit h.fired before) e after before does
+
+    pub fired-is : (note : FireNote) (o : Sealed) → e ≡ round.Fired note → IsOutcomeOf after note o → IsScanFired drive v h o
+    fired-is note o is outcome =
+        let does_fire : IsRoundOf (scan_of v.trees h.machine h.limit h.fired before) (Ok (round.Fired note)) after before =
+        subst (λ (x : RoundEnd). IsRoundOf (scan_of v.trees h.machine h.limit h.fired before) (Ok x) after before) is does in
+        let same = fired_same before after note v.trees h.machine h.limit h.fired does_fire in
+        let start : after.start ≡ ctl_in h = same.start ∙ ap (λ (u : LocalView). u.start) begins in
+        let ctl : after.ctl ≡ outcome_ctl o (ctl_in h) = sym outcome.ctl ∙ ap (λ (x : Ctl). outcome_ctl o x) start in
+        record {
+          scanned =
+              told
+              ∙ ap (λ (x : RoundEnd). outcome_of_round x after before) is
+              ∙ ap (λ (n : FireNote). Fired n (acts_told after.acts) after.acts.posted after.ctl) (sym outcome.note_is)
+              ∙ ap (λ (a : Acts). Fired (note_of o) (acts_told a) a.posted after.ctl) (sym outcome.acts)
+              ∙ ap (λ (x : Ctl). Fired (note_of o) (acts_told (outcome_acts o)) (outcome_acts o).posted x) ctl;
+          fits = subst (λ (x : Ctl). IsOutcomeFor o x) start outcome.fits;
+        }
+
+    pub idle-is : (stalled : Bool) → e ≡ round.Idle → stalled ≡ after.acts.again → IsScanEnded drive v (record h { stalled = stalled }) end.Idle
+    idle-is stalled is told_again =
+        let ctl : (left_idle before after).ctl ≡ rested stalled h.cycle (ctl_in h) =
+        rests before after stalled (sym told_again) ∙ ap (λ (u : LocalView). rested stalled u.now u.ctl) begins in
+        Idled (rested stalled h.cycle (ctl_in h))
+        (told ∙ ap (λ (x : RoundEnd). outcome_of_round x after before) is ∙ ap (λ (x : Ctl). Idle x) ctl)
+
+    pub full-is : (stalled : Bool) → e ≡ round.Full → IsScanEnded drive v (record h { stalled = stalled }) end.Full
+    full-is stalled is = Filled (told ∙ ap (λ (x : RoundEnd). outcome_of_round x after before) is)
+
+    pub stop-is : (stalled : Bool) (at : StopAt) → e ≡ round.Stop at → IsScanEnded drive v (record h { stalled = stalled }) (end.Stop at)
+    stop-is stalled at is = Halted at (told ∙ ap (λ (x : RoundEnd). outcome_of_round x after before) is)

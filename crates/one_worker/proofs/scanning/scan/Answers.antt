@@ -1,0 +1,43 @@
+use Rattle.std.proofs.Common.{Result, subst}
+use Rattle.ruby_base.specs.declared.memory.NoMemory.{NoMemory}
+use Rattle.ctl_store.specs.Drafted.{view_of}
+use Rattle.scan_meaning.specs.declared.round.RoundEnd.{RoundEnd}
+use Rattle.scan_meaning.specs.Round.{IsRoundOf}
+use Rattle.protocol_meaning.specs.Meaning.{scan_of}
+use Rattle.one_worker.proofs.HeldScans.{fired-is, full-is, idle-is, stop-is}
+use Rattle.one_worker.proofs.scanning.scan.Goals.{in-Full, in-Idle, in-Stop}
+use Rattle.one_worker.proofs.scanning.scan.Goals as goal
+
+pub returns-in-Fired : goal.returns-in-Fired
+returns-in-Fired g c =
+    let v = c.args.world.now in
+    let h = c.args.held.now in
+    let before = view_of c.draft-draft.result in
+    let after = view_of c.round.new.local in
+    let lawful = c.settings_are_lawful.ensures.enough v.trees v.topology v.limits.seed v.limits.cycles v.limits.limit v.opening c.law.ensures.fits c.law.ensures.cycles c.law.ensures.enough in
+    let does = subst (λ (r : Result RoundEnd NoMemory). IsRoundOf (scan_of v.trees h.machine h.limit h.fired before) r after before) c.in_ok-end.was (c.round.ensures v.trees c.requires.serves) in
+    fired-is g.D.Driver.drive g.D.Driver.least v c.args.worker h c.requires.holds lawful before after c.draft-draft.ensures c.in_ok-end.end does
+    c.in-Fired.note c.seal.result c.in-Fired.is c.seal.ensures.outcome
+
+pub returns : goal.returns
+returns g c =
+    let v = c.args.world.now in
+    let h = c.args.held.now in
+    let before = view_of c.draft-draft.result in
+    let after = view_of c.round.new.local in
+    let lawful = c.settings_are_lawful.ensures.enough v.trees v.topology v.limits.seed v.limits.cycles v.limits.limit v.opening c.law.ensures.fits c.law.ensures.cycles c.law.ensures.enough in
+    let does = subst (λ (r : Result RoundEnd NoMemory). IsRoundOf (scan_of v.trees h.machine h.limit h.fired before) r after before) c.in_ok-end.was (c.round.ensures v.trees c.requires.serves) in
+    elim c.match-end.branch [
+      | in-Idle w ↦
+          rw w.how-is
+          (idle-is g.D.Driver.drive g.D.Driver.least v c.args.worker h c.requires.holds lawful before after c.draft-draft.ensures c.in_ok-end.end does
+          c.stalled-stalled.result w.in-Idle.is c.stalled-stalled.ensures)
+      | in-Full w ↦
+          rw w.how-is
+          (full-is g.D.Driver.drive g.D.Driver.least v c.args.worker h c.requires.holds lawful before after c.draft-draft.ensures c.in_ok-end.end does
+          c.stalled-stalled.result w.in-Full.is)
+      | in-Stop w ↦
+          rw w.how-is
+          (stop-is g.D.Driver.drive g.D.Driver.least v c.args.worker h c.requires.holds lawful before after c.draft-draft.ensures c.in_ok-end.end does
+          c.stalled-stalled.result w.in-Stop.at w.in-Stop.is)
+    ]

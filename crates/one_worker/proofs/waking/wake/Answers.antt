@@ -1,0 +1,28 @@
+use Rattle.std.proofs.Common.{refl}
+use Rattle.std.proofs.lemmas.Result.{on_ok_weaker}
+use Rattle.run_journal.specs.declared.event.Event.TheVariants.{Take}
+use Rattle.one_worker.proofs.Views.{alone-one, alone-then, event-stays, next-alone, next-taken, stays-finishes}
+use Rattle.one_worker.proofs.waking.wake.Goals as goal
+
+pub take-requires-after_bounds : goal.take-requires-after_bounds
+take-requires-after_bounds g c κs within = λ w is. next-taken g.D.Driver.drive c.args.world.now c.args.c w (c.requires.next w is)
+
+pub returns-clause-alone : goal.returns-clause-alone
+returns-clause-alone g c =
+    let run = c.law.ensures.run in
+    on_ok_weaker c.wake_held.result
+    (λ alone.
+    alone-then g.D.Driver.drive c.args.world.now c.take.new.self c.wake_held.new.world
+    (alone-one g.D.Driver.drive c.args.world.now c.take.new.self (Take 0 c.args.c) run.0 c.in_ok-held.ensures.added run.1
+    (next-alone g.D.Driver.drive c.args.world.now c.args.c run.0 (c.requires.next run.0 run.1)))
+    alone)
+    c.wake_held.ensures.alone
+
+pub returns-clause-finishes : goal.returns-clause-finishes
+returns-clause-finishes g c =
+    let mid = c.law-2.ensures.run in
+    on_ok_weaker c.wake_held.result
+    (λ finishes.
+    stays-finishes g.D.Driver.drive c.args.world.now c.take.new.self c.wake_held.new.world mid.0 mid.1
+    (event-stays g.D.Driver.drive c.args.world.now c.take.new.self (Take 0 c.args.c) c.in_ok-held.ensures.added refl) finishes)
+    c.wake_held.ensures.finishes

@@ -1,0 +1,16 @@
+use Rattle.std.proofs.Common.{◌≡◌}
+use Rattle.one_worker.specs.Adds.{HasAddedAlone}
+use Rattle.one_worker.specs.Waking.{AreWorlds, IsBetween}
+use Rattle.world_events.specs.Worlds.{InWorld}
+use Rattle.one_worker.proofs.Views.{unfinished_in}
+use Rattle.one_worker.proofs.waking.wake_all.Given as goal
+
+abbrev pub invariant-controllers : goal.invariant-controllers
+invariant-controllers g l = record {
+  alone : HasAddedAlone g.D.Driver.drive l.fn.world l.world;
+  between : InWorld g.D.Driver.drive l.world (IsBetween g.D.Driver.drive l.world);
+  now : AreWorlds g.D.Driver.drive (λ w after. after.now ≡ w.now) l.fn.world l.world;
+}
+
+abbrev pub decreases-controllers : goal.decreases-controllers
+decreases-controllers g l = unfinished_in g.D.Driver.drive l.world

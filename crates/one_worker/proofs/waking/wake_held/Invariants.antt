@@ -1,0 +1,15 @@
+use Rattle.std.proofs.Common.{◌-◌}
+use Rattle.one_worker.specs.Adds.{HasAddedAlone}
+use Rattle.world_events.specs.Held.{Holds}
+use Rattle.one_worker.specs.Waking.{AreWorlds, Stays}
+use Rattle.one_worker.proofs.waking.wake_held.Given as goal
+
+abbrev pub invariant-scans : goal.invariant-scans
+invariant-scans g l = record {
+  alone : HasAddedAlone g.D.Driver.drive l.fn.world l.world;
+  holds : Holds g.D.Driver.drive l.world 0 l.held;
+  stays : AreWorlds g.D.Driver.drive Stays l.fn.world l.world;
+}
+
+abbrev pub decreases-scans : goal.decreases-scans
+decreases-scans g l = l.held.limit - l.held.fired

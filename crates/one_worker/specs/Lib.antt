@@ -1,0 +1,4 @@
+pub mod Records
+pub mod Adds
+pub mod Waking
+pub mod Scanned

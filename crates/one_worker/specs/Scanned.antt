@@ -1,0 +1,21 @@
+-- What a scan of a controller that is held has come to.
+use Rattle.std.specs.Prelude.{ℕ, List}
+use Rattle.ctl_face.specs.LocalView.{LocalView}
+use Rattle.ctl_face.specs.ScanView.{scan_view}
+use Rattle.ctl_store.specs.Kept.{machine_of, me_of}
+use Rattle.world_events.specs.declared.held.Held.{Held}
+use Rattle.one_worker.specs.declared.scanning.Scanned.{Scanned}
+use Rattle.one_worker.specs.declared.scanning.Scanned.TheVariants.{Fired, Ended}
+use Rattle.world_events.specs.Held.{IsScanEnded, IsScanFired, ctl_in}
+use Rattle.world_events.specs.Worlds.{WorldView}
+use Rattle.sequencer.specs.Drive.{Drive}
+use Rattle.sequencer.specs.Seats.{Seat}
+
+-- the local in which it begins
+abbrev pub begun : Held → LocalView
+begun h =
+    scan_view (machine_of h.store) (record { me = me_of h.store; seed = h.seed; routes = h.routes }) h.cycle (ctl_in h)
+
+abbrev pub IsScanned : {D : Type 0} → (drive : D → List Seat → ℕ → Drive D) → WorldView D → Held → Scanned → Type 0
+IsScanned drive v h (Fired outcome) = IsScanFired drive v h outcome
+IsScanned drive v h (Ended end stalled) = IsScanEnded drive v (record h { stalled = stalled }) end

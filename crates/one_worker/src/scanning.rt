@@ -1,0 +1,64 @@
+//! A scan of a controller that is held.
+ghost use Rattle.std.specs.Prelude.{◌≡◌, IfOk};
+ghost use Rattle.ctl_store.specs.Drafted.{view_of};
+ghost use Rattle.one_worker.specs.Scanned.{IsScanned, begun};
+ghost use Rattle.world_events.specs.Held.{Holds};
+
+use ctl_store::{Draft, Outcome};
+use protocol_meaning::{Protocol, meanings_are_lawful, settings_are_lawful};
+use protocol_runs::controllers_fit;
+use ruby_value::NoMemory;
+use run_journal::End;
+use scan_meaning::RoundEnd;
+use sequencer::Driver;
+use std::alloc::Global;
+use world_events::{Held, World};
+
+/// What a scan of a controller has come to.
+#[derive(Drop)]
+pub(crate) enum Scanned {
+    /// A transition has fired.
+    Fired(Outcome),
+    /// The wake-up ends so, where the scan has stalled a transition or not.
+    Ended { end: End, stalled: bool },
+}
+
+// The draft of a scan of a controller that is held.
+fn draft<'a, D: Driver>(alloc: Global, world: &World<D>, worker: u32, held: &'a Held) -> Draft<'a>
+    requires { Holds D.drive world.now worker held.now }
+    ensures { view_of result ≡ begun held.now }
+{
+    let _worker = worker;
+    world.law();
+    settings_are_lawful::<D>();
+    meanings_are_lawful();
+    controllers_fit::<D>();
+    Draft::on(alloc, &held.store, &held.routes, held.seed, held.cycle)
+}
+
+/// A scan of a controller that the worker holds.
+pub(crate) fn scan<P: Protocol, D: Driver>(
+    alloc: Global,
+    protocol: &P,
+    world: &World<D>,
+    worker: u32,
+    held: &Held,
+) -> Result<Scanned, NoMemory>
+    requires serves { P.serves protocol.now world.now.trees }
+    requires holds { Holds D.drive world.now worker held.now }
+    ensures { IfOk result (IsScanned D.drive world.now held.now) }
+{
+    world.law();
+    settings_are_lawful::<D>();
+    let mut draft = draft(alloc, world, worker, held);
+    let end = protocol.round(alloc, held.machine, &mut draft, held.fired, held.limit)?;
+    let stalled = draft.stalled();
+    let how = match end {
+        RoundEnd::Fired(note) => return Ok(Scanned::Fired(draft.seal(note))),
+        RoundEnd::Idle => End::Idle,
+        RoundEnd::Full => End::Full,
+        RoundEnd::Stop(at) => End::Stop(at),
+    };
+    // Only a wake-up that ends as idle goes by what was stalled.
+    Ok(Scanned::Ended { end: how, stalled })
+}

@@ -1,0 +1,50 @@
+-- What is read off a world that has ended, as its data have it.
+use Rattle.std.proofs.Common.{◌≡◌, ℕ, List, Option, None, Some, IsSome, sym, ◌∙◌, subst}
+use Rattle.slicc_ast.specs.declared.tree.item.Tree.{Tree}
+use Rattle.run_journal.specs.declared.summary.Account.{Account}
+use Rattle.ruby_runs.specs.Account.{account}
+use Rattle.ruby_runs.specs.Run.{HasEnded, IsRun}
+use Rattle.ruby_topology.specs.declared.topology.Topology.{Topology}
+use Rattle.ctl_face.specs.Ctl.{Ctl}
+use Rattle.protocol_meaning.specs.Meaning.{meaning_of}
+use Rattle.protocol_runs.specs.Meaning.{Meaning}
+use Rattle.protocol_runs.specs.Rules.{rules}
+use Rattle.protocol_runs.specs.Setting.{Setting}
+use Rattle.sequencer.specs.Drive.{Drive}
+use Rattle.sequencer.specs.Seats.{Seat}
+use Rattle.world_places.specs.Places.{made_in}
+use Rattle.world_state.specs.declared.state.State.{State}
+use Rattle.world_state.specs.States.{IsNobody, world_of}
+use Rattle.world_state.proofs.Readings.{any-held, none-held}
+use Rattle.world_events.specs.declared.limits.RunLimits.{RunLimits}
+use Rattle.world_events.specs.Data.{view_of}
+use Rattle.world_events.specs.Worlds.{InWorld, WorldView, rules_in, setting_in}
+use Rattle.world_events.proofs.Closed.{ended-nobody}
+use Rattle.world_events.proofs.ReadOff.{in-world}
+
+-- a run that has ended has a verdict
+pub none-there : {A : Type 0} (o : Option A) → None ≡ o → IsSome o → ⊥
+none-there None none there = cc there
+none-there (Some x) none there = cc none
+
+module _ {D : Type 0} (drive : D → List Seat → ℕ → Drive D) where
+  -- a world's data, where its run has ended
+  module _ (opening : D → D) (trees : List Tree) (t : Topology) (limits : RunLimits) (held : Ctl) (st : State D) where
+    abbrev V : WorldView D
+    V = view_of opening trees t limits st
+
+    module _ (run : IsRun (rules_in drive V) st.book.history (world_of held st) st.book.journal) (v : WorldView D) (is : V ≡ v) where
+      pub nobody-there : InWorld drive v HasEnded → IsNobody (made_in st.places.items)
+      nobody-there ended =
+          let there : InWorld drive V HasEnded = subst (λ (u : WorldView D). InWorld drive u HasEnded) (sym is) ended in
+          none-held st.places.items
+          (sym (any-held held st.places.items)
+          ∙ ended-nobody (rules_in drive V) st.book.history (world_of held st) st.book.journal run (there (world_of held st) run))
+
+      pub accounted-there : (a : Account)
+          → ((p : Meaning) (d : D → List Seat → ℕ → Drive D) (s : Setting D) (h : Ctl) → a ≡ account (rules p d s) st.book.journal (world_of h st).places)
+          → InWorld drive v (λ w. a ≡ account (rules_in drive v) v.journal w.places)
+      accounted-there a all =
+          subst (λ (u : WorldView D). InWorld drive u (λ w. a ≡ account (rules_in drive u) u.journal w.places)) is
+          (in-world drive V held st run (λ w. a ≡ account (rules_in drive V) st.book.journal w.places)
+          (all (meaning_of trees) drive (setting_in V) held))

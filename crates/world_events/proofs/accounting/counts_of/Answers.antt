@@ -1,0 +1,17 @@
+use Rattle.std.proofs.Common.{List, ap, arith, subst, take}
+use Rattle.std.proofs.lemmas.List.{take_all}
+use Rattle.ruby_runs.specs.Rules.{Mailed}
+use Rattle.world_places.specs.declared.place.Place.{Place}
+use Rattle.world_events.specs.Accounted.{AreCountsOf, mail_in}
+use Rattle.world_events.proofs.Counted.{mail-more}
+use Rattle.world_events.proofs.accounting.counts_of.Goals as goal
+
+pub loop-place-preserved : goal.loop-place-preserved
+loop-place-preserved c =
+    subst (λ (ms : List Mailed). AreCountsOf ms c.in_ok-counts.counts)
+    (mail-more c.args.places.now c.loop-place.place-index c.place-item.result (omega arith) c.place-item.is)
+    (c.in_ok-counts.ensures (mail_in (take c.loop-place.place-index c.args.places.now)) c.loop-place.invariant)
+
+pub returns : goal.returns
+returns c =
+    subst (λ (ps : List Place). AreCountsOf (mail_in ps) c.loop-place.counts) (take_all c.loop-place.place-index c.args.places.now (omega arith)) c.loop-place.invariant

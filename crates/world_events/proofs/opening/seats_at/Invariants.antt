@@ -1,0 +1,9 @@
+use Rattle.std.proofs.Common.{◌≡◌, map, take}
+use Rattle.slicc_plan.specs.SymbolsOf.{symbols_of}
+use Rattle.topology_fit.specs.Seats.{seat_setup}
+use Rattle.topology_fit.specs.Setups.{ranges_of}
+use Rattle.world_seats.specs.Seated.{setups_in}
+use Rattle.world_events.proofs.opening.seats_at.Given as goal
+
+abbrev pub invariant-loop-seat : goal.invariant-loop-seat
+invariant-loop-seat l = setups_in l.seats.items ≡ map (seat_setup (symbols_of l.plan) (ranges_of l.topology)) (take l.seat-index l.topology.seats)

@@ -1,0 +1,14 @@
+use Rattle.world_state.specs.States.{world_of}
+use Rattle.world_events.proofs.world.World.law.Goals as goal
+
+pub returns-clause-run : goal.returns-clause-run
+returns-clause-run g c = rw (← c.self.view_is) (world_of c.self.invariant.held c.self.inside.state, c.self.invariant.kept.run)
+
+pub returns-clause-fits : goal.returns-clause-fits
+returns-clause-fits g c = rw (← c.self.view_is) c.self.invariant.fits
+
+pub returns-clause-cycles : goal.returns-clause-cycles
+returns-clause-cycles g c = rw (← c.self.view_is) c.self.invariant.cycles
+
+pub returns-clause-enough : goal.returns-clause-enough
+returns-clause-enough g c = rw (← c.self.view_is) c.self.invariant.enough

@@ -1,0 +1,23 @@
+-- What the account of a run says of the messages in the inboxes of places that nobody holds: how many are queued, stalled and recycled.
+use Rattle.std.specs.Prelude.{◌≡◌, List, [], count_by, map}
+use Rattle.std.specs.List.{flat_map}
+use Rattle.ruby_runs.specs.Account.{is_queued, is_recycled, is_stalled}
+use Rattle.ruby_runs.specs.Rules.{Mailed}
+use Rattle.ctl_store.specs.Kept.{ctl_of}
+use Rattle.protocol_runs.specs.Rules.{mailed}
+use Rattle.world_places.specs.declared.place.Keeper.{Keeper}
+use Rattle.world_places.specs.declared.place.Keeper.TheVariants.{World, Worker}
+use Rattle.world_places.specs.declared.place.Place.{Place}
+use Rattle.world_events.specs.declared.accounting.Counts.{Counts}
+
+abbrev pub mail_by : Keeper → List Mailed
+mail_by (World k) = map mailed (ctl_of k.store).mail.inbox
+mail_by (Worker w) = []
+
+abbrev pub mail_in : List Place → List Mailed
+mail_in places = flat_map (λ (p : Place). mail_by p.keeper) places
+
+pub record AreCountsOf (mail : List Mailed) (c : Counts) : Type 0 where
+  pub queued : c.queued ≡ count_by is_queued mail
+  pub stalled : c.stalled ≡ count_by is_stalled mail
+  pub recycled : c.recycled ≡ count_by is_recycled mail

@@ -1,0 +1,39 @@
+-- What always holds of a world's data: its topology fits its protocol, its bound on cycles is within that of all runs, its driver has the
+-- seats that it needs, and the data are those of a run of this setting, where the driver began as its turns have left it.
+use Rattle.std.specs.Prelude.{◌≡◌, ◌≤◌, ℕ, List, length}
+use Rattle.slicc_ast.specs.declared.tree.item.Tree.{Tree}
+use Rattle.ctl_face.specs.Ctl.{Ctl}
+use Rattle.ctl_face.specs.Fits.{last_cycle}
+use Rattle.ruby_topology.specs.declared.topology.Topology.{Topology}
+use Rattle.slicc_plan.specs.SymbolsOf.{symbols_of}
+use Rattle.topology_fit.specs.FitsPlan.{FitsPlan}
+use Rattle.topology_fit.specs.Seats.{seat_setups}
+use Rattle.protocol_meaning.specs.Meaning.{meaning_of}
+use Rattle.world_events.specs.declared.limits.RunLimits.{RunLimits}
+use Rattle.world_events.specs.Worlds.{WorldView, setting_in}
+use Rattle.sequencer.specs.Drive.{Drive}
+use Rattle.sequencer.specs.Seats.{Seat}
+use Rattle.world_seats.specs.declared.seat.SeatAt.{SeatAt}
+use Rattle.world_seats.specs.Seated.{setups_in}
+use Rattle.world_state.specs.declared.state.State.{State}
+use Rattle.world_state.specs.States.{IsKept}
+
+-- the world as contracts see it, by its data; no turn changes what the driver's opening is
+abbrev pub view_of : {D : Type 0} → (opening : D → D) → List Tree → Topology → RunLimits → State D → WorldView D
+view_of opening trees t limits st = record {
+  trees = trees;
+  topology = t;
+  limits = limits;
+  opening = opening st.driver;
+  history = st.book.history;
+  journal = st.book.journal;
+}
+
+module _ {D : Type 0} (least : D → ℕ) (drive : D → List Seat → ℕ → Drive D) where
+  pub record IsData (v : WorldView D) (seats : List SeatAt) (st : State D) : Type 0 where
+    pub fits : FitsPlan v.trees v.topology
+    pub cycles : v.limits.cycles ≤ last_cycle
+    pub enough : least v.opening ≤ length v.topology.seats
+    pub seats_are : setups_in seats ≡ seat_setups (symbols_of v.trees) v.topology
+    pub held : Ctl
+    pub kept : IsKept (meaning_of v.trees) drive (setting_in v) held st

@@ -1,0 +1,73 @@
+-- What it means that a worker holds a controller of a world: the world has it so, with the controller of the store that is held and not
+-- finished in its cycle; and all that is held beside the store is the world's. And what may be made of it: a scan of it has fired, or has
+-- ended its wake-up.
+use Rattle.std.specs.Prelude.{◌≡◌, ℕ, false, None, Some, List, slice_get}
+use Rattle.run_journal.specs.declared.entry.End.{End}
+use Rattle.ruby_runs.specs.Change.{Ends}
+use Rattle.ruby_runs.specs.Rules.{Fired}
+use Rattle.ruby_runs.specs.World.{World}
+use Rattle.ctl_face.specs.Ctl.{Ctl}
+use Rattle.ctl_store.specs.declared.outcome.Outcome.{Outcome}
+use Rattle.ctl_store.specs.Kept.{ctl_of}
+use Rattle.ctl_store.specs.Room.{IsSameStore}
+use Rattle.ctl_store.specs.Sealed.{IsOutcomeFor, note_of, outcome_acts, outcome_ctl}
+use Rattle.protocol_runs.specs.Machines.{machine_of}
+use Rattle.protocol_runs.specs.Meaning.{acts_told}
+use Rattle.topology_fit.specs.Setups.{ranges_of}
+use Rattle.world_places.specs.declared.place.Kept.{Kept}
+use Rattle.world_places.specs.Places.{made_for}
+use Rattle.world_state.specs.Ended.{ended}
+use Rattle.world_state.specs.States.{IsMadeFor}
+use Rattle.world_events.specs.declared.held.Held.{Held}
+use Rattle.world_events.specs.Worlds.{InWorld, WorldView, rules_in, setting_in}
+use Rattle.sequencer.specs.Drive.{Drive}
+use Rattle.sequencer.specs.Seats.{Seat}
+
+-- what goes back to the world
+abbrev pub kept_in : Held → Kept
+kept_in h = record { store = h.store; routes = h.routes }
+
+-- the controller as it is held
+abbrev pub ctl_in : Held → Ctl
+ctl_in h = ctl_of h.store
+
+-- the world has the controller as this worker's
+pub record IsHolding {D : Type 0} (worker : ℕ) (h : Held) (w : World Ctl D) : Type 0 where
+  pub goes_on : w.verdict ≡ None
+  pub place :
+      slice_get w.places h.controller
+      ≡ Some (record { controller = ctl_in h; finished = false; holder = Some worker })
+  pub cycle : h.cycle ≡ w.now
+
+-- nothing has changed, but for room
+pub record IsSameHeld (old new : Held) : Type 0 where
+  pub controller : new.controller ≡ old.controller
+  pub machine : new.machine ≡ old.machine
+  pub cycle : new.cycle ≡ old.cycle
+  pub seed : new.seed ≡ old.seed
+  pub limit : new.limit ≡ old.limit
+  pub fired : new.fired ≡ old.fired
+  pub stalled : new.stalled ≡ old.stalled
+  pub ctl : ctl_in new ≡ ctl_in old
+  pub store : IsSameStore old.store new.store
+  pub routes : new.routes ≡ old.routes
+
+module _ {D : Type 0} (drive : D → List Seat → ℕ → Drive D) (v : WorldView D) where
+  pub record Holds (worker : ℕ) (h : Held) : Type 0 where
+    pub holding : InWorld drive v (IsHolding worker h)
+    pub made : IsMadeFor (setting_in v) h.controller (made_for (kept_in h))
+    pub machine : machine_of (ranges_of v.topology) h.controller ≡ Some h.machine
+    pub seed : h.seed ≡ v.limits.seed
+    pub limit : h.limit ≡ v.limits.limit
+    pub fired : h.fired ≡ (ctl_in h).fired
+
+  -- the scan of the controller that is held has fired, as this outcome has it, which was sealed of its store as it is
+  pub record IsScanFired (h : Held) (o : Outcome) : Type 0 where
+    pub scanned :
+        ((rules_in drive v).scan h.controller (ctl_in h) h.cycle).outcome
+        ≡ Fired (note_of o) (acts_told (outcome_acts o)) (outcome_acts o).posted (outcome_ctl o (ctl_in h))
+    pub fits : IsOutcomeFor o (ctl_in h)
+
+  -- the scan of it ends the wake-up so, and has stalled a transition as what is held says
+  abbrev pub IsScanEnded : Held → End → Type 0
+  IsScanEnded h e = Ends (rules_in drive v) h.controller h.cycle (ctl_in h) (ended h.stalled h.cycle (ctl_in h) e) e

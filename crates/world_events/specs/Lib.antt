@@ -1,0 +1,5 @@
+pub mod Worlds
+pub mod Held
+pub mod Data
+pub mod Opening
+pub mod Accounted

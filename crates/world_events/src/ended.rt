@@ -1,0 +1,62 @@
+//! What is read off a world, and taken from it, as its run has ended.
+ghost use Rattle.std.specs.Prelude.{◌≡◌, IfOk, Some};
+ghost use Rattle.run_journal.specs.Tally.{tally};
+ghost use Rattle.ruby_runs.specs.Account.{account};
+ghost use Rattle.ruby_runs.specs.Run.{HasEnded};
+ghost use Rattle.world_events.specs.Worlds.{InWorld, rules_in};
+
+use crate::accounting::account;
+use crate::world::World;
+use ruby_base::Seq;
+use ruby_topology::Topology;
+use ruby_value::NoMemory;
+use run_journal::{Account, Entry, Event, Tally, Verdict, tally_of};
+use sequencer::Driver;
+use slicc_plan::Plan;
+
+impl<D: Driver> World<D> {
+    /// How many events of each kind the worker has in the history.
+    pub fn tally(&self, worker: u32) -> Tally
+        ensures { result ≡ tally worker self.now.history }
+    {
+        tally_of(self.state.book.history(), worker)
+    }
+
+    /// Where the messages of a run that has ended have gone.
+    pub fn account(&self) -> Result<Account, NoMemory>
+        requires { InWorld D.drive self.now HasEnded }
+        ensures { IfOk result (λ a. InWorld D.drive self.now (λ w.
+            a ≡ account (rules_in D.drive self.now) self.now.journal w.places)) }
+    {
+        account(&self.state)
+    }
+
+    /// The verdict with which a run has ended.
+    pub fn ending(&self) -> Verdict
+        requires { InWorld D.drive self.now HasEnded }
+        ensures { InWorld D.drive self.now (λ w. w.verdict ≡ Some result) }
+    {
+        self.law();
+        let Some(verdict) = self.verdict() else {
+            unreachable!()
+        };
+        *verdict
+    }
+
+    /// The protocol, the topology, what has happened and the entries of that. It takes no memory.
+    pub fn into_parts(self) -> (Plan, Topology, Seq<Event>, Seq<Entry>)
+        ensures plan { result.0 ≡ self.trees }
+        ensures topology { result.1 ≡ self.topology }
+        ensures history { result.2 ≡ self.history }
+        ensures journal { result.3 ≡ self.journal }
+    {
+        let World {
+            plan,
+            topology,
+            state,
+            ..
+        } = self;
+        let (history, journal) = state.book.into_parts();
+        (plan, topology, history, journal)
+    }
+}

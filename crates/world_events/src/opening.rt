@@ -1,0 +1,136 @@
+//! A world as its run begins.
+ghost use Rattle.std.specs.Prelude.{◌≡◌, ◌≤◌, ◌<◌, IfOk, IsSome, length, option_and_then, slice_get, sum, unwrap_or};
+ghost use Rattle.slicc_plan.specs.SymbolsOf.{symbols_of};
+ghost use Rattle.ctl_face.specs.Fits.{last_cycle};
+ghost use Rattle.ruby_symbols.specs.Names.{mandatory as mandatory_in};
+ghost use Rattle.protocol_runs.specs.Machines.{machine_of as machine_in};
+ghost use Rattle.topology_fit.specs.FitsPlan.{FitsPlan};
+ghost use Rattle.topology_fit.specs.Seats.{seat_setup, seat_setups};
+ghost use Rattle.topology_fit.specs.Setups.{ranges_of};
+ghost use Rattle.world_seats.specs.Seated.{setup_of, setups_in};
+ghost use Rattle.world_events.specs.Opening.{AreOpened, IsOpened, IsOpenedFor};
+ghost use Rattle.world_events.specs.Worlds.{opened};
+
+use crate::limits::RunLimits;
+use crate::machines::machine_of;
+use crate::routes::routes_copied;
+use crate::world::World;
+use ctl_store::Store;
+use ruby_base::NoMemory;
+use ruby_symbols::mandatory;
+use ruby_topology::{Seat, Topology};
+use sequencer::Driver;
+use slicc_plan::Plan;
+use std::alloc::Global;
+use world_places::Kept;
+use world_seats::SeatAt;
+use world_state::State;
+
+// The number of the buffer `mandatoryQueue` of the machine of this number, or 0 where there is none.
+fn queue_in(plan: &Plan, machine: u16) -> u16
+    ensures { result ≡ unwrap_or (option_and_then mandatory_in
+        (slice_get (symbols_of plan.now).machines machine)) 0 }
+{
+    match plan.symbols().machines.get(machine as usize) {
+        Some(m) => mandatory(m).unwrap_or(0),
+        None => 0,
+    }
+}
+
+// A seat as a run has it.
+fn seat_at(plan: &Plan, topology: &Topology, seat: Seat) -> SeatAt
+    requires fits { FitsPlan plan.now topology.now }
+    requires there { IsSome (machine_in (ranges_of topology.now) seat.controller) }
+    ensures { setup_of result ≡ seat_setup (symbols_of plan.now) (ranges_of topology.now) seat }
+{
+    let machine = machine_of(topology.counts.as_slice(), seat.controller);
+    SeatAt {
+        controller: seat.controller,
+        has_sequencer: seat.sequencer,
+        queue: queue_in(plan, machine),
+    }
+}
+
+// The seats of a run.
+fn seats_at(alloc: Global, plan: &Plan, topology: &Topology) -> Result<Vec<SeatAt>, NoMemory>
+    requires { FitsPlan plan.now topology.now }
+    ensures { IfOk result (λ seats. setups_in seats.items
+        ≡ seat_setups (symbols_of plan.now) topology.now) }
+{
+    let mut seats = Vec::new(alloc);
+    for seat in topology.seats.as_slice() {
+        seats.push(seat_at(plan, topology, *seat))?;
+    }
+    Ok(seats)
+}
+
+// The controller of this number as a run begins.
+fn kept_at(alloc: Global, plan: &Plan, topology: &Topology, c: u32) -> Result<Kept, NoMemory>
+    requires fits { FitsPlan plan.now topology.now }
+    requires there { c < sum topology.now.counts }
+    ensures { IfOk result (IsOpenedFor plan.now topology.now c) }
+{
+    let machine = machine_of(topology.counts.as_slice(), c);
+    let routes = routes_copied(alloc, &topology.routes)?;
+    let store = Store::new(alloc, plan, machine, c, &topology.sizes[machine as usize])?;
+    Ok(Kept { store, routes })
+}
+
+// All controllers as a run begins, in the order of their numbers.
+fn all_kept(alloc: Global, plan: &Plan, topology: &Topology) -> Result<Vec<Kept>, NoMemory>
+    requires { FitsPlan plan.now topology.now }
+    ensures { IfOk result (λ kept. AreOpened plan.now topology.now kept.items) }
+{
+    let controllers = topology.names.len() as u32;
+    let mut kept = Vec::new(alloc);
+    for c in 0..controllers {
+        let one = kept_at(alloc, plan, topology, c)?;
+        kept.push(one)?;
+    }
+    Ok(kept)
+}
+
+// The data of a run as it begins.
+fn data<D: Driver>(
+    alloc: Global,
+    plan: &Plan,
+    topology: &Topology,
+    driver: D,
+) -> Result<(Vec<SeatAt>, State<D>), NoMemory>
+    requires { FitsPlan plan.now topology.now }
+    ensures seats { IfOk result (λ d. setups_in d.0.items
+        ≡ seat_setups (symbols_of plan.now) topology.now) }
+    ensures state { IfOk result (λ d. IsOpened plan.now topology.now driver d.1) }
+{
+    let seats = seats_at(alloc, plan, topology)?;
+    let kept = all_kept(alloc, plan, topology)?;
+    let state = State::open(alloc, kept, driver)?;
+    Ok((seats, state))
+}
+
+impl<D: Driver> World<D> {
+    /// The world of a protocol over a topology that fits it, as a run with these bounds and this driver begins. The driver is as its
+    /// constructor made it, and finds the seats that it needs.
+    pub fn new(
+        alloc: Global,
+        plan: Plan,
+        topology: Topology,
+        limits: RunLimits,
+        driver: D,
+    ) -> Result<World<D>, NoMemory>
+        requires fits { FitsPlan plan topology }
+        requires cycles { limits.cycles ≤ last_cycle }
+        requires driver { D.opening driver ≡ driver }
+        requires seats { D.least driver ≤ length topology.seats }
+        ensures { IfOk result (λ w. w ≡ opened plan topology limits driver) }
+    {
+        let (seats, state) = data(alloc, &plan, &topology, driver)?;
+        Ok(World {
+            plan,
+            topology,
+            limits,
+            seats,
+            state,
+        })
+    }
+}

@@ -1,0 +1,120 @@
+//! A world, and what is read off it.
+ghost use Rattle.std.specs.Prelude.{◌≡◌, ◌≤◌, length, position};
+ghost use Rattle.std.specs.List.{list_any};
+ghost use Rattle.std.specs.Option.{option_copied};
+ghost use Rattle.ruby_runs.specs.World.{World as WorldRecord, is_free, is_held};
+ghost use Rattle.ctl_face.specs.Ctl.{Ctl};
+ghost use Rattle.ctl_face.specs.Fits.{last_cycle};
+ghost use Rattle.topology_fit.specs.FitsPlan.{FitsPlan};
+ghost use Rattle.world_events.specs.Worlds.{InWorld, IsWorldOf, is_free_at as is_free_in, rules_in};
+
+use crate::limits::RunLimits;
+use protocol_meaning::{meanings_are_lawful, settings_are_lawful};
+use protocol_runs::controllers_fit;
+use ruby_topology::Topology;
+use run_journal::{Entry, Event, Verdict};
+use sequencer::Driver;
+use slicc_plan::Plan;
+use std::marker::Model;
+use world_places::{any_held, first_free, is_free_at};
+use world_seats::SeatAt;
+use world_state::State;
+
+/// All controllers of a protocol over a topology, with a driver, as a run has led them here. A contract sees what the run began with, and
+/// its history and journal: these lead to one world, which always is one of a run. One controller at most is held at a time.
+#[derive(Drop)]
+pub struct World<D: Driver> {
+    pub(crate) plan: Plan,
+    pub(crate) topology: Topology,
+    pub(crate) limits: RunLimits,
+    pub(crate) seats: Vec<SeatAt>,
+    pub(crate) state: State<D>,
+}
+
+impl<D: Driver> Model for World<D> {
+    ghost use Rattle.world_events.specs.Worlds.{WorldView, world_view_code};
+
+    ghost Value = { WorldView D };
+
+    ghost coded = { world_view_code D.code };
+
+    ghost use Rattle.world_events.specs.Data.{IsData, view_of};
+
+    ghost view = { λ w. view_of D.opening w.plan w.topology w.limits w.state };
+
+    ghost invariant = { λ w. IsData D.least D.drive
+        (view_of D.opening w.plan w.topology w.limits w.state) w.seats.items w.state };
+}
+
+impl<D: Driver> World<D> {
+    /// The history of a world leads to a world of its run, whose topology, bounds and driver are as `new` was given them. It does
+    /// nothing.
+    pub fn law(&self)
+        ensures run { (w : WorldRecord Ctl D) × IsWorldOf D.drive self.now w }
+        ensures fits { FitsPlan self.now.trees self.now.topology }
+        ensures cycles { self.now.limits.cycles ≤ last_cycle }
+        ensures enough { D.least self.now.opening ≤ length self.now.topology.seats }
+    {
+        let _state = &self.state;
+    }
+
+    /// The protocol.
+    pub fn plan(&self) -> &Plan
+        ensures { result.now ≡ self.now.trees }
+    {
+        &self.plan
+    }
+
+    /// The topology.
+    pub fn topology(&self) -> &Topology
+        ensures { result.now ≡ self.now.topology }
+    {
+        &self.topology
+    }
+
+    /// What has happened so far.
+    pub fn history(&self) -> &[Event]
+        ensures { result.now ≡ self.now.history }
+    {
+        self.state.book.history()
+    }
+
+    /// The entries of what has happened so far.
+    pub fn journal(&self) -> &[Entry]
+        ensures { result.now ≡ self.now.journal }
+    {
+        self.state.book.journal()
+    }
+
+    /// The least controller that is due and not held, or `None` exactly where there is none.
+    pub fn due(&self) -> Option<u32>
+        ensures { InWorld D.drive self.now (λ w.
+            result ≡ position (is_free (rules_in D.drive self.now) w.now) w.places) }
+    {
+        meanings_are_lawful();
+        settings_are_lawful::<D>();
+        controllers_fit::<D>();
+        first_free(&self.state.places, self.state.now)
+    }
+
+    /// Whether there is a controller of this number, which is due and not held.
+    pub fn is_due(&self, c: u32) -> bool
+        ensures { InWorld D.drive self.now (λ w. result ≡ is_free_in D.drive self.now w c) }
+    {
+        is_free_at(&self.state.places, c, self.state.now)
+    }
+
+    /// Whether some controller is held.
+    pub fn any_held(&self) -> bool
+        ensures { InWorld D.drive self.now (λ w. result ≡ list_any is_held w.places) }
+    {
+        any_held(&self.state.places)
+    }
+
+    /// The verdict with which the run has ended, or `None` where it goes on.
+    pub fn verdict(&self) -> Option<&Verdict>
+        ensures { InWorld D.drive self.now (λ w. option_copied result ≡ w.verdict) }
+    {
+        self.state.verdict.as_ref()
+    }
+}
