@@ -71,8 +71,10 @@ pub fn is_delivered(store: &mut Store, routes: &Routes, now: u64, m: Message) ->
         || store.me() == m.number.sender
         || usize::from(m.buffer) >= store.machine().buffers.len()
         || !takes(store.machine(), m.buffer, &m.fields)
-        || store.room(1).is_err()
     {
+        return false;
+    }
+    if store.room(1).is_err() {
         return false;
     }
     store.arrive(m);

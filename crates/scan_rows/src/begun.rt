@@ -108,7 +108,7 @@ pub(crate) fn queue(symbols: &Symbols) -> Option<u16> {
 pub(crate) fn is_begun(
     alloc: Global,
     store: &mut Store,
-    queue: u16,
+    queue: Option<u16>,
     routes: &Routes,
     now: u64,
     address: u64,
@@ -116,7 +116,7 @@ pub(crate) fn is_begun(
     requires { GoesOn store.old routes.now now }
     ensures { GoesOn store.new routes.now now }
 {
-    let Ok(fields) = request(alloc, address) else {
+    let (Some(queue), Ok(fields)) = (queue, request(alloc, address)) else {
         return false;
     };
     let number = MsgNo {

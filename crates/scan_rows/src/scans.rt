@@ -34,14 +34,14 @@ struct Scan<'a> {
     receiving: Option<u16>,
 }
 
-// The line of a scan of a store's controller, whose queue has this number.
+// The line of a scan of a store's controller, whose queue of requests has this number.
 fn add_on(
     alloc: Global,
     text: &mut String,
     scan: Scan<'_>,
     protocol: &Interpreted,
     store: &mut Store,
-    queue: u16,
+    queue: Option<u16>,
     routes: &Routes,
 ) -> Result<bool, NoMemory>
     requires { GoesOn store.old routes.now (scan.now - 1) }
@@ -74,11 +74,10 @@ fn add_scan(
     let queue = queue(plan.symbols());
     let store = store_of(alloc, &plan, routes, scan.now);
     let protocol = Interpreted::new(plan);
-    let added = match (store, queue) {
-        (Ok(Some(mut store)), Some(queue)) => {
-            add_on(alloc, text, scan, &protocol, &mut store, queue, routes)
-        }
-        _ => Ok(false),
+    let added = match store {
+        Ok(Some(mut store)) => add_on(alloc, text, scan, &protocol, &mut store, queue, routes),
+        Ok(None) => Ok(false),
+        Err(NoMemory) => Err(NoMemory),
     };
     let_protocol_go(protocol);
     added
