@@ -1,10 +1,12 @@
 //! Makes whole calls of the program and prints what each answers: a line `== WORDS`, the text of the answer, and a line
 //! `status N`. The calls are the lines of the file `calls`, over the files of the folder that it is run in, so that the calls in
 //! `data/calls` and their answers in `stdout` are rows of a table: each says what the whole program makes of a protocol, and a
-//! further row is a file and its lines, and no proof. After them come the runs of the file `worlds/rows`, whose requests are those of
-//! a script. With the words of one such run it makes that run alone, which is for `bench/world`.
+//! further row is a file and its lines, and no proof. After them come the calls of the file `faults`, over libraries and sinks in
+//! memory, and then the runs of the file `worlds/rows`, whose requests are those of a script. With the words of one such run it makes that
+//! run alone, which is for `bench/world`.
 #![tactic(auto)]
 
+mod faults;
 mod row;
 mod table;
 mod worlds;
@@ -75,7 +77,10 @@ fn main(rt: HostRuntime) -> ExitCode {
     let alloc = rt.alloc();
     let written = if line.is_empty() {
         match write_calls(&rt, alloc, &mut library, &mut sink) {
-            Ok(true) => write_runs(alloc, &mut library, &mut sink),
+            Ok(true) => match faults::write_faults(&rt, alloc, &mut library, &mut sink) {
+                Ok(true) => write_runs(alloc, &mut library, &mut sink),
+                other => other,
+            },
             other => other,
         }
     } else {

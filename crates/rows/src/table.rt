@@ -13,8 +13,8 @@ use std::thread::Threads;
 // The most bytes of a call's text. A longer one is cut off there, and the call ends with status 7.
 const ROOM: u64 = 65_536;
 
-// The words of a line, which are separated by blanks.
-fn words(alloc: Global, line: &str) -> Result<Vec<String>, NoMemory> {
+/// The words of a line, which are separated by blanks.
+pub(crate) fn words(alloc: Global, line: &str) -> Result<Vec<String>, NoMemory> {
     let mut words = Vec::new(alloc);
     for word in line.split_whitespace() {
         words.push(String::from_str(alloc, word)?)?;
@@ -22,8 +22,8 @@ fn words(alloc: Global, line: &str) -> Result<Vec<String>, NoMemory> {
     Ok(words)
 }
 
-// Whether the words of a line are a call: there are some, and the first doesn't begin a comment.
-fn is_call(words: &[String]) -> bool {
+/// Whether the words of a line are a call: there are some, and the first doesn't begin a comment.
+pub(crate) fn is_call(words: &[String]) -> bool {
     match words {
         [] => false,
         [first, ..] => !first.as_str().starts_with('#'),
