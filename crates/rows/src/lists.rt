@@ -1,7 +1,7 @@
 // The lists of rows, each a file with a row in each line.
-use crate::table::{row, words};
-use crate::worlds;
-use ruby_base::NoMemory;
+use crate::table::words;
+use crate::{faults, table, worlds};
+use ruby_base::{NoMemory, Text};
 use ruby_outside::{Got, Library, Sink, put};
 use std::alloc::Global;
 use std::sync::Wait;
@@ -12,6 +12,8 @@ use std::thread::Threads;
 pub(crate) enum List {
     /// Whole calls of the program.
     Calls,
+    /// Calls over libraries and sinks in memory.
+    Faults,
     /// Runs under a script of requests.
     Runs,
 }
@@ -20,6 +22,7 @@ impl List {
     fn file(self) -> &'static str {
         match self {
             List::Calls => "calls",
+            List::Faults => "faults",
             List::Runs => "worlds/rows",
         }
     }
@@ -36,6 +39,21 @@ fn is_row(line: &str) -> bool {
     }
 }
 
+// The row of a call.
+fn row_of<R: Threads + Wait + Sync, L: Library>(
+    rt: &R,
+    alloc: Global,
+    list: List,
+    line: &str,
+    library: &mut L,
+) -> Result<Text, NoMemory> {
+    let words = words(alloc, line)?;
+    match list {
+        List::Faults => faults::row(rt, alloc, line, words.as_slice(), library),
+        List::Calls | List::Runs => table::row(rt, alloc, line, words.as_slice(), library),
+    }
+}
+
 // Writes the row of a line, and answers whether it was written whole.
 fn write_row<R: Threads + Wait + Sync, L: Library, S: Sink>(
     rt: &R,
@@ -45,13 +63,13 @@ fn write_row<R: Threads + Wait + Sync, L: Library, S: Sink>(
     library: &mut L,
     sink: &mut S,
 ) -> Result<bool, NoMemory> {
-    if let List::Runs = list {
-        return worlds::write_row(alloc, line, library, sink);
+    match list {
+        List::Runs => worlds::write_row(alloc, line, library, sink),
+        List::Calls | List::Faults => {
+            let row = row_of(rt, alloc, list, line, library)?;
+            Ok(put(sink, row.as_slice()))
+        }
     }
-    let words = words(alloc, line)?;
-    let row = row(rt, alloc, line, words.as_slice(), library);
-    drop(words);
-    Ok(put(sink, row?.as_slice()))
 }
 
 /// Writes the rows of a list until one isn't written whole, and answers whether all were.

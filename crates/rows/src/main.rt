@@ -1,12 +1,14 @@
 //! Prints tables of examples, and what they have to print is in `stdout`. First come whole calls of the program, of each a line
 //! `== WORDS`, the text of the answer, and a line `status N`. The calls are the lines of the file `calls`, over the files of the folder that
 //! the program is run in, so that the calls in `data/calls` and their answers in `stdout` are rows of a table: each says what the whole
-//! program makes of a protocol, and a further row is a file and its lines, and no proof. After them come the runs of the file `worlds/rows`,
-//! whose requests are those of a script; the rows of parts of the program, by `part_rows`; and the scans of small protocols, by `scan_rows`.
+//! program makes of a protocol, and a further row is a file and its lines, and no proof. After them come the calls of the file `faults`, over
+//! libraries and sinks in memory; the runs of the file `worlds/rows`, whose requests are those of a script; the rows of parts of the program,
+//! by `part_rows`; and the scans of small protocols, by `scan_rows`.
 //!
 //! With words, it makes one run of its own, which is for `bench/world`, or times what a script of `bench/` asks for.
 #![tactic(auto)]
 
+mod faults;
 mod lists;
 mod reading;
 mod row;
@@ -33,7 +35,7 @@ fn write_all<R: Threads + Wait + Sync, L: Library, S: Sink>(
     library: &mut L,
     sink: &mut S,
 ) -> Result<bool, NoMemory> {
-    for list in [List::Calls, List::Runs] {
+    for list in [List::Calls, List::Faults, List::Runs] {
         if !write_list(rt, alloc, list, library, sink)? {
             return Ok(false);
         }

@@ -1,4 +1,4 @@
-//! What the words of a command line ask for. `read` takes the words after the program's name to the options, or to the
+//! What the words of a command line ask for. `words` are those after the program's name, and `read` takes them to the options, or to the
 //! reason why there are none, over the kit's `clap`.
 #![tactic(auto)]
 
@@ -8,6 +8,7 @@ mod numbers;
 mod options;
 mod reading;
 mod tables;
+mod words;
 
 pub use options::{Command, OptionFault, Options};
 pub use reading::read;
@@ -16,3 +17,4 @@ pub use tables::{
     Bounds, CHECKS, COMMAND, COMMANDS, CYCLES, CommandRow, DEADLOCK, GENERATED, LIMIT, LINES,
     NAMES, NUMBERS, NumberOption, PROGRAM, REQUESTS, SEED, TRACE, WORKERS,
 };
+pub use words::words;
