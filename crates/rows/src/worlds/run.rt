@@ -73,15 +73,10 @@ fn script_of(alloc: Global, bytes: &[u8]) -> Result<Script, NoMemory>
     Ok(Script::new(requests_of(alloc, text)?))
 }
 
-fn write_record<S: Sink>(
-    alloc: Global,
-    sink: &mut S,
-    record: &RunRecord,
-    whole: bool,
-) -> Result<bool, NoMemory> {
+fn write_record<S: Sink>(alloc: Global, sink: &mut S, record: &RunRecord, whole: bool) -> bool {
     let names = &record.topology.names;
-    if whole && !write_entries(alloc, sink, &record.plan, names, record.journal.as_slice())? {
-        return Ok(false);
+    if whole && !write_entries(alloc, sink, &record.plan, names, record.journal.as_slice()) {
+        return false;
     }
     let rest = RunText {
         plan: &record.plan,
@@ -90,7 +85,7 @@ fn write_record<S: Sink>(
         account: &record.account,
         verdict: &record.verdict,
     };
-    Ok(write_rest(sink, &rest))
+    write_rest(sink, &rest)
 }
 
 // The run of a plan over a topology.
@@ -132,7 +127,7 @@ fn write_over<S: Sink>(
     match topology_of(alloc, bytes, &plan) {
         Ok(topology) => {
             let record = run_of(alloc, &row.limits, plan, topology, script)?;
-            write_record(alloc, sink, &record, row.whole)
+            Ok(write_record(alloc, sink, &record, row.whole))
         }
         Err(_) => Ok(false),
     }
