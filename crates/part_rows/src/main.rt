@@ -5,6 +5,7 @@
 #![tactic(auto)]
 
 mod calls;
+mod pairs;
 mod protocols;
 mod symbols;
 mod tester;
@@ -24,6 +25,8 @@ fn print_parts(rt: &HostRuntime) -> io::Result<bool> {
     whole &= topologies::print(rt);
     println!(rt; "# tester")?;
     whole &= tester::print(rt);
+    println!(rt; "# pairs")?;
+    pairs::print(rt)?;
     Ok(whole)
 }
 

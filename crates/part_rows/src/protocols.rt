@@ -4,7 +4,12 @@ use ruby_outside::Library;
 use slicc_front::{Front, front};
 use std::alloc::Global;
 
-fn front_of<L: Library>(alloc: Global, library: &mut L, path: &str) -> Result<Front, NoMemory> {
+/// What the protocol of a file is.
+pub(crate) fn front_of<L: Library>(
+    alloc: Global,
+    library: &mut L,
+    path: &str,
+) -> Result<Front, NoMemory> {
     let name = Text::copied(alloc, path.as_bytes())?;
     Ok(front(alloc, library, &name))
 }

@@ -39,15 +39,19 @@ fn put_both<S: Sink>(sink: &mut S, first: &[u8], second: &[u8]) -> bool
     put(sink, first) && put(sink, second)
 }
 
-fn text(alloc: Global, bytes: &[u8]) -> Result<Text, NoMemory> {
-    Text::copied(alloc, bytes)
+/// The files of a library, by name. Of two with one name the first counts.
+const FILES: &[(&[u8], &[u8])] = &[(b"a.sm", b"machine"), (b"a.sm", b"later"), (b"empty", b"")];
+
+fn file(alloc: Global, name: &[u8], bytes: &[u8]) -> Result<(Text, Text), NoMemory> {
+    let name = Text::copied(alloc, name)?;
+    Ok((name, Text::copied(alloc, bytes)?))
 }
 
 fn shelf(alloc: Global) -> Result<Seq<(Text, Text)>, NoMemory> {
     let mut files = Seq::new(alloc);
-    files.push((text(alloc, b"a.sm")?, text(alloc, b"machine")?))?;
-    files.push((text(alloc, b"a.sm")?, text(alloc, b"later")?))?;
-    files.push((text(alloc, b"empty")?, text(alloc, b"")?))?;
+    for (name, bytes) in FILES {
+        files.push(file(alloc, *name, *bytes)?)?;
+    }
     Ok(files)
 }
 
@@ -142,29 +146,55 @@ fn own_path<R: Env + Files + AllocGlobal>(rt: &R, id: u32) -> Result<PathBuf, Fa
     Ok(env::temp_dir(rt)?.join(rt.alloc(), name.as_str())?)
 }
 
+/// The most bytes that are read.
+const LIMIT: usize = 1_048_576;
+
+/// Whether a read of a name is answered so once a file has these bytes.
+fn is_told(
+    rt: &HostRuntime,
+    path: &PathBuf,
+    bytes: &[u8],
+    name: &str,
+    want: &[u8],
+) -> Result<bool, Fail> {
+    fs::write(rt, path, bytes)?;
+    let got = FileLibrary::new(rt.alloc(), rt).read(name, LIMIT as u64);
+    Ok(word(&got) == want)
+}
+
+/// Whether files are told apart: one as long as it may be, one byte longer, shorter and empty, a name below a file, a folder, and no file.
+fn are_told(
+    rt: &HostRuntime,
+    path: &PathBuf,
+    name: &str,
+    below: &str,
+    long: &[u8],
+) -> Result<bool, Fail> {
+    let full = long.get(..LIMIT).unwrap_or(long);
+    let mut are_so = true;
+    for (bytes, name, want) in [
+        (full, name, full),
+        (long, name, b"(too large)"),
+        (b"machine", name, b"machine"),
+        (b"", name, b""),
+        (b"", below, b"(failed)"),
+        (b"", "/", b"(failed)"),
+        (b"", "no/such/file", b"(absent)"),
+    ] {
+        are_so = is_told(rt, path, bytes, name, want)? && are_so;
+    }
+    Ok(are_so)
+}
+
 #[test]
 fn real_files_are_told_apart(rt: HostRuntime) -> Result<(), Fail> {
     let path = own_path(&rt, process::id(rt.process()))?;
     let name = path.as_path().to_str().ok_or("a path that is no text")?;
     let below = format!(in rt.alloc(); "{name}/x")?;
-    let full = vec![in rt.alloc(); b'x'; 1_048_576]?;
-    let over = vec![in rt.alloc(); b'x'; 1_048_577]?;
-    let mut library = FileLibrary::new(rt.alloc(), &rt);
-    for (bytes, name, want) in [
-        (full.as_slice(), name, full.as_slice()),
-        (over.as_slice(), name, b"(too large)"),
-        (b"machine", name, b"machine"),
-        (b"", name, b""),
-        (b"", below.as_str(), b"(failed)"),
-        (b"", "/", b"(failed)"),
-        (b"", "no/such/file", b"(absent)"),
-    ] {
-        fs::write(&rt, &path, bytes)?;
-        let got = library.read(name, 1_048_576);
-        let length = bytes.len();
-        assert!(rt; word(&got) == want, "{name}, {length} bytes");
-    }
+    let long = vec![in rt.alloc(); b'x'; LIMIT + 1]?;
+    let are_so = are_told(&rt, &path, name, below.as_str(), long.as_slice());
     fs::remove_file(&rt, &path)?;
+    assert!(rt; are_so?);
     Ok(())
 }
 
