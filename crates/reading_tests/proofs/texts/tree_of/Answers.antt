@@ -1,7 +1,7 @@
 use Rattle.std.proofs.Common.{arith}
 use Rattle.slicc_lex.proofs.EndedTokens.{are_few}
 use Rattle.slicc_parse.proofs.EndedOnce.{ended_once}
-use Rattle.reading_tests.proofs.files.parsed.Goals as goal
+use Rattle.reading_tests.proofs.texts.tree_of.Goals as goal
 
 pub parse-requires-clause-size : goal.parse-requires-clause-size
 parse-requires-clause-size c = omega (arith, are_few 0 c.args.text.now c.in-Ok.tokens c.in-Ok.ensures)
