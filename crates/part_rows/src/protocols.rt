@@ -1,26 +1,17 @@
-// The protocols whose files the program reads.
-use ruby_base::{NoMemory, Text};
+// The protocols whose files are read.
+use ruby_base::NoMemory;
 use ruby_outside::Library;
-use slicc_front::{Front, front};
+use sample_stores::plan_of;
+use slicc_plan::Plan;
 use std::alloc::Global;
 
-/// What the protocol of a file is.
-pub(crate) fn front_of<L: Library>(
-    alloc: Global,
-    library: &mut L,
-    path: &str,
-) -> Result<Front, NoMemory> {
-    let name = Text::copied(alloc, path.as_bytes())?;
-    Ok(front(alloc, library, &name))
-}
-
-/// What the protocol of a file in this folder is.
-pub(crate) fn front_in<L: Library>(
+/// The plan of the protocol of a file in this folder, if it keeps all rules.
+pub(crate) fn plan_in<L: Library>(
     alloc: Global,
     library: &mut L,
     folder: &str,
     file: &str,
-) -> Result<Front, NoMemory> {
+) -> Result<Option<Plan>, NoMemory> {
     let path = format!(in alloc; "{folder}/{file}")?;
-    front_of(alloc, library, path.as_str())
+    plan_of(alloc, library, path.as_str())
 }

@@ -1,52 +1,55 @@
-// Prints the symbols of protocols, so that the files in `data/symbols/` and what is printed of them are rows of a table: each says
-// what a protocol declares, by its names and numbers. What is expected was worked out by hand.
+// The symbols of protocols, so that the files in the folder `symbols` and what is written of them are rows of a table: each says what a
+// protocol declares, by its names and numbers. What is expected was worked out by hand.
 mod machines;
 mod parts;
 mod types;
 
-use crate::protocols::front_in;
-use ruby_outside::{FileLibrary, Library};
+use crate::protocols::plan_in;
+use machines::write_machines;
+use ruby_base::NoMemory;
+use ruby_outside::{Library, Sink, put};
 use ruby_symbols::Symbols;
-use slicc_front::Front;
+use sample_stores::let_go;
 use std::alloc::Global;
-use std::io::{self, Print};
+use std::fmt;
+use types::write_types;
 
 // The protocols, in the folder `symbols`.
 const FILES: [&str; 5] = ["tick.sm", "msi.sm", "tables.sm", "values.sm", "shared.sm"];
 
-fn print_symbols<R: Print>(rt: &R, symbols: &Symbols) -> io::Result<()> {
-    types::print_types(rt, symbols)?;
-    machines::print_machines(rt, symbols)
-}
+#[derive(Clone, Copy)]
+struct Shown<'a>(&'a Symbols);
 
-fn print_front<R: Print>(rt: &R, front: Front) -> io::Result<bool> {
-    match front {
-        Front::Plan(plan) => print_symbols(rt, plan.symbols())?,
-        _ => println!(rt; "no plan")?,
+impl<'a> fmt::Display for Shown<'a> {
+    fn fmt<W: fmt::Write>(&self, f: &mut fmt::Formatter<W>) -> fmt::Result {
+        write_types(f, self.0)?;
+        write_machines(f, self.0)
     }
-    Ok(true)
 }
 
-// Prints the symbols of a protocol, and answers whether there was memory for its name.
-fn print_file<R: Print, L: Library>(
-    rt: &R,
+// What is written of the protocol of a file.
+fn text_of<L: Library>(alloc: Global, library: &mut L, file: &str) -> Result<String, NoMemory> {
+    match plan_in(alloc, library, "symbols", file)? {
+        Some(plan) => {
+            let text = format!(in alloc; "== {file}\n{}", Shown(plan.symbols()));
+            let_go(plan);
+            Ok(text?)
+        }
+        None => Ok(format!(in alloc; "== {file}\nno plan\n")?),
+    }
+}
+
+/// Writes the symbols of all protocols, and answers whether all were written.
+pub(crate) fn write<L: Library, S: Sink>(
     alloc: Global,
     library: &mut L,
-    file: &str,
-) -> io::Result<bool> {
-    println!(rt; "== {file}")?;
-    match front_in(alloc, library, "symbols", file) {
-        Ok(front) => print_front(rt, front),
-        Err(_) => Ok(false),
-    }
-}
-
-/// Prints the symbols of all protocols, and answers whether all were printed.
-pub(crate) fn print(rt: &HostRuntime) -> io::Result<bool> {
-    let mut library = FileLibrary::new(rt.alloc(), rt);
-    let mut whole = true;
+    sink: &mut S,
+) -> Result<bool, NoMemory> {
     for file in FILES {
-        whole &= print_file(rt, rt.alloc(), &mut library, file)?;
+        let text = text_of(alloc, library, file)?;
+        if !put(sink, text.as_bytes()) {
+            return Ok(false);
+        }
     }
-    Ok(whole)
+    Ok(true)
 }

@@ -1,4 +1,4 @@
-// Runs the random tester over sequencers whose requests a memory answers by a script, and prints each request that it issues, up
+// Runs the random tester over sequencers whose requests a memory answers by a script, and writes each request that it issues, up
 // to 40 in a run, and what it finds: a line `CYCLE SEAT LINE KIND BYTE` for a request, below a line for each run. What is expected is
 // what `bench/tester-draws` prints, a second tester, written in another language from the rules alone.
 mod lines;
@@ -8,12 +8,12 @@ mod seats;
 
 use memory::Script;
 use play::{Run, write_run};
-use ruby_base::{NoMemory, Text};
-use ruby_outside::{StdSink, put};
+use ruby_base::NoMemory;
+use ruby_outside::{Sink, put};
 use std::alloc::Global;
 
 // Runs of 40 requests, at one, two and three seats.
-fn write_draws(alloc: Global, seed: u64, text: &mut Text) -> Result<(), NoMemory> {
+fn write_draws(alloc: Global, seed: u64, text: &mut String) -> Result<(), NoMemory> {
     for seats in 1..4 {
         let run = Run {
             seed,
@@ -39,7 +39,7 @@ const CHECKED: [Checked; 5] = [
     (1, 3, Script::Late, 290),
 ];
 
-fn write_checked(alloc: Global, checked: &Checked, text: &mut Text) -> Result<(), NoMemory> {
+fn write_checked(alloc: Global, checked: &Checked, text: &mut String) -> Result<(), NoMemory> {
     let (seed, seats, script, deadlock) = *checked;
     let run = Run {
         seed,
@@ -51,7 +51,7 @@ fn write_checked(alloc: Global, checked: &Checked, text: &mut Text) -> Result<()
     write_run(alloc, &run, text)
 }
 
-fn write_runs(alloc: Global, text: &mut Text) -> Result<(), NoMemory> {
+fn write_runs(alloc: Global, text: &mut String) -> Result<(), NoMemory> {
     for seed in 1..4 {
         write_draws(alloc, seed, text)?;
     }
@@ -61,10 +61,9 @@ fn write_runs(alloc: Global, text: &mut Text) -> Result<(), NoMemory> {
     Ok(())
 }
 
-/// Prints all runs, and answers whether they were printed whole.
-pub(crate) fn print(rt: &HostRuntime) -> bool {
-    let mut text = Text::new(rt.alloc());
-    let written = write_runs(rt.alloc(), &mut text);
-    let mut sink = StdSink::new(rt);
-    written.is_ok() && put(&mut sink, text.as_slice())
+/// Writes all runs, and answers whether they were written whole.
+pub(crate) fn write<S: Sink>(alloc: Global, sink: &mut S) -> Result<bool, NoMemory> {
+    let mut text = String::new(alloc);
+    write_runs(alloc, &mut text)?;
+    Ok(put(sink, text.as_bytes()))
 }

@@ -1,17 +1,14 @@
 // Calls over libraries and sinks in memory: those that fail where a line says so, those that never fail, and calls with long texts. They are
 // the rows of a list, and of each are printed a line `== LINE`, what the sink then holds, the status, and whether a record is kept.
 use crate::row::row_of;
-use crate::table::{is_call, words};
 use ruby_base::{NoMemory, Seq, Text};
 use ruby_cli::ruby;
-use ruby_outside::{Got, Library, MemLibrary, MemSink, OpenGate, Sink, SureLibrary, SureSink, put};
+use ruby_outside::{Got, Library, MemLibrary, MemSink, OpenGate, Sink, SureLibrary, SureSink};
 use std::alloc::Global;
 use std::sync::Wait;
 use std::thread::Threads;
 
-// The file with the lines, and the most bytes that it, and each file of a call, may have.
-const LIST: &str = "faults";
-
+// The most bytes that each file of a call may have.
 const LIMIT: u64 = 1_048_576;
 
 // The most bytes of a call's text, and of one of which only the last lines are printed.
@@ -208,14 +205,8 @@ fn sure_row<R: Threads + Wait + Sync>(
     row_of_made(alloc, line, b"", made)
 }
 
-// The row of a line.
-fn row<R: Threads + Wait + Sync, L: Library>(
-    rt: &R,
-    alloc: Global,
-    line: &str,
-    words: &[String],
-    library: &mut L,
-) -> Result<Text, NoMemory> {
+// What the words of a line say: the faults that are planned, if any are, the list of the files, and the words of the call.
+fn said(words: &[String]) -> Option<(Option<Planned>, &String, &[String])> {
     match words {
         [kind, read, write, most, files, call @ ..] if kind.as_str() == "fails" => {
             let planned = Planned {
@@ -225,8 +216,7 @@ fn row<R: Threads + Wait + Sync, L: Library>(
                 room: ROOM,
                 lines: ROOM,
             };
-            let files = files_of(alloc, library, files.as_str())?;
-            planned_row(rt, alloc, line, planned, files, call)
+            Some((Some(planned), files, call))
         }
         [kind, lines, files, call @ ..] if kind.as_str() == "ends" => {
             let planned = Planned {
@@ -236,49 +226,27 @@ fn row<R: Threads + Wait + Sync, L: Library>(
                 room: LONG_ROOM,
                 lines: number(lines.as_str()),
             };
-            let files = files_of(alloc, library, files.as_str())?;
-            planned_row(rt, alloc, line, planned, files, call)
+            Some((Some(planned), files, call))
         }
-        [kind, files, call @ ..] if kind.as_str() == "sure" => {
-            let files = files_of(alloc, library, files.as_str())?;
-            sure_row(rt, alloc, line, files, call)
-        }
-        _ => Text::copied(alloc, b"no row\n"),
+        [kind, files, call @ ..] if kind.as_str() == "sure" => Some((None, files, call)),
+        _ => None,
     }
 }
 
-// Writes the rows of lines until one isn't written whole.
-fn write_lines<R: Threads + Wait + Sync, L: Library, S: Sink>(
+/// The row of a line.
+pub(crate) fn row<R: Threads + Wait + Sync, L: Library>(
     rt: &R,
     alloc: Global,
-    lines: &str,
+    line: &str,
+    words: &[String],
     library: &mut L,
-    sink: &mut S,
-) -> Result<bool, NoMemory> {
-    for line in lines.lines() {
-        let words = words(alloc, line)?;
-        if is_call(words.as_slice()) {
-            let row = row(rt, alloc, line, words.as_slice(), library)?;
-            if !put(sink, row.as_slice()) {
-                return Ok(false);
-            }
-        }
-    }
-    Ok(true)
-}
-
-/// Writes the rows of the list until one isn't written whole, and answers whether all were.
-pub(crate) fn write_faults<R: Threads + Wait + Sync, L: Library, S: Sink>(
-    rt: &R,
-    alloc: Global,
-    library: &mut L,
-    sink: &mut S,
-) -> Result<bool, NoMemory> {
-    let Got::Bytes(list) = library.read(LIST, LIMIT) else {
-        return Ok(false);
+) -> Result<Text, NoMemory> {
+    let Some((planned, files, call)) = said(words) else {
+        return Text::copied(alloc, b"no row\n");
     };
-    match str::from_utf8(list.as_slice()) {
-        Ok(lines) => write_lines(rt, alloc, lines, library, sink),
-        Err(_) => Ok(false),
+    let files = files_of(alloc, library, files.as_str())?;
+    match planned {
+        Some(planned) => planned_row(rt, alloc, line, planned, files, call),
+        None => sure_row(rt, alloc, line, files, call),
     }
 }

@@ -43,25 +43,35 @@ pub(crate) struct Left {
     pub(crate) census: (u64, u64, u64),
     /// Byte addresses of lines, and their states in the built-in map, where these aren't the default.
     pub(crate) states: Vec<(u64, u16)>,
-    /// The lines of tables.
-    pub(crate) lines: Vec<Thing>,
+    /// The lines of tables, the copies for another controller and the finished requests.
+    pub(crate) things: Vec<Thing>,
 }
 
-fn marks(alloc: Global, store: &Store, now: u64) -> Result<Vec<u64>, NoMemory> {
-    let mut marks = Vec::new(alloc);
+impl Left {
+    /// Nothing yet.
+    pub(crate) fn new(alloc: Global) -> Left {
+        Left {
+            marks: Vec::new(alloc),
+            census: (0, 0, 0),
+            states: Vec::new(alloc),
+            things: Vec::new(alloc),
+        }
+    }
+}
+
+fn add_marks(store: &Store, now: u64, marks: &mut Vec<u64>) -> Result<(), NoMemory> {
     let mut from = now;
     for _ in 0..u64::MAX {
         let Some(mark) = store.next_mark(from) else {
-            return Ok(marks);
+            return Ok(());
         };
         marks.push(mark)?;
         from = mark.saturating_add(1);
     }
-    Ok(marks)
+    Ok(())
 }
 
-fn states<L: Local>(alloc: Global, local: &L) -> Result<Vec<(u64, u16)>, NoMemory> {
-    let mut states = Vec::new(alloc);
+fn add_states<L: Local>(local: &L, states: &mut Vec<(u64, u16)>) -> Result<(), NoMemory> {
     for line in LINES {
         if let Ok(now) = state(local, line) {
             if local.machine().default_state != Some(now) {
@@ -69,7 +79,7 @@ fn states<L: Local>(alloc: Global, local: &L) -> Result<Vec<(u64, u16)>, NoMemor
             }
         }
     }
-    Ok(states)
+    Ok(())
 }
 
 fn line_fields<L: Local>(
@@ -91,84 +101,92 @@ fn line_fields<L: Local>(
     Ok(fields)
 }
 
-// A line of a table, if the table has it, and of a table that has all lines, if it was written.
-fn line_left<L: Local>(
+// Adds a line of a table, if the table has it, and of a table that has all lines, if it was written.
+fn add_line<L: Local>(
     alloc: Global,
     local: &L,
     table: u16,
     line: u64,
-) -> Result<Option<Thing>, NoMemory> {
+    things: &mut Vec<Thing>,
+) -> Result<(), NoMemory> {
     let (Some((what, has_all, names)), Some(setup)) = (
         TABLES.get(usize::from(table)),
         local.machine().tables.get(usize::from(table)),
     ) else {
-        return Ok(None);
+        return Ok(());
     };
     let Ok(Some(r)) = lookup(local, table, line) else {
-        return Ok(None);
+        return Ok(());
     };
     let fields = line_fields(alloc, local, &r, names, &setup.initial)?;
-    if *has_all && fields.is_empty() {
-        return Ok(None);
+    if !*has_all || !fields.is_empty() {
+        things.push(Thing {
+            what,
+            number: line.wrapping_mul(64),
+            fields,
+        })?;
     }
-    Ok(Some(Thing {
-        what,
-        number: line.wrapping_mul(64),
-        fields,
-    }))
+    Ok(())
 }
 
-fn lines<L: Local>(alloc: Global, local: &L) -> Result<Vec<Thing>, NoMemory> {
-    let mut lines = Vec::new(alloc);
-    for table in 0..3 {
-        for line in LINES {
-            if let Some(thing) = line_left(alloc, local, table, line)? {
-                lines.push(thing)?;
-            }
-        }
-    }
-    Ok(lines)
-}
-
-/// What is left of a controller, by its store and a local of it, from a cycle on.
-pub(crate) fn all_left<L: Local>(
+/// Adds what is left of a controller, by its store and a local of it, from a cycle on.
+pub(crate) fn add_left<L: Local>(
     alloc: Global,
     store: &Store,
     local: &L,
     now: u64,
-) -> Result<Left, NoMemory> {
-    Ok(Left {
-        marks: marks(alloc, store, now)?,
-        census: store.census(),
-        states: states(alloc, local)?,
-        lines: lines(alloc, local)?,
-    })
+    left: &mut Left,
+) -> Result<(), NoMemory> {
+    left.census = store.census();
+    add_marks(store, now, &mut left.marks)?;
+    add_states(local, &mut left.states)?;
+    for table in 0..3 {
+        for line in LINES {
+            add_line(alloc, local, table, line, &mut left.things)?;
+        }
+    }
+    Ok(())
 }
 
-/// A copy that was sent to another controller of the machine.
-pub(crate) fn copy_left(
+// The fields of a copy to another controller of the machine.
+fn copy_fields(
     alloc: Global,
     machine: &MachineSetup,
-    copy: &Delivery<Message>,
-) -> Result<Thing, NoMemory> {
+    message: &Message,
+) -> Result<Vec<(&'static str, Value)>, NoMemory> {
     let mut fields = Vec::new(alloc);
-    if let Some(buffer) = machine.buffers.get(usize::from(copy.message.buffer)) {
+    if let Some(buffer) = machine.buffers.get(usize::from(message.buffer)) {
         let initial = Fields::of_kinds(alloc, &buffer.kinds)?;
         for (field, name) in (0..u16::MAX).zip(MESSAGE) {
-            if let Some(value) = copy.message.fields.get(field) {
+            if let Some(value) = message.fields.get(field) {
                 if initial.get(field) != Some(value) {
                     fields.push((*name, value.clone()?))?;
                 }
             }
         }
     }
-    Ok(Thing {
-        what: "copy for",
-        number: u64::from(copy.receiver),
-        fields,
-    })
+    Ok(fields)
 }
 
+/// Adds the copies that were sent to another controller of the machine.
+pub(crate) fn add_copies(
+    alloc: Global,
+    machine: &MachineSetup,
+    copies: &[Delivery<Message>],
+    left: &mut Left,
+) -> Result<(), NoMemory> {
+    for copy in copies {
+        let fields = copy_fields(alloc, machine, &copy.message)?;
+        left.things.push(Thing {
+            what: "copy for",
+            number: u64::from(copy.receiver),
+            fields,
+        })?;
+    }
+    Ok(())
+}
+
+// Takes the next request that was finished out of the controller's sequencer, if there is one.
 fn take_answer(store: &mut Store) -> Option<Answer> {
     match store.sequencer() {
         Some(sequencer) => sequencer.take_done(),
@@ -176,21 +194,32 @@ fn take_answer(store: &mut Store) -> Option<Answer> {
     }
 }
 
-/// Takes the next request that was finished out of the controller's sequencer, if there is one.
-pub(crate) fn request_left(alloc: Global, store: &mut Store) -> Result<Option<Thing>, NoMemory> {
-    let Some(answer) = take_answer(store) else {
-        return Ok(None);
-    };
-    let mut fields = Vec::new(alloc);
-    fields.push(("DataBlk", Value::Block(answer.block)))?;
+// The request of an answer.
+fn request_of(alloc: Global, answer: &Answer) -> Result<Thing, NoMemory> {
     let what = match answer.asked.kind {
         Ask::Load => "load",
         Ask::Store => "store",
         Ask::Fetch => "fetch",
     };
-    Ok(Some(Thing {
+    let mut fields = Vec::new(alloc);
+    fields.push(("DataBlk", Value::Block(answer.block)))?;
+    Ok(Thing {
         what,
         number: answer.asked.line.wrapping_mul(64),
         fields,
-    }))
+    })
+}
+
+/// Adds the requests that were finished, which it takes out of the sequencer; a controller had two.
+pub(crate) fn add_requests(
+    alloc: Global,
+    store: &mut Store,
+    left: &mut Left,
+) -> Result<(), NoMemory> {
+    for _ in 0..2 {
+        if let Some(answer) = take_answer(store) {
+            left.things.push(request_of(alloc, &answer)?)?;
+        }
+    }
+    Ok(())
 }

@@ -1,23 +1,21 @@
-// Does the scans, and prints how each ends and what it leaves.
-ghost use Rattle.ctl_face.specs.RoutesFit.{HasRoutes};
-ghost use Rattle.ctl_store.specs.Kept.{machine_of, me_of};
-ghost use Rattle.sample_stores.specs.Fitting.{FitsAlways};
+// Does the scans, and tells how each ends and what it leaves.
+ghost use Rattle.std.specs.Prelude.{◌-◌};
+ghost use Rattle.sample_stores.specs.Going.{GoesOn};
 
-use crate::after::write_after;
+use crate::after::add_after;
 use crate::before::{Before, make_ready};
-use crate::begun::{begun, machine, routes};
-use crate::protocol::{plan_of, text_of};
+use crate::begun::{is_begun, queue, routes, store_of};
+use crate::protocol::{joined, plan_by, protocol_of};
 use crate::row::Row;
 use crate::shown::ShownEnd;
 use crate::ticker::{TICKER, TickerRow};
-use ctl_face::{NoMemory, Routes, has_routes};
+use ctl_face::{NoMemory, Routes};
 use ctl_store::Store;
 use ruby_base::Text;
-use sample_stores::{begin, scan as scan_store};
+use sample_stores::{begin, let_protocol_go, scan as scan_store};
 use slicc_interpreter::Interpreted;
 use slicc_plan::Plan;
 use std::alloc::Global;
-use std::io;
 
 /// How many transitions the controller may fire in a cycle.
 const LIMIT: u64 = 32;
@@ -36,74 +34,84 @@ struct Scan<'a> {
     receiving: Option<u16>,
 }
 
-fn write_on(
-    rt: &HostRuntime,
+// The line of a scan of a store's controller, whose queue of requests has this number.
+fn add_on(
     alloc: Global,
+    text: &mut String,
     scan: Scan<'_>,
     protocol: &Interpreted,
     store: &mut Store,
+    queue: Option<u16>,
     routes: &Routes,
-) -> io::Result<bool>
-    requires fits { FitsAlways store.old }
-    requires routes { HasRoutes (machine_of store.old) (me_of store.old) routes.now }
+) -> Result<bool, NoMemory>
+    requires { GoesOn store.old routes.now (scan.now - 1) }
 {
     let now = scan.now;
-    if now == 0 || now > 1000 {
+    if now == 0 || now > 1000 || !is_begun(alloc, store, queue, routes, now - 1, scan.address) {
         return Ok(false);
     }
     begin(store, routes, now);
     if make_ready(alloc, store, routes, now, scan.before).is_err() {
         return Ok(false);
     }
-    let Ok(end) = scan_store(
+    let end = scan_store(
         alloc, protocol, 0, store, routes, SEED, now, scan.fired, LIMIT,
-    ) else {
-        return Ok(false);
-    };
-    print!(rt; "{}: {}", scan.name, ShownEnd(&end))?;
-    if !write_after(rt, alloc, store, routes, now, end)? {
-        return Ok(false);
-    }
-    println!(rt; "")?;
+    )?;
+    let told = write!(text, "{}: {}", scan.name, ShownEnd(&end));
+    add_after(alloc, text, store, routes, now, end)?;
+    told?;
     Ok(true)
 }
 
-fn write_of(rt: &HostRuntime, alloc: Global, scan: Scan<'_>, plan: Plan) -> io::Result<bool> {
-    let (Ok(Some(machine)), Ok(routes)) = (machine(alloc, &plan), routes(alloc, scan.receiving))
-    else {
-        return Ok(false);
-    };
-    let Ok(Some(mut store)) = begun(alloc, &plan, machine, scan.address) else {
-        return Ok(false);
-    };
-    if !has_routes(store.machine(), store.me(), &routes) {
-        return Ok(false);
-    }
+// The line of a scan of the controller of a protocol.
+fn add_scan(
+    alloc: Global,
+    text: &mut String,
+    scan: Scan<'_>,
+    plan: Plan,
+    routes: &Routes,
+) -> Result<bool, NoMemory> {
+    let queue = queue(plan.symbols());
+    let store = store_of(alloc, &plan, routes, scan.now);
     let protocol = Interpreted::new(plan);
-    write_on(rt, alloc, scan, &protocol, &mut store, &routes)
+    let added = match store {
+        Ok(Some(mut store)) => add_on(alloc, text, scan, &protocol, &mut store, queue, routes),
+        Ok(None) => Ok(false),
+        Err(NoMemory) => Err(NoMemory),
+    };
+    let_protocol_go(protocol);
+    added
 }
 
-fn write_text(
-    rt: &HostRuntime,
+// The line of a scan of the protocol that has this text.
+fn add_by(
     alloc: Global,
+    text: &mut String,
     scan: Scan<'_>,
-    text: Result<Text, NoMemory>,
-) -> io::Result<bool> {
-    let Ok(text) = text else {
-        return Ok(false);
-    };
-    match plan_of(alloc, text) {
-        Ok(Some(plan)) => write_of(rt, alloc, scan, plan),
-        Ok(None) => {
-            println!(rt; "{}: no plan", scan.name)?;
+    protocol: Text,
+    routes: &Routes,
+) -> Result<bool, NoMemory> {
+    match plan_by(alloc, protocol)? {
+        Some(plan) => add_scan(alloc, text, scan, plan, routes),
+        None => {
+            writeln!(text, "{}: no plan", scan.name)?;
             Ok(true)
         }
-        Err(_) => Ok(false),
     }
 }
 
-/// Does the scan of a row in cycle 10, with a request for address 64, and answers whether there was memory for it.
-pub(crate) fn write_row(rt: &HostRuntime, alloc: Global, row: &Row) -> io::Result<bool> {
+fn add_line(
+    alloc: Global,
+    text: &mut String,
+    scan: Scan<'_>,
+    protocol: Text,
+) -> Result<bool, NoMemory> {
+    let routes = routes(alloc, scan.receiving)?;
+    add_by(alloc, text, scan, protocol, &routes)
+}
+
+/// Adds the line of the scan of a row in cycle 10, with a request for address 64, and answers whether it could be done.
+pub(crate) fn add_row(alloc: Global, text: &mut String, row: &Row) -> Result<bool, NoMemory> {
     let scan = Scan {
         name: row.name,
         address: 64,
@@ -112,17 +120,16 @@ pub(crate) fn write_row(rt: &HostRuntime, alloc: Global, row: &Row) -> io::Resul
         fired: 0,
         receiving: Some(2),
     };
-    write_text(rt, alloc, scan, text_of(alloc, row))
+    let protocol = protocol_of(alloc, row)?;
+    add_line(alloc, text, scan, protocol)
 }
 
-fn ticker(alloc: Global, end: &str) -> Result<Text, NoMemory> {
-    let mut text = Text::copied(alloc, TICKER.as_bytes())?;
-    text.append(end.as_bytes())?;
-    Ok(text)
-}
-
-/// Does a scan of the ticker.
-pub(crate) fn write_tick(rt: &HostRuntime, alloc: Global, row: &TickerRow) -> io::Result<bool> {
+/// Adds the line of a scan of the ticker.
+pub(crate) fn add_tick(
+    alloc: Global,
+    text: &mut String,
+    row: &TickerRow,
+) -> Result<bool, NoMemory> {
     let scan = Scan {
         name: row.name,
         address: 0,
@@ -131,5 +138,6 @@ pub(crate) fn write_tick(rt: &HostRuntime, alloc: Global, row: &TickerRow) -> io
         fired: row.fired,
         receiving: None,
     };
-    write_text(rt, alloc, scan, ticker(alloc, row.end))
+    let protocol = joined(alloc, &[TICKER, row.end])?;
+    add_line(alloc, text, scan, protocol)
 }

@@ -192,7 +192,7 @@ impl<'a> fmt::Display for ShownValue<'a> {
 
 /// Something that is left.
 #[derive(Clone, Copy)]
-pub(crate) struct ShownThing<'a>(pub(crate) &'a Thing);
+struct ShownThing<'a>(&'a Thing);
 
 impl<'a> fmt::Display for ShownThing<'a> {
     fn fmt<W: fmt::Write>(&self, f: &mut fmt::Formatter<W>) -> fmt::Result {
@@ -231,8 +231,8 @@ impl<'a> fmt::Display for ShownLeft<'a> {
         for (address, state) in &left.states {
             write!(f, "; {address} in {}", state_name(*state))?;
         }
-        for line in &left.lines {
-            write!(f, "{}", ShownThing(line))?;
+        for thing in &left.things {
+            write!(f, "{}", ShownThing(thing))?;
         }
         Ok(())
     }

@@ -1,45 +1,61 @@
 //! The machines of a protocol.
-use crate::symbols::parts::{name, print_numbers};
-use crate::symbols::types::print_fields;
+use crate::symbols::parts::{name, write_numbers};
+use crate::symbols::types::write_fields;
 use ruby_symbols::{
     ActionSymbol, BufferSymbol, FormalSymbol, FunctionSymbol, MachineSymbols, PortSymbol, Symbols,
     TableSort, TableSymbol, TransitionSymbol,
 };
 use ruby_value::BufferPlace;
-use std::io::{self, Print};
+use std::fmt;
 
-fn print_table<R: Print>(rt: &R, number: usize, t: &TableSymbol) -> io::Result<()> {
-    print!(rt;
+fn write_table<W: fmt::Write>(
+    f: &mut fmt::Formatter<W>,
+    number: usize,
+    t: &TableSymbol,
+) -> fmt::Result {
+    write!(
+        f,
         "  table {number} {} structure {}",
         name(&t.name),
         t.structure
     )?;
     match t.sort {
-        TableSort::Cache => println!(rt; " cache"),
-        TableSort::Directory => println!(rt; " directory"),
-        TableSort::Tbe { entries } => println!(rt; " of {entries} entries"),
+        TableSort::Cache => writeln!(f, " cache"),
+        TableSort::Directory => writeln!(f, " directory"),
+        TableSort::Tbe { entries } => writeln!(f, " of {entries} entries"),
     }
 }
 
-fn print_buffer<R: Print>(rt: &R, number: usize, b: &BufferSymbol) -> io::Result<()> {
-    print!(rt;
+fn write_buffer<W: fmt::Write>(
+    f: &mut fmt::Formatter<W>,
+    number: usize,
+    b: &BufferSymbol,
+) -> fmt::Result {
+    write!(
+        f,
         "  buffer {number} {} message {:?} ordered {}",
         name(&b.name),
         b.message,
         b.ordered
     )?;
     match b.place {
-        BufferPlace::Local => println!(rt; " local"),
+        BufferPlace::Local => writeln!(f, " local"),
         BufferPlace::To {
             network,
             destination,
-        } => println!(rt; " to {network} by {destination:?}"),
-        BufferPlace::From { network } => println!(rt; " from {network}"),
+        } => writeln!(f, " to {network} by {destination:?}"),
+        BufferPlace::From { network } => writeln!(f, " from {network}"),
     }
 }
 
-fn print_port<R: Print>(rt: &R, word: &str, number: usize, p: &PortSymbol) -> io::Result<()> {
-    println!(rt;
+fn write_port<W: fmt::Write>(
+    f: &mut fmt::Formatter<W>,
+    word: &str,
+    number: usize,
+    p: &PortSymbol,
+) -> fmt::Result {
+    writeln!(
+        f,
         "  {word} {number} {} on {} at {}",
         name(&p.name),
         p.buffer,
@@ -47,99 +63,127 @@ fn print_port<R: Print>(rt: &R, word: &str, number: usize, p: &PortSymbol) -> io
     )
 }
 
-fn print_formal<R: Print>(rt: &R, f: &FormalSymbol) -> io::Result<()> {
-    match &f.name {
-        None => print!(rt; " {:?}", f.kind),
-        Some(called) => print!(rt; " {} {:?}", name(called), f.kind),
+fn write_formal<W: fmt::Write>(f: &mut fmt::Formatter<W>, formal: &FormalSymbol) -> fmt::Result {
+    match &formal.name {
+        None => write!(f, " {:?}", formal.kind),
+        Some(called) => write!(f, " {} {:?}", name(called), formal.kind),
     }
 }
 
-fn print_function<R: Print>(rt: &R, number: usize, f: &FunctionSymbol) -> io::Result<()> {
-    print!(rt;
+fn write_function<W: fmt::Write>(
+    f: &mut fmt::Formatter<W>,
+    number: usize,
+    function: &FunctionSymbol,
+) -> fmt::Result {
+    write!(
+        f,
         "  function {number} {} at {} gives {:?} takes",
-        name(&f.name),
-        f.declaration,
-        f.result
+        name(&function.name),
+        function.declaration,
+        function.result
     )?;
-    for formal in &f.formals {
-        print_formal(rt, formal)?;
+    for formal in &function.formals {
+        write_formal(f, formal)?;
     }
-    println!(rt; "")
+    f.write_str("\n")
 }
 
-fn print_action<R: Print>(rt: &R, number: usize, a: &ActionSymbol) -> io::Result<()> {
-    println!(rt; "  action {number} {} at {}", name(&a.name), a.declaration)
+fn write_action<W: fmt::Write>(
+    f: &mut fmt::Formatter<W>,
+    number: usize,
+    a: &ActionSymbol,
+) -> fmt::Result {
+    writeln!(
+        f,
+        "  action {number} {} at {}",
+        name(&a.name),
+        a.declaration
+    )
 }
 
-fn print_transition<R: Print>(rt: &R, number: usize, t: &TransitionSymbol) -> io::Result<()> {
-    print!(rt; "  transition {number} from")?;
-    print_numbers(rt, &t.states)?;
-    print!(rt; " on")?;
-    print_numbers(rt, &t.events)?;
-    print!(rt; " to {:?} does", t.next)?;
-    print_numbers(rt, &t.actions)?;
-    println!(rt; "")
+fn write_transition<W: fmt::Write>(
+    f: &mut fmt::Formatter<W>,
+    number: usize,
+    t: &TransitionSymbol,
+) -> fmt::Result {
+    write!(f, "  transition {number} from")?;
+    write_numbers(f, &t.states)?;
+    write!(f, " on")?;
+    write_numbers(f, &t.events)?;
+    write!(f, " to {:?} does", t.next)?;
+    write_numbers(f, &t.actions)?;
+    f.write_str("\n")
 }
 
-fn print_objects<R: Print>(rt: &R, m: &MachineSymbols) -> io::Result<()> {
+fn write_objects<W: fmt::Write>(f: &mut fmt::Formatter<W>, m: &MachineSymbols) -> fmt::Result {
     for (number, t) in m.tables.iter().enumerate() {
-        print_table(rt, number, t)?;
+        write_table(f, number, t)?;
     }
-    print_fields(rt, "value", &m.values)?;
-    print_fields(rt, "reference", &m.references)?;
+    write_fields(f, "value", &m.values)?;
+    write_fields(f, "reference", &m.references)?;
     for (number, b) in m.buffers.iter().enumerate() {
-        print_buffer(rt, number, b)?;
+        write_buffer(f, number, b)?;
     }
     match &m.sequencer {
         None => Ok(()),
-        Some(called) => println!(rt; "  sequencer {}", name(called)),
+        Some(called) => writeln!(f, "  sequencer {}", name(called)),
     }
 }
 
-fn print_bodies<R: Print>(rt: &R, m: &MachineSymbols) -> io::Result<()> {
+fn write_bodies<W: fmt::Write>(f: &mut fmt::Formatter<W>, m: &MachineSymbols) -> fmt::Result {
     for (number, p) in m.in_ports.iter().enumerate() {
-        print_port(rt, "in port", number, p)?;
+        write_port(f, "in port", number, p)?;
     }
     for (number, p) in m.out_ports.iter().enumerate() {
-        print_port(rt, "out port", number, p)?;
+        write_port(f, "out port", number, p)?;
     }
-    for (number, f) in m.functions.iter().enumerate() {
-        print_function(rt, number, f)?;
+    for (number, function) in m.functions.iter().enumerate() {
+        write_function(f, number, function)?;
     }
     for (number, a) in m.actions.iter().enumerate() {
-        print_action(rt, number, a)?;
+        write_action(f, number, a)?;
     }
     for (number, t) in m.transitions.iter().enumerate() {
-        print_transition(rt, number, t)?;
+        write_transition(f, number, t)?;
     }
     Ok(())
 }
 
-fn print_machine<R: Print>(rt: &R, number: usize, m: &MachineSymbols) -> io::Result<()> {
-    println!(rt;
+fn write_machine<W: fmt::Write>(
+    f: &mut fmt::Formatter<W>,
+    number: usize,
+    m: &MachineSymbols,
+) -> fmt::Result {
+    writeln!(
+        f,
         "machine {number} {} states {} events {}",
         name(&m.name),
         m.states,
         m.events
     )?;
-    print!(rt; "  permissions")?;
-    print_numbers(rt, &m.permissions)?;
-    println!(rt; "")?;
-    println!(rt;
+    write!(f, "  permissions")?;
+    write_numbers(f, &m.permissions)?;
+    f.write_str("\n")?;
+    writeln!(
+        f,
         "  entry {:?} directory {:?} TBE {:?}",
         m.entry, m.directory, m.tbe
     )?;
-    print_objects(rt, m)?;
-    print_bodies(rt, m)?;
-    println!(rt;
+    write_objects(f, m)?;
+    write_bodies(f, m)?;
+    writeln!(
+        f,
         "  getState {:?} setState {:?} setAccessPermission {:?} z_stall {:?}",
         m.get_state, m.set_state, m.set_permission, m.stall
     )
 }
 
-pub(crate) fn print_machines<R: Print>(rt: &R, symbols: &Symbols) -> io::Result<()> {
+pub(crate) fn write_machines<W: fmt::Write>(
+    f: &mut fmt::Formatter<W>,
+    symbols: &Symbols,
+) -> fmt::Result {
     for (number, m) in symbols.machines.iter().enumerate() {
-        print_machine(rt, number, m)?;
+        write_machine(f, number, m)?;
     }
     Ok(())
 }

@@ -1,7 +1,7 @@
 //! Names, kinds and values as they are printed.
 use ruby_symbols::Text;
 use ruby_value::Value;
-use std::io::{self, Print};
+use std::fmt;
 
 /// A name as text.
 pub(crate) fn name(text: &Text) -> &str {
@@ -12,21 +12,24 @@ pub(crate) fn name(text: &Text) -> &str {
 }
 
 /// The numbers, each after a blank.
-pub(crate) fn print_numbers<R: Print>(rt: &R, numbers: &[u16]) -> io::Result<()> {
+pub(crate) fn write_numbers<W: fmt::Write>(
+    f: &mut fmt::Formatter<W>,
+    numbers: &[u16],
+) -> fmt::Result {
     for n in numbers {
-        print!(rt; " {n}")?;
+        write!(f, " {n}")?;
     }
     Ok(())
 }
 
 /// A value that isn't empty by its kind.
-pub(crate) fn print_value<R: Print>(rt: &R, value: &Value) -> io::Result<()> {
+pub(crate) fn write_value<W: fmt::Write>(f: &mut fmt::Formatter<W>, value: &Value) -> fmt::Result {
     match value {
-        Value::Bool(b) => println!(rt; " = {b}"),
-        Value::Int(n) => println!(rt; " = {n}"),
-        Value::Enum(_, member) => println!(rt; " = {member}"),
-        Value::Addr(address) => println!(rt; " = {address}"),
-        Value::Machine(controller) => println!(rt; " = {controller}"),
-        Value::Dest(_) | Value::Block(_) | Value::Entry(_) | Value::Tbe(_) => println!(rt; ""),
+        Value::Bool(b) => writeln!(f, " = {b}"),
+        Value::Int(n) => writeln!(f, " = {n}"),
+        Value::Enum(_, member) => writeln!(f, " = {member}"),
+        Value::Addr(address) => writeln!(f, " = {address}"),
+        Value::Machine(controller) => writeln!(f, " = {controller}"),
+        Value::Dest(_) | Value::Block(_) | Value::Entry(_) | Value::Tbe(_) => f.write_str("\n"),
     }
 }

@@ -1,41 +1,62 @@
 //! The types of a protocol.
-use crate::symbols::parts::{name, print_value};
+use crate::symbols::parts::{name, write_value};
 use ruby_symbols::{EnumerationSymbol, FieldSymbol, StructureSymbol, Symbols};
-use std::io::{self, Print};
+use std::fmt;
 
-fn print_enumeration<R: Print>(rt: &R, number: usize, e: &EnumerationSymbol) -> io::Result<()> {
-    print!(rt;
+fn write_enumeration<W: fmt::Write>(
+    f: &mut fmt::Formatter<W>,
+    number: usize,
+    e: &EnumerationSymbol,
+) -> fmt::Result {
+    write!(
+        f,
         "enumeration {number} {} of {:?} default {}:",
         name(&e.name),
         e.machine,
         e.default
     )?;
     for member in &e.members {
-        print!(rt; " {}", name(member))?;
+        write!(f, " {}", name(member))?;
     }
-    println!(rt; "")
+    f.write_str("\n")
 }
 
 /// Fields with their numbers, each a line.
-pub(crate) fn print_fields<R: Print>(rt: &R, word: &str, fields: &[FieldSymbol]) -> io::Result<()> {
-    for (number, f) in fields.iter().enumerate() {
-        print!(rt; "  {word} {number} {} {:?}", name(&f.name), f.kind)?;
-        print_value(rt, &f.initial)?;
+pub(crate) fn write_fields<W: fmt::Write>(
+    f: &mut fmt::Formatter<W>,
+    word: &str,
+    fields: &[FieldSymbol],
+) -> fmt::Result {
+    for (number, field) in fields.iter().enumerate() {
+        write!(
+            f,
+            "  {word} {number} {} {:?}",
+            name(&field.name),
+            field.kind
+        )?;
+        write_value(f, &field.initial)?;
     }
     Ok(())
 }
 
-fn print_structure<R: Print>(rt: &R, number: usize, s: &StructureSymbol) -> io::Result<()> {
-    println!(rt; "structure {number} {} of {:?}", name(&s.name), s.machine)?;
-    print_fields(rt, "field", &s.fields)
+fn write_structure<W: fmt::Write>(
+    f: &mut fmt::Formatter<W>,
+    number: usize,
+    s: &StructureSymbol,
+) -> fmt::Result {
+    writeln!(f, "structure {number} {} of {:?}", name(&s.name), s.machine)?;
+    write_fields(f, "field", &s.fields)
 }
 
-pub(crate) fn print_types<R: Print>(rt: &R, symbols: &Symbols) -> io::Result<()> {
+pub(crate) fn write_types<W: fmt::Write>(
+    f: &mut fmt::Formatter<W>,
+    symbols: &Symbols,
+) -> fmt::Result {
     for (number, e) in symbols.enumerations.iter().enumerate() {
-        print_enumeration(rt, number, e)?;
+        write_enumeration(f, number, e)?;
     }
     for (number, s) in symbols.structures.iter().enumerate() {
-        print_structure(rt, number, s)?;
+        write_structure(f, number, s)?;
     }
     Ok(())
 }

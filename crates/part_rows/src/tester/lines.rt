@@ -1,11 +1,10 @@
 // The lines that are written of a run.
 use crate::tester::play::Run;
-use ruby_base::{NoMemory, Text};
+use ruby_base::NoMemory;
 use sequencer::{Ask, Finding, Issued};
-use std::alloc::Global;
 
 /// The line of a run, above those of its requests.
-pub(crate) fn write_head(alloc: Global, run: &Run, text: &mut Text) -> Result<(), NoMemory> {
+pub(crate) fn write_head(run: &Run, text: &mut String) -> Result<(), NoMemory> {
     let Run {
         seed,
         seats,
@@ -14,18 +13,13 @@ pub(crate) fn write_head(alloc: Global, run: &Run, text: &mut Text) -> Result<()
         deadlock,
     } = *run;
     let script = script.name();
-    let line = format!(in alloc;
-        "seed {seed} seats {seats} {script} checks {checks} deadlock {deadlock}\n"
-    )?;
-    text.append(line.as_bytes())
+    Ok(writeln!(
+        text,
+        "seed {seed} seats {seats} {script} checks {checks} deadlock {deadlock}"
+    )?)
 }
 
-fn write_request(
-    alloc: Global,
-    now: u64,
-    issued: &Issued,
-    text: &mut Text,
-) -> Result<(), NoMemory> {
+fn write_request(now: u64, issued: &Issued, text: &mut String) -> Result<(), NoMemory> {
     let kind = match issued.asked.kind {
         Ask::Load => "LD",
         Ask::Store => "ST",
@@ -34,46 +28,44 @@ fn write_request(
     let seat = issued.seat;
     let line = issued.asked.line;
     let byte = issued.asked.byte;
-    let written = format!(in alloc; "{now} {seat} {line} {kind} {byte}\n")?;
-    text.append(written.as_bytes())
+    Ok(writeln!(text, "{now} {seat} {line} {kind} {byte}")?)
 }
 
 /// A line for each request that was issued in a cycle.
 pub(crate) fn write_requests(
-    alloc: Global,
     now: u64,
     issued: &[Issued],
-    text: &mut Text,
+    text: &mut String,
 ) -> Result<(), NoMemory> {
     for i in issued {
-        write_request(alloc, now, i, text)?;
+        write_request(now, i, text)?;
     }
     Ok(())
 }
 
 /// The line of what was found in a cycle.
 pub(crate) fn write_finding(
-    alloc: Global,
     now: u64,
     finding: &Finding,
-    text: &mut Text,
+    text: &mut String,
 ) -> Result<(), NoMemory> {
-    let line = match *finding {
+    match *finding {
         Finding::Incoherent {
             controller,
             line,
             offset,
             expected,
             found,
-        } => format!(in alloc;
-            "{now} incoherent {controller} {line} {offset} {expected} {found}\n"
+        } => writeln!(
+            text,
+            "{now} incoherent {controller} {line} {offset} {expected} {found}"
         ),
         Finding::Deadlock {
             controller,
             line,
             issued,
-        } => format!(in alloc; "{now} deadlock {controller} {line} {issued}\n"),
-        Finding::Passed { checks } => format!(in alloc; "{now} passed {checks}\n"),
+        } => writeln!(text, "{now} deadlock {controller} {line} {issued}"),
+        Finding::Passed { checks } => writeln!(text, "{now} passed {checks}"),
     }?;
-    text.append(line.as_bytes())
+    Ok(())
 }

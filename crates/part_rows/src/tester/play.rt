@@ -5,7 +5,7 @@ use crate::tester::lines::{write_finding, write_head};
 use crate::tester::memory::{Script, answer_seat};
 use crate::tester::seats::turn;
 use random_tester::Tester;
-use ruby_base::{NoMemory, Text};
+use ruby_base::NoMemory;
 use sequencer::{Block, Sequencer};
 use std::alloc::Global;
 
@@ -42,7 +42,7 @@ fn write_cycles(
     script: Script,
     tester: &mut Tester,
     sequencers: &mut [Sequencer],
-    text: &mut Text,
+    text: &mut String,
 ) -> Result<(), NoMemory>
     requires some { 1 ≤ length sequencers.old }
     requires few { length sequencers.old ≤ 3 }
@@ -53,7 +53,7 @@ fn write_cycles(
         answer_all(script, now, &mut memory, sequencers);
         let turned = turn(alloc, now, tester, sequencers, text)?;
         if let Some(finding) = turned.end.finding {
-            return write_finding(alloc, now, &finding, text);
+            return write_finding(now, &finding, text);
         }
         issued = issued.saturating_add(turned.issued);
         if issued >= REQUESTS {
@@ -64,8 +64,8 @@ fn write_cycles(
 }
 
 /// Makes a run and writes its lines.
-pub(crate) fn write_run(alloc: Global, run: &Run, text: &mut Text) -> Result<(), NoMemory> {
-    write_head(alloc, run, text)?;
+pub(crate) fn write_run(alloc: Global, run: &Run, text: &mut String) -> Result<(), NoMemory> {
+    write_head(run, text)?;
     let stream = 2 * u64::from(run.seats);
     let mut tester = Tester::new(alloc, run.seed, stream, LINES, run.checks, run.deadlock)?;
     let mut sequencers = [

@@ -3,7 +3,7 @@ ghost use Rattle.std.specs.Prelude.{◌≡◌, ◌≤◌, ◌^◌, IfOk, length}
 
 use crate::tester::lines::write_requests;
 use random_tester::Tester;
-use ruby_base::{NoMemory, Text};
+use ruby_base::NoMemory;
 use sequencer::{Driver, DriverEnd, OwnedSeat, OwnedSeats, Sequencer};
 use std::alloc::Global;
 use std::mem;
@@ -51,7 +51,7 @@ pub(crate) fn turn(
     now: u64,
     tester: &mut Tester,
     sequencers: &mut [Sequencer],
-    text: &mut Text,
+    text: &mut String,
 ) -> Result<Turned, NoMemory>
     requires some { 1 ≤ length sequencers.old }
     requires few { length sequencers.old ≤ 3 }
@@ -61,7 +61,7 @@ pub(crate) fn turn(
     tester.reserve(now, &mut seats)?;
     seats.fits();
     let end = tester.turn(now, &mut seats);
-    write_requests(alloc, now, seats.issued(), text)?;
+    write_requests(now, seats.issued(), text)?;
     let issued = seats.issued().len();
     put_back(seats.into_seats(), sequencers);
     Ok(Turned { issued, end })

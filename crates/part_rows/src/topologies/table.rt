@@ -1,10 +1,10 @@
 // The rows of the table.
-use crate::protocols::front_in;
+use crate::protocols::plan_in;
 use crate::topologies::answer::answer_line;
 use ruby_base::{NoMemory, Seq, Text};
 use ruby_outside::{Library, Sink, put};
 use ruby_topology::{TopoFault, Topology, plain, read_topology};
-use slicc_front::Front;
+use sample_stores::let_go;
 use slicc_plan::Plan;
 use std::alloc::Global;
 
@@ -64,9 +64,13 @@ fn line_in<L: Library>(
     protocol: &str,
     row: &str,
 ) -> Result<Text, NoMemory> {
-    match front_in(alloc, library, "topologies", protocol)? {
-        Front::Plan(plan) => answer_line(alloc, answer(alloc, row, &plan)),
-        _ => Text::copied(alloc, b"no plan\n"),
+    match plan_in(alloc, library, "topologies", protocol)? {
+        Some(plan) => {
+            let line = answer_line(alloc, answer(alloc, row, &plan));
+            let_go(plan);
+            line
+        }
+        None => Text::copied(alloc, b"no plan\n"),
     }
 }
 
