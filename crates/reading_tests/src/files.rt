@@ -29,7 +29,9 @@ fn is_read(alloc: Global, row: &(&[u8], &[u32])) -> bool {
     let Some(tree) = tree_of(alloc, row.0) else {
         return false;
     };
-    match spans(alloc, &tree) {
+    let found = spans(alloc, &tree);
+    drop(tree);
+    match &found {
         Ok(found) => are_spans(found.as_slice(), row.1),
         Err(_) => false,
     }
