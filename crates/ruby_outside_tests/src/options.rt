@@ -41,15 +41,21 @@ fn copied(alloc: Global, words: &[&str]) -> Result<Vec<String>, NoMemory> {
     Ok(copies)
 }
 
+fn is_expected(read: &Result<Options, OptionFault>, asked: &Asked) -> bool {
+    match (read, asked) {
+        (Ok(options), Asked::Options(expected)) => are_expected(options, expected),
+        (Err(OptionFault::Words), Asked::Words) => true,
+        (Err(OptionFault::Range), Asked::Range) => true,
+        _ => false,
+    }
+}
+
 /// Whether the words ask for what is expected of them.
 fn is_asked(alloc: Global, words: &[&str], asked: &Asked) -> Result<bool, NoMemory> {
     let words = copied(alloc, words)?;
-    match (read(alloc, words.as_slice()), asked) {
-        (Ok(options), Asked::Options(expected)) => Ok(are_expected(&options, expected)),
-        (Err(OptionFault::Words), Asked::Words) => Ok(true),
-        (Err(OptionFault::Range), Asked::Range) => Ok(true),
-        _ => Ok(false),
-    }
+    let read = read(alloc, words.as_slice());
+    drop(words);
+    Ok(is_expected(&read, asked))
 }
 
 // The place of the first line that asks for something else than what is expected.
@@ -62,68 +68,25 @@ fn first_wrong(alloc: Global, lines: &[Line]) -> Result<Option<usize>, NoMemory>
     Ok(None)
 }
 
-#[test]
-fn reads_each_command(rt: HostRuntime) -> Result<(), Fail> {
-    assert_eq!(rt; first_wrong(rt.alloc(), COMMANDS)?, None);
-    Ok(())
-}
+/// The tables, and what each shows.
+const TABLES: &[(&str, &[Line])] = &[
+    ("each command", COMMANDS),
+    ("any name", NAMES),
+    ("numbers of requests", REQUESTS),
+    ("ranges of options", RANGES),
+    ("more ranges of options", MORE_RANGES),
+    ("numbers of one form", FORMS),
+    ("options in any place", PLACES),
+    ("options given twice or unknown", TWICE_OR_UNKNOWN),
+    ("the fault of the words is told first", TWO_FAULTS),
+    ("defaults of a generated protocol", GENERATED),
+    ("options that are not used", KEPT),
+];
 
 #[test]
-fn takes_any_name(rt: HostRuntime) -> Result<(), Fail> {
-    assert_eq!(rt; first_wrong(rt.alloc(), NAMES)?, None);
-    Ok(())
-}
-
-#[test]
-fn reads_numbers_of_requests(rt: HostRuntime) -> Result<(), Fail> {
-    assert_eq!(rt; first_wrong(rt.alloc(), REQUESTS)?, None);
-    Ok(())
-}
-
-#[test]
-fn keeps_ranges_of_options(rt: HostRuntime) -> Result<(), Fail> {
-    assert_eq!(rt; first_wrong(rt.alloc(), RANGES)?, None);
-    Ok(())
-}
-
-#[test]
-fn keeps_more_ranges_of_options(rt: HostRuntime) -> Result<(), Fail> {
-    assert_eq!(rt; first_wrong(rt.alloc(), MORE_RANGES)?, None);
-    Ok(())
-}
-
-#[test]
-fn reads_numbers_of_one_form(rt: HostRuntime) -> Result<(), Fail> {
-    assert_eq!(rt; first_wrong(rt.alloc(), FORMS)?, None);
-    Ok(())
-}
-
-#[test]
-fn finds_options_in_any_place(rt: HostRuntime) -> Result<(), Fail> {
-    assert_eq!(rt; first_wrong(rt.alloc(), PLACES)?, None);
-    Ok(())
-}
-
-#[test]
-fn refuses_options_given_twice_or_unknown(rt: HostRuntime) -> Result<(), Fail> {
-    assert_eq!(rt; first_wrong(rt.alloc(), TWICE_OR_UNKNOWN)?, None);
-    Ok(())
-}
-
-#[test]
-fn tells_the_fault_of_the_words_first(rt: HostRuntime) -> Result<(), Fail> {
-    assert_eq!(rt; first_wrong(rt.alloc(), TWO_FAULTS)?, None);
-    Ok(())
-}
-
-#[test]
-fn keeps_defaults_of_a_generated_protocol(rt: HostRuntime) -> Result<(), Fail> {
-    assert_eq!(rt; first_wrong(rt.alloc(), GENERATED)?, None);
-    Ok(())
-}
-
-#[test]
-fn keeps_options_that_are_not_used(rt: HostRuntime) -> Result<(), Fail> {
-    assert_eq!(rt; first_wrong(rt.alloc(), KEPT)?, None);
+fn words_ask_for_what_is_said_of_them(rt: HostRuntime) -> Result<(), Fail> {
+    for (name, lines) in TABLES {
+        assert_eq!(rt; first_wrong(rt.alloc(), *lines)?, None, "{name}");
+    }
     Ok(())
 }
