@@ -1,67 +1,82 @@
 // Which protocols are the same: of each pair of files in the folders `pairs` and `symbols` whether they are one protocol, as they are where they
 // differ in blanks and comments alone, and not where a file includes what the other has. What is expected was worked out by hand.
-use ruby_base::NoMemory;
-use ruby_outside::{Library, Sink, put};
-use sample_stores::{let_go, plan_of};
+use crate::protocols::plan_in;
+use row_text::RowText;
+use ruby_outside::Library;
+use sample_stores::let_go;
 use slicc_plan::{Plan, same_plan};
-use std::alloc::Global;
 
-const PAIRS: [(&str, &str); 7] = [
-    ("pairs/tick.sm", "pairs/tick.sm"),
-    ("symbols/msi.sm", "symbols/msi.sm"),
-    ("pairs/tick.sm", "pairs/spaced.sm"),
-    ("pairs/tick.sm", "pairs/half.sm"),
-    ("pairs/tick.sm", "symbols/msi.sm"),
-    ("pairs/including.sm", "pairs/including.sm"),
-    ("pairs/including.sm", "pairs/tick.sm"),
+// A file in a folder.
+#[derive(Clone, Copy)]
+struct File {
+    folder: &'static str,
+    name: &'static str,
+}
+
+const fn file(name: &'static str) -> File {
+    File {
+        folder: "pairs",
+        name,
+    }
+}
+
+const TICK: File = file("tick.sm");
+
+const INCLUDING: File = file("including.sm");
+
+const MSI: File = File {
+    folder: "symbols",
+    name: "msi.sm",
+};
+
+const PAIRS: [(File, File); 7] = [
+    (TICK, TICK),
+    (MSI, MSI),
+    (TICK, file("spaced.sm")),
+    (TICK, file("half.sm")),
+    (TICK, MSI),
+    (INCLUDING, INCLUDING),
+    (INCLUDING, TICK),
 ];
 
-// Whether a plan is that of a file.
-fn is_of<L: Library>(
-    alloc: Global,
-    library: &mut L,
-    plan: &Plan,
-    path: &str,
-) -> Result<&'static str, NoMemory> {
-    match plan_of(alloc, library, path)? {
+fn add_name(rows: &mut RowText, file: File, after: &str) {
+    rows.add(file.folder);
+    rows.add("/");
+    rows.add(file.name);
+    rows.add(after);
+}
+
+// Adds whether a plan is that of a file.
+fn add_answer<L: Library>(rows: &mut RowText, library: &mut L, plan: &Plan, other: File) {
+    match plan_in(rows, library, other.folder, other.name) {
         Some(other) => {
             let is_same = same_plan(plan, &other);
             let_go(other);
-            Ok(if is_same { "the same" } else { "not the same" })
+            rows.add(if is_same {
+                "the same\n"
+            } else {
+                "not the same\n"
+            });
         }
-        None => Ok("no plan"),
+        None => rows.lose(),
     }
 }
 
-// Whether two files are one protocol.
-fn are_same<L: Library>(
-    alloc: Global,
-    library: &mut L,
-    first: &str,
-    second: &str,
-) -> Result<&'static str, NoMemory> {
-    match plan_of(alloc, library, first)? {
+fn add_pair<L: Library>(rows: &mut RowText, library: &mut L, first: File, second: File) {
+    add_name(rows, first, " ");
+    add_name(rows, second, ": ");
+    match plan_in(rows, library, first.folder, first.name) {
         Some(plan) => {
-            let word = is_of(alloc, library, &plan, second);
+            add_answer(rows, library, &plan, second);
             let_go(plan);
-            word
         }
-        None => Ok("no plan"),
+        None => rows.lose(),
     }
 }
 
-/// Writes which of the pairs are the same, and answers whether all was written.
-pub(crate) fn write<L: Library, S: Sink>(
-    alloc: Global,
-    library: &mut L,
-    sink: &mut S,
-) -> Result<bool, NoMemory> {
+/// Adds which of the pairs are the same.
+pub(crate) fn add<L: Library>(rows: &mut RowText, library: &mut L) {
     for (first, second) in PAIRS {
-        let word = are_same(alloc, library, first, second)?;
-        let text = format!(in alloc; "{first} {second}: {word}\n")?;
-        if !put(sink, text.as_bytes()) {
-            return Ok(false);
-        }
+        add_pair(rows, library, first, second);
     }
-    Ok(true)
 }

@@ -1,12 +1,12 @@
 // The protocols whose files are read.
+use row_text::RowText;
 use ruby_base::NoMemory;
 use ruby_outside::Library;
 use sample_stores::plan_of;
 use slicc_plan::Plan;
 use std::alloc::Global;
 
-/// The plan of the protocol of a file in this folder, if it keeps all rules.
-pub(crate) fn plan_in<L: Library>(
+fn read<L: Library>(
     alloc: Global,
     library: &mut L,
     folder: &str,
@@ -14,4 +14,20 @@ pub(crate) fn plan_in<L: Library>(
 ) -> Result<Option<Plan>, NoMemory> {
     let path = format!(in alloc; "{folder}/{file}")?;
     plan_of(alloc, library, path.as_str())
+}
+
+/// The plan of the protocol of a file in this folder, if it keeps all rules.
+pub(crate) fn plan_in<L: Library>(
+    rows: &mut RowText,
+    library: &mut L,
+    folder: &str,
+    file: &str,
+) -> Option<Plan> {
+    match read(rows.alloc(), library, folder, file) {
+        Ok(plan) => plan,
+        Err(NoMemory) => {
+            rows.lose();
+            None
+        }
+    }
 }

@@ -1,4 +1,4 @@
-// Runs the random tester over sequencers whose requests a memory answers by a script, and writes each request that it issues, up
+// Runs the random tester over sequencers whose requests a memory answers by a script, and tells each request that it issues, up
 // to 40 in a run, and what it finds: a line `CYCLE SEAT LINE KIND BYTE` for a request, below a line for each run. What is expected is
 // what `bench/tester-draws` prints, a second tester, written in another language from the rules alone.
 mod lines;
@@ -7,13 +7,12 @@ mod play;
 mod seats;
 
 use memory::Script;
-use play::{Run, write_run};
+use play::{Run, add_run};
+use row_text::RowText;
 use ruby_base::NoMemory;
-use ruby_outside::{Sink, put};
-use std::alloc::Global;
 
 // Runs of 40 requests, at one, two and three seats.
-fn write_draws(alloc: Global, seed: u64, text: &mut String) -> Result<(), NoMemory> {
+fn add_draws(rows: &mut RowText, seed: u64) -> Result<(), NoMemory> {
     for seats in 1..4 {
         let run = Run {
             seed,
@@ -22,7 +21,7 @@ fn write_draws(alloc: Global, seed: u64, text: &mut String) -> Result<(), NoMemo
             checks: 1000,
             deadlock: 500,
         };
-        write_run(alloc, &run, text)?;
+        add_run(rows, &run)?;
     }
     Ok(())
 }
@@ -39,7 +38,7 @@ const CHECKED: [Checked; 5] = [
     (1, 3, Script::Late, 290),
 ];
 
-fn write_checked(alloc: Global, checked: &Checked, text: &mut String) -> Result<(), NoMemory> {
+fn add_checked(rows: &mut RowText, checked: &Checked) -> Result<(), NoMemory> {
     let (seed, seats, script, deadlock) = *checked;
     let run = Run {
         seed,
@@ -48,22 +47,22 @@ fn write_checked(alloc: Global, checked: &Checked, text: &mut String) -> Result<
         checks: 3,
         deadlock,
     };
-    write_run(alloc, &run, text)
+    add_run(rows, &run)
 }
 
-fn write_runs(alloc: Global, text: &mut String) -> Result<(), NoMemory> {
+fn add_runs(rows: &mut RowText) -> Result<(), NoMemory> {
     for seed in 1..4 {
-        write_draws(alloc, seed, text)?;
+        add_draws(rows, seed)?;
     }
     for checked in &CHECKED {
-        write_checked(alloc, checked, text)?;
+        add_checked(rows, checked)?;
     }
     Ok(())
 }
 
-/// Writes all runs, and answers whether they were written whole.
-pub(crate) fn write<S: Sink>(alloc: Global, sink: &mut S) -> Result<bool, NoMemory> {
-    let mut text = String::new(alloc);
-    write_runs(alloc, &mut text)?;
-    Ok(put(sink, text.as_bytes()))
+/// Adds all runs.
+pub(crate) fn add(rows: &mut RowText) {
+    if add_runs(rows).is_err() {
+        rows.lose();
+    }
 }

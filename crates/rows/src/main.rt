@@ -17,10 +17,11 @@ mod times;
 mod worlds;
 
 use lists::{List, write_list};
-use part_rows::write_parts;
+use part_rows::add_parts;
+use row_text::RowText;
 use ruby_base::NoMemory;
 use ruby_outside::{FileLibrary, Library, Sink, StdSink, put};
-use scan_rows::write_scans;
+use scan_rows::add_scans;
 use std::alloc::Global;
 use std::env;
 use std::process::ExitCode;
@@ -40,7 +41,11 @@ fn write_all<R: Threads + Wait + Sync, L: Library, S: Sink>(
             return Ok(false);
         }
     }
-    Ok(write_parts(alloc, library, sink)? && put(sink, b"# scans\n") && write_scans(alloc, sink)?)
+    let mut rows = RowText::new(alloc);
+    add_parts(&mut rows, library);
+    rows.add("# scans\n");
+    add_scans(&mut rows);
+    Ok(put(sink, rows.bytes()) && rows.is_whole())
 }
 
 // The words of the command line, with a blank between two.

@@ -4,10 +4,10 @@ ghost use Rattle.ctl_face.specs.Fits.{last_cycle};
 ghost use Rattle.ctl_store.specs.Kept.{ctl_of};
 ghost use Rattle.sample_stores.specs.Going.{GoesOn, IsEndOf};
 
-use crate::left::{Left, add_copies, add_left, add_requests};
-use crate::shown::ShownLeft;
+use crate::left::{add_copies, add_lines, add_mail, add_requests};
 use ctl_face::{Message, NoMemory, Routes, Seq};
 use ctl_store::{Draft, Store};
+use row_text::RowText;
 use ruby_value::Delivery;
 use sample_stores::{ScanEnd, apply, wake_again};
 use std::alloc::Global;
@@ -38,45 +38,40 @@ fn leave(
 }
 
 // Adds what is left of the controller, what was sent to others, and which requests are finished.
-fn add_all(
-    alloc: Global,
+fn add_left(
+    rows: &mut RowText,
     store: &mut Store,
     routes: &Routes,
     now: u64,
     copies: &[Delivery<Message>],
-    left: &mut Left,
-) -> Result<(), NoMemory>
+)
     requires goes { GoesOn store.old routes.now now }
     requires cycle { now ≤ last_cycle }
 {
-    let draft = Draft::on(alloc, store, routes, 0, now);
-    let added = add_left(alloc, store, &draft, now, left);
+    add_mail(rows, store, now);
+    let draft = Draft::on(rows.alloc(), store, routes, 0, now);
+    add_lines(rows, &draft);
     drop(draft);
-    added?;
-    add_copies(alloc, store.machine(), copies, left)?;
-    add_requests(alloc, store, left)
+    add_copies(rows, store.machine(), copies);
+    add_requests(rows, store);
 }
 
-/// Makes of the controller what a scan leaves of it that has ended so, and adds to a text what is left, with the end of the line.
+/// Makes of the controller what a scan leaves of it that has ended so, and adds what is left, with the end of the line.
 pub(crate) fn add_after(
-    alloc: Global,
-    text: &mut String,
+    rows: &mut RowText,
     store: &mut Store,
     routes: &Routes,
     now: u64,
     end: ScanEnd,
-) -> Result<(), NoMemory>
+)
     requires goes { GoesOn store.old routes.now now }
     requires few { (ctl_of store.old).fired < 2 }
     requires cycle { now ≤ last_cycle }
     requires done { IsEndOf store.old now end }
 {
-    let copies = leave(alloc, store, routes, now, end)?;
-    let mut left = Left::new(alloc);
-    let added = add_all(alloc, store, routes, now, &copies, &mut left);
-    let told = writeln!(text, "{}", ShownLeft(&left));
-    drop(left);
-    drop(copies);
-    added?;
-    Ok(told?)
+    match leave(rows.alloc(), store, routes, now, end) {
+        Ok(copies) => add_left(rows, store, routes, now, &copies),
+        Err(NoMemory) => rows.lose(),
+    }
+    rows.add("\n");
 }

@@ -24,34 +24,19 @@ mod times;
 
 use calls::CALLS;
 use expressions::EXPRESSIONS;
-use ruby_base::NoMemory;
-use ruby_outside::{Sink, put};
+use row_text::RowText;
 use scans::{add_row, add_tick};
 use statements::STATEMENTS;
-use std::alloc::Global;
 use ticker::TICKS;
-pub use times::{time_drafts, time_scans};
 
-// Adds the rows to a text, and answers whether each scan could be done.
-fn add_rows(alloc: Global, text: &mut String) -> Result<bool, NoMemory> {
+/// Adds the rows.
+pub fn add_scans(rows: &mut RowText) {
     for row in TICKS {
-        if !add_tick(alloc, text, row)? {
-            return Ok(false);
+        add_tick(rows, row);
+    }
+    for table in [STATEMENTS, EXPRESSIONS, CALLS] {
+        for row in table {
+            add_row(rows, row);
         }
     }
-    for rows in [STATEMENTS, EXPRESSIONS, CALLS] {
-        for row in rows {
-            if !add_row(alloc, text, row)? {
-                return Ok(false);
-            }
-        }
-    }
-    Ok(true)
-}
-
-/// Writes the rows to a sink, and answers whether all were written.
-pub fn write_scans<S: Sink>(alloc: Global, sink: &mut S) -> Result<bool, NoMemory> {
-    let mut text = String::new(alloc);
-    let added = add_rows(alloc, &mut text);
-    Ok(put(sink, text.as_bytes()) && added?)
 }

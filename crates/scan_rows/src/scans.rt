@@ -7,15 +7,15 @@ use crate::before::{Before, make_ready};
 use crate::begun::{is_begun, queue, routes, store_of};
 use crate::protocol::{joined, plan_by, protocol_of};
 use crate::row::Row;
-use crate::shown::ShownEnd;
+use crate::shown::add_end;
 use crate::ticker::{TICKER, TickerRow};
 use ctl_face::{NoMemory, Routes};
 use ctl_store::Store;
+use row_text::RowText;
 use ruby_base::Text;
 use sample_stores::{begin, let_protocol_go, scan as scan_store};
 use slicc_interpreter::Interpreted;
 use slicc_plan::Plan;
-use std::alloc::Global;
 
 /// How many transitions the controller may fire in a cycle.
 const LIMIT: u64 = 32;
@@ -34,84 +34,64 @@ struct Scan<'a> {
     receiving: Option<u16>,
 }
 
-// The line of a scan of a store's controller, whose queue of requests has this number.
+// Adds the line of a scan of a store's controller, whose queue of requests has this number.
 fn add_on(
-    alloc: Global,
-    text: &mut String,
+    rows: &mut RowText,
     scan: Scan<'_>,
     protocol: &Interpreted,
     store: &mut Store,
     queue: Option<u16>,
     routes: &Routes,
-) -> Result<bool, NoMemory>
+)
     requires { GoesOn store.old routes.now (scan.now - 1) }
 {
+    let alloc = rows.alloc();
     let now = scan.now;
     if now == 0 || now > 1000 || !is_begun(alloc, store, queue, routes, now - 1, scan.address) {
-        return Ok(false);
+        return rows.lose();
     }
     begin(store, routes, now);
     if make_ready(alloc, store, routes, now, scan.before).is_err() {
-        return Ok(false);
+        return rows.lose();
     }
-    let end = scan_store(
+    let Ok(end) = scan_store(
         alloc, protocol, 0, store, routes, SEED, now, scan.fired, LIMIT,
-    )?;
-    let told = write!(text, "{}: {}", scan.name, ShownEnd(&end));
-    add_after(alloc, text, store, routes, now, end)?;
-    told?;
-    Ok(true)
-}
-
-// The line of a scan of the controller of a protocol.
-fn add_scan(
-    alloc: Global,
-    text: &mut String,
-    scan: Scan<'_>,
-    plan: Plan,
-    routes: &Routes,
-) -> Result<bool, NoMemory> {
-    let queue = queue(plan.symbols());
-    let store = store_of(alloc, &plan, routes, scan.now);
-    let protocol = Interpreted::new(plan);
-    let added = match store {
-        Ok(Some(mut store)) => add_on(alloc, text, scan, &protocol, &mut store, queue, routes),
-        Ok(None) => Ok(false),
-        Err(NoMemory) => Err(NoMemory),
+    ) else {
+        return rows.lose();
     };
-    let_protocol_go(protocol);
-    added
+    add_end(rows, scan.name, &end);
+    add_after(rows, store, routes, now, end);
 }
 
-// The line of a scan of the protocol that has this text.
-fn add_by(
-    alloc: Global,
-    text: &mut String,
-    scan: Scan<'_>,
-    protocol: Text,
-    routes: &Routes,
-) -> Result<bool, NoMemory> {
-    match plan_by(alloc, protocol)? {
-        Some(plan) => add_scan(alloc, text, scan, plan, routes),
-        None => {
-            writeln!(text, "{}: no plan", scan.name)?;
-            Ok(true)
-        }
+// Adds the line of a scan of the controller of a protocol.
+fn add_scan(rows: &mut RowText, scan: Scan<'_>, plan: Plan, routes: &Routes) {
+    let queue = queue(plan.symbols());
+    let store = store_of(rows.alloc(), &plan, routes, scan.now);
+    let protocol = Interpreted::new(plan);
+    match store {
+        Ok(Some(mut store)) => add_on(rows, scan, &protocol, &mut store, queue, routes),
+        Ok(None) | Err(NoMemory) => rows.lose(),
+    }
+    let_protocol_go(protocol);
+}
+
+// Adds the line of a scan of the protocol that has this text.
+fn add_by(rows: &mut RowText, scan: Scan<'_>, protocol: Text, routes: &Routes) {
+    match plan_by(rows.alloc(), protocol) {
+        Ok(Some(plan)) => add_scan(rows, scan, plan, routes),
+        Ok(None) | Err(NoMemory) => rows.lose(),
     }
 }
 
-fn add_line(
-    alloc: Global,
-    text: &mut String,
-    scan: Scan<'_>,
-    protocol: Text,
-) -> Result<bool, NoMemory> {
-    let routes = routes(alloc, scan.receiving)?;
-    add_by(alloc, text, scan, protocol, &routes)
+fn add_line(rows: &mut RowText, scan: Scan<'_>, protocol: Result<Text, NoMemory>) {
+    match (protocol, routes(rows.alloc(), scan.receiving)) {
+        (Ok(protocol), Ok(routes)) => add_by(rows, scan, protocol, &routes),
+        _ => rows.lose(),
+    }
 }
 
-/// Adds the line of the scan of a row in cycle 10, with a request for address 64, and answers whether it could be done.
-pub(crate) fn add_row(alloc: Global, text: &mut String, row: &Row) -> Result<bool, NoMemory> {
+/// Adds the line of the scan of a row in cycle 10, with a request for address 64.
+pub(crate) fn add_row(rows: &mut RowText, row: &Row) {
     let scan = Scan {
         name: row.name,
         address: 64,
@@ -120,16 +100,11 @@ pub(crate) fn add_row(alloc: Global, text: &mut String, row: &Row) -> Result<boo
         fired: 0,
         receiving: Some(2),
     };
-    let protocol = protocol_of(alloc, row)?;
-    add_line(alloc, text, scan, protocol)
+    add_line(rows, scan, protocol_of(rows.alloc(), row));
 }
 
 /// Adds the line of a scan of the ticker.
-pub(crate) fn add_tick(
-    alloc: Global,
-    text: &mut String,
-    row: &TickerRow,
-) -> Result<bool, NoMemory> {
+pub(crate) fn add_tick(rows: &mut RowText, row: &TickerRow) {
     let scan = Scan {
         name: row.name,
         address: 0,
@@ -138,6 +113,5 @@ pub(crate) fn add_tick(
         fired: row.fired,
         receiving: None,
     };
-    let protocol = joined(alloc, &[TICKER, row.end])?;
-    add_line(alloc, text, scan, protocol)
+    add_line(rows, scan, joined(rows.alloc(), &[TICKER, row.end]));
 }

@@ -1,16 +1,17 @@
-// Makes the calls, and writes what each answers.
+// Makes the calls, and adds what each answers.
+ghost use Rattle.std.specs.Prelude.{IfOk, IfSome};
 ghost use Rattle.sample_stores.specs.Going.{GoesOn};
 
 use crate::calls::node::{DRIVER, KEPT_NUMBERS, ME, PARAMETERS, QUEUE, machine, routes, setting};
 use crate::calls::requests::{load, store};
 use crate::calls::row::{Row, values};
 use crate::calls::rows::GROUPS;
-use crate::calls::shown::{Answered, Arguments};
+use crate::calls::shown::{add_answer, add_arguments};
 use acts::set;
 use built_in_acts::{CallSetting, built_in};
 use ctl_face::{Local, NoMemory, Routes};
 use ctl_store::{Draft, Store};
-use ruby_outside::{Sink, put};
+use row_text::RowText;
 use ruby_value::{MsgNo, Ref, Value};
 use sample_controllers::{message, one_field};
 use sample_stores::{is_delivered, is_issued, opened};
@@ -19,30 +20,20 @@ use std::alloc::Global;
 // The cycle of the calls.
 const NOW: u64 = 10;
 
-// Makes a call in a local, and answers its line.
-fn line_of<L: Local>(
-    alloc: Global,
-    local: &mut L,
-    setting: &CallSetting,
-    row: &Row,
-    arguments: &[Value],
-) -> Result<String, NoMemory> {
-    let Row(number, name, on, _) = row;
-    let answer = Answered(built_in(alloc, local, setting, *number, *on, arguments));
-    Ok(format!(in alloc; "{number} {name}({}): {answer}\n", Arguments(arguments))?)
-}
-
-fn write_row<L: Local, S: Sink>(
-    alloc: Global,
-    sink: &mut S,
-    local: &mut L,
-    setting: &CallSetting,
-    row: &Row,
-) -> Result<bool, NoMemory> {
-    let arguments = values(alloc, row.3)?;
-    let line = line_of(alloc, local, setting, row, arguments.as_slice());
-    drop(arguments);
-    Ok(put(sink, line?.as_bytes()))
+// Makes a call in a local, and adds its line.
+fn add_row<L: Local>(rows: &mut RowText, local: &mut L, setting: &CallSetting, row: &Row) {
+    let Row(number, name, on, arguments) = row;
+    let Ok(arguments) = values(rows.alloc(), arguments) else {
+        return rows.lose();
+    };
+    let answer = built_in(rows.alloc(), local, setting, *number, *on, &arguments);
+    rows.show("", number);
+    rows.show(" ", name);
+    rows.add("(");
+    add_arguments(rows, &arguments);
+    rows.add("): ");
+    add_answer(rows, &answer);
+    rows.add("\n");
 }
 
 // Whether the numbers of the machines' controllers could be written.
@@ -59,22 +50,23 @@ fn are_kept<L: Local>(local: &mut L) -> bool {
     true
 }
 
-fn write_rows<L: Local, S: Sink>(
-    alloc: Global,
-    sink: &mut S,
-    local: &mut L,
-    setting: &CallSetting,
-    rows: &[Row],
-) -> Result<bool, NoMemory> {
+fn add_group<L: Local>(rows: &mut RowText, local: &mut L, setting: &CallSetting, group: &[Row]) {
     if !are_kept(local) {
-        return Ok(false);
+        return rows.lose();
     }
-    for row in rows {
-        if !write_row(alloc, sink, local, setting, row)? {
-            return Ok(false);
-        }
+    for row in group {
+        add_row(rows, local, setting, row);
     }
-    Ok(true)
+}
+
+// The groups, each on a draft of its own, which is dropped.
+fn add_groups(rows: &mut RowText, node: &Store, routes: &Routes, setting: &CallSetting)
+    requires { GoesOn node.now routes.now NOW }
+{
+    for group in GROUPS {
+        let mut draft = Draft::on(rows.alloc(), node, routes, 42, NOW);
+        add_group(rows, &mut draft, setting, group);
+    }
 }
 
 // Whether a message of the driver, which has the address of line 1, could come to the controller, and the requests.
@@ -94,38 +86,37 @@ fn is_begun(alloc: Global, node: &mut Store, routes: &Routes) -> bool
         && is_issued(node, routes, NOW, store())
 }
 
-// The groups, each on a draft of its own, which is dropped.
-fn write_on<S: Sink>(
-    alloc: Global,
-    sink: &mut S,
-    node: &mut Store,
-    routes: &Routes,
-) -> Result<bool, NoMemory>
+fn add_on(rows: &mut RowText, node: &mut Store, routes: &Routes)
     requires { GoesOn node.old routes.now NOW }
 {
-    if !is_begun(alloc, node, routes) {
-        return Ok(false);
+    if !is_begun(rows.alloc(), node, routes) {
+        return rows.lose();
     }
-    let setting = setting(alloc)?;
-    for rows in GROUPS {
-        let mut draft = Draft::on(alloc, node, routes, 42, NOW);
-        if !write_rows(alloc, sink, &mut draft, &setting, rows)? {
-            return Ok(false);
-        }
+    match setting(rows.alloc()) {
+        Ok(setting) => add_groups(rows, node, routes, &setting),
+        Err(NoMemory) => rows.lose(),
     }
-    Ok(true)
 }
 
-fn write_by<S: Sink>(alloc: Global, sink: &mut S, routes: &Routes) -> Result<bool, NoMemory> {
+// The store of the controller as a run begins.
+fn node_of(alloc: Global, routes: &Routes) -> Result<Option<Store>, NoMemory>
+    ensures { IfOk result (λ o. IfSome o (λ s. GoesOn s routes.now NOW)) }
+{
     let machine = machine(alloc)?;
-    match opened(alloc, machine, ME, routes, NOW)? {
-        Some(mut node) => write_on(alloc, sink, &mut node, routes),
-        None => Ok(false),
+    opened(alloc, machine, ME, routes, NOW)
+}
+
+fn add_by(rows: &mut RowText, routes: &Routes) {
+    match node_of(rows.alloc(), routes) {
+        Ok(Some(mut node)) => add_on(rows, &mut node, routes),
+        Ok(None) | Err(NoMemory) => rows.lose(),
     }
 }
 
-/// Writes the lines of all calls, and answers whether all were written.
-pub(crate) fn write<S: Sink>(alloc: Global, sink: &mut S) -> Result<bool, NoMemory> {
-    let routes = routes(alloc)?;
-    write_by(alloc, sink, &routes)
+/// Adds the lines of all calls.
+pub(crate) fn add(rows: &mut RowText) {
+    match routes(rows.alloc()) {
+        Ok(routes) => add_by(rows, &routes),
+        Err(NoMemory) => rows.lose(),
+    }
 }

@@ -1,189 +1,148 @@
 //! The machines of a protocol.
-use crate::symbols::parts::{name, write_numbers};
-use crate::symbols::types::write_fields;
+use crate::symbols::parts::add_numbers;
+use crate::symbols::types::add_fields;
+use row_text::RowText;
 use ruby_symbols::{
     ActionSymbol, BufferSymbol, FormalSymbol, FunctionSymbol, MachineSymbols, PortSymbol, Symbols,
     TableSort, TableSymbol, TransitionSymbol,
 };
 use ruby_value::BufferPlace;
-use std::fmt;
 
-fn write_table<W: fmt::Write>(
-    f: &mut fmt::Formatter<W>,
-    number: usize,
-    t: &TableSymbol,
-) -> fmt::Result {
-    write!(
-        f,
-        "  table {number} {} structure {}",
-        name(&t.name),
-        t.structure
-    )?;
+// The head of what is declared: a word, its number and its name.
+fn add_head(rows: &mut RowText, word: &str, number: usize, name: &[u8]) {
+    rows.show(word, &number);
+    rows.add(" ");
+    rows.add_bytes(name);
+}
+
+fn add_table(rows: &mut RowText, number: usize, t: &TableSymbol) {
+    add_head(rows, "  table ", number, &t.name);
+    rows.show(" structure ", &t.structure);
     match t.sort {
-        TableSort::Cache => writeln!(f, " cache"),
-        TableSort::Directory => writeln!(f, " directory"),
-        TableSort::Tbe { entries } => writeln!(f, " of {entries} entries"),
+        TableSort::Cache => rows.add(" cache\n"),
+        TableSort::Directory => rows.add(" directory\n"),
+        TableSort::Tbe { entries } => {
+            rows.show(" of ", &entries);
+            rows.add(" entries\n");
+        }
     }
 }
 
-fn write_buffer<W: fmt::Write>(
-    f: &mut fmt::Formatter<W>,
-    number: usize,
-    b: &BufferSymbol,
-) -> fmt::Result {
-    write!(
-        f,
-        "  buffer {number} {} message {:?} ordered {}",
-        name(&b.name),
-        b.message,
-        b.ordered
-    )?;
+fn add_buffer(rows: &mut RowText, number: usize, b: &BufferSymbol) {
+    add_head(rows, "  buffer ", number, &b.name);
+    rows.debug(" message ", &b.message);
+    rows.show(" ordered ", &b.ordered);
     match b.place {
-        BufferPlace::Local => writeln!(f, " local"),
+        BufferPlace::Local => rows.add(" local"),
         BufferPlace::To {
             network,
             destination,
-        } => writeln!(f, " to {network} by {destination:?}"),
-        BufferPlace::From { network } => writeln!(f, " from {network}"),
+        } => {
+            rows.show(" to ", &network);
+            rows.debug(" by ", &destination);
+        }
+        BufferPlace::From { network } => rows.show(" from ", &network),
+    }
+    rows.add("\n");
+}
+
+fn add_ports(rows: &mut RowText, word: &str, ports: &[PortSymbol]) {
+    for (number, p) in ports.iter().enumerate() {
+        add_head(rows, word, number, &p.name);
+        rows.show(" on ", &p.buffer);
+        rows.show(" at ", &p.declaration);
+        rows.add("\n");
     }
 }
 
-fn write_port<W: fmt::Write>(
-    f: &mut fmt::Formatter<W>,
-    word: &str,
-    number: usize,
-    p: &PortSymbol,
-) -> fmt::Result {
-    writeln!(
-        f,
-        "  {word} {number} {} on {} at {}",
-        name(&p.name),
-        p.buffer,
-        p.declaration
-    )
-}
-
-fn write_formal<W: fmt::Write>(f: &mut fmt::Formatter<W>, formal: &FormalSymbol) -> fmt::Result {
-    match &formal.name {
-        None => write!(f, " {:?}", formal.kind),
-        Some(called) => write!(f, " {} {:?}", name(called), formal.kind),
+fn add_formal(rows: &mut RowText, formal: &FormalSymbol) {
+    if let Some(name) = &formal.name {
+        rows.add(" ");
+        rows.add_bytes(name);
     }
+    rows.debug(" ", &formal.kind);
 }
 
-fn write_function<W: fmt::Write>(
-    f: &mut fmt::Formatter<W>,
-    number: usize,
-    function: &FunctionSymbol,
-) -> fmt::Result {
-    write!(
-        f,
-        "  function {number} {} at {} gives {:?} takes",
-        name(&function.name),
-        function.declaration,
-        function.result
-    )?;
-    for formal in &function.formals {
-        write_formal(f, formal)?;
+fn add_function(rows: &mut RowText, number: usize, f: &FunctionSymbol) {
+    add_head(rows, "  function ", number, &f.name);
+    rows.show(" at ", &f.declaration);
+    rows.debug(" gives ", &f.result);
+    rows.add(" takes");
+    for formal in &f.formals {
+        add_formal(rows, formal);
     }
-    f.write_str("\n")
+    rows.add("\n");
 }
 
-fn write_action<W: fmt::Write>(
-    f: &mut fmt::Formatter<W>,
-    number: usize,
-    a: &ActionSymbol,
-) -> fmt::Result {
-    writeln!(
-        f,
-        "  action {number} {} at {}",
-        name(&a.name),
-        a.declaration
-    )
+fn add_action(rows: &mut RowText, number: usize, a: &ActionSymbol) {
+    add_head(rows, "  action ", number, &a.name);
+    rows.show(" at ", &a.declaration);
+    rows.add("\n");
 }
 
-fn write_transition<W: fmt::Write>(
-    f: &mut fmt::Formatter<W>,
-    number: usize,
-    t: &TransitionSymbol,
-) -> fmt::Result {
-    write!(f, "  transition {number} from")?;
-    write_numbers(f, &t.states)?;
-    write!(f, " on")?;
-    write_numbers(f, &t.events)?;
-    write!(f, " to {:?} does", t.next)?;
-    write_numbers(f, &t.actions)?;
-    f.write_str("\n")
+fn add_transition(rows: &mut RowText, number: usize, t: &TransitionSymbol) {
+    rows.show("  transition ", &number);
+    rows.add(" from");
+    add_numbers(rows, &t.states);
+    rows.add(" on");
+    add_numbers(rows, &t.events);
+    rows.debug(" to ", &t.next);
+    rows.add(" does");
+    add_numbers(rows, &t.actions);
+    rows.add("\n");
 }
 
-fn write_objects<W: fmt::Write>(f: &mut fmt::Formatter<W>, m: &MachineSymbols) -> fmt::Result {
+fn add_objects(rows: &mut RowText, m: &MachineSymbols) {
     for (number, t) in m.tables.iter().enumerate() {
-        write_table(f, number, t)?;
+        add_table(rows, number, t);
     }
-    write_fields(f, "value", &m.values)?;
-    write_fields(f, "reference", &m.references)?;
+    add_fields(rows, "  value ", &m.values);
+    add_fields(rows, "  reference ", &m.references);
     for (number, b) in m.buffers.iter().enumerate() {
-        write_buffer(f, number, b)?;
+        add_buffer(rows, number, b);
     }
-    match &m.sequencer {
-        None => Ok(()),
-        Some(called) => writeln!(f, "  sequencer {}", name(called)),
+    if let Some(sequencer) = &m.sequencer {
+        rows.add("  sequencer ");
+        rows.add_bytes(sequencer);
+        rows.add("\n");
     }
 }
 
-fn write_bodies<W: fmt::Write>(f: &mut fmt::Formatter<W>, m: &MachineSymbols) -> fmt::Result {
-    for (number, p) in m.in_ports.iter().enumerate() {
-        write_port(f, "in port", number, p)?;
-    }
-    for (number, p) in m.out_ports.iter().enumerate() {
-        write_port(f, "out port", number, p)?;
-    }
-    for (number, function) in m.functions.iter().enumerate() {
-        write_function(f, number, function)?;
+fn add_bodies(rows: &mut RowText, m: &MachineSymbols) {
+    add_ports(rows, "  in port ", &m.in_ports);
+    add_ports(rows, "  out port ", &m.out_ports);
+    for (number, f) in m.functions.iter().enumerate() {
+        add_function(rows, number, f);
     }
     for (number, a) in m.actions.iter().enumerate() {
-        write_action(f, number, a)?;
+        add_action(rows, number, a);
     }
     for (number, t) in m.transitions.iter().enumerate() {
-        write_transition(f, number, t)?;
+        add_transition(rows, number, t);
     }
-    Ok(())
 }
 
-fn write_machine<W: fmt::Write>(
-    f: &mut fmt::Formatter<W>,
-    number: usize,
-    m: &MachineSymbols,
-) -> fmt::Result {
-    writeln!(
-        f,
-        "machine {number} {} states {} events {}",
-        name(&m.name),
-        m.states,
-        m.events
-    )?;
-    write!(f, "  permissions")?;
-    write_numbers(f, &m.permissions)?;
-    f.write_str("\n")?;
-    writeln!(
-        f,
-        "  entry {:?} directory {:?} TBE {:?}",
-        m.entry, m.directory, m.tbe
-    )?;
-    write_objects(f, m)?;
-    write_bodies(f, m)?;
-    writeln!(
-        f,
-        "  getState {:?} setState {:?} setAccessPermission {:?} z_stall {:?}",
-        m.get_state, m.set_state, m.set_permission, m.stall
-    )
+fn add_machine(rows: &mut RowText, number: usize, m: &MachineSymbols) {
+    add_head(rows, "machine ", number, &m.name);
+    rows.show(" states ", &m.states);
+    rows.show(" events ", &m.events);
+    rows.add("\n  permissions");
+    add_numbers(rows, &m.permissions);
+    rows.debug("\n  entry ", &m.entry);
+    rows.debug(" directory ", &m.directory);
+    rows.debug(" TBE ", &m.tbe);
+    rows.add("\n");
+    add_objects(rows, m);
+    add_bodies(rows, m);
+    rows.debug("  getState ", &m.get_state);
+    rows.debug(" setState ", &m.set_state);
+    rows.debug(" setAccessPermission ", &m.set_permission);
+    rows.debug(" z_stall ", &m.stall);
+    rows.add("\n");
 }
 
-pub(crate) fn write_machines<W: fmt::Write>(
-    f: &mut fmt::Formatter<W>,
-    symbols: &Symbols,
-) -> fmt::Result {
+pub(crate) fn add_machines(rows: &mut RowText, symbols: &Symbols) {
     for (number, m) in symbols.machines.iter().enumerate() {
-        write_machine(f, number, m)?;
+        add_machine(rows, number, m);
     }
-    Ok(())
 }

@@ -1,35 +1,23 @@
-//! Names, kinds and values as they are printed.
-use ruby_symbols::Text;
+//! Numbers and values as they are written.
+use row_text::RowText;
 use ruby_value::Value;
-use std::fmt;
-
-/// A name as text.
-pub(crate) fn name(text: &Text) -> &str {
-    match str::from_utf8(text.as_slice()) {
-        Ok(name) => name,
-        Err(_) => "?",
-    }
-}
 
 /// The numbers, each after a blank.
-pub(crate) fn write_numbers<W: fmt::Write>(
-    f: &mut fmt::Formatter<W>,
-    numbers: &[u16],
-) -> fmt::Result {
+pub(crate) fn add_numbers(rows: &mut RowText, numbers: &[u16]) {
     for n in numbers {
-        write!(f, " {n}")?;
+        rows.show(" ", n);
     }
-    Ok(())
 }
 
-/// A value that isn't empty by its kind.
-pub(crate) fn write_value<W: fmt::Write>(f: &mut fmt::Formatter<W>, value: &Value) -> fmt::Result {
+/// A value that isn't empty by its kind, with the end of the line.
+pub(crate) fn add_value(rows: &mut RowText, value: &Value) {
     match value {
-        Value::Bool(b) => writeln!(f, " = {b}"),
-        Value::Int(n) => writeln!(f, " = {n}"),
-        Value::Enum(_, member) => writeln!(f, " = {member}"),
-        Value::Addr(address) => writeln!(f, " = {address}"),
-        Value::Machine(controller) => writeln!(f, " = {controller}"),
-        Value::Dest(_) | Value::Block(_) | Value::Entry(_) | Value::Tbe(_) => f.write_str("\n"),
+        Value::Bool(b) => rows.show(" = ", b),
+        Value::Int(n) => rows.show(" = ", n),
+        Value::Enum(_, member) => rows.show(" = ", member),
+        Value::Addr(address) => rows.show(" = ", address),
+        Value::Machine(controller) => rows.show(" = ", controller),
+        Value::Dest(_) | Value::Block(_) | Value::Entry(_) | Value::Tbe(_) => {}
     }
+    rows.add("\n");
 }

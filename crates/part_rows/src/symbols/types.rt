@@ -1,62 +1,47 @@
 //! The types of a protocol.
-use crate::symbols::parts::{name, write_value};
+use crate::symbols::parts::add_value;
+use row_text::RowText;
 use ruby_symbols::{EnumerationSymbol, FieldSymbol, StructureSymbol, Symbols};
-use std::fmt;
 
-fn write_enumeration<W: fmt::Write>(
-    f: &mut fmt::Formatter<W>,
-    number: usize,
-    e: &EnumerationSymbol,
-) -> fmt::Result {
-    write!(
-        f,
-        "enumeration {number} {} of {:?} default {}:",
-        name(&e.name),
-        e.machine,
-        e.default
-    )?;
+fn add_enumeration(rows: &mut RowText, number: usize, e: &EnumerationSymbol) {
+    rows.show("enumeration ", &number);
+    rows.add(" ");
+    rows.add_bytes(&e.name);
+    rows.debug(" of ", &e.machine);
+    rows.show(" default ", &e.default);
+    rows.add(":");
     for member in &e.members {
-        write!(f, " {}", name(member))?;
+        rows.add(" ");
+        rows.add_bytes(member);
     }
-    f.write_str("\n")
+    rows.add("\n");
 }
 
-/// Fields with their numbers, each a line.
-pub(crate) fn write_fields<W: fmt::Write>(
-    f: &mut fmt::Formatter<W>,
-    word: &str,
-    fields: &[FieldSymbol],
-) -> fmt::Result {
+/// Fields with their numbers, each a line, which begins with a word.
+pub(crate) fn add_fields(rows: &mut RowText, word: &str, fields: &[FieldSymbol]) {
     for (number, field) in fields.iter().enumerate() {
-        write!(
-            f,
-            "  {word} {number} {} {:?}",
-            name(&field.name),
-            field.kind
-        )?;
-        write_value(f, &field.initial)?;
+        rows.show(word, &number);
+        rows.add(" ");
+        rows.add_bytes(&field.name);
+        rows.debug(" ", &field.kind);
+        add_value(rows, &field.initial);
     }
-    Ok(())
 }
 
-fn write_structure<W: fmt::Write>(
-    f: &mut fmt::Formatter<W>,
-    number: usize,
-    s: &StructureSymbol,
-) -> fmt::Result {
-    writeln!(f, "structure {number} {} of {:?}", name(&s.name), s.machine)?;
-    write_fields(f, "field", &s.fields)
+fn add_structure(rows: &mut RowText, number: usize, s: &StructureSymbol) {
+    rows.show("structure ", &number);
+    rows.add(" ");
+    rows.add_bytes(&s.name);
+    rows.debug(" of ", &s.machine);
+    rows.add("\n");
+    add_fields(rows, "  field ", &s.fields);
 }
 
-pub(crate) fn write_types<W: fmt::Write>(
-    f: &mut fmt::Formatter<W>,
-    symbols: &Symbols,
-) -> fmt::Result {
+pub(crate) fn add_types(rows: &mut RowText, symbols: &Symbols) {
     for (number, e) in symbols.enumerations.iter().enumerate() {
-        write_enumeration(f, number, e)?;
+        add_enumeration(rows, number, e);
     }
     for (number, s) in symbols.structures.iter().enumerate() {
-        write_structure(f, number, s)?;
+        add_structure(rows, number, s);
     }
-    Ok(())
 }
