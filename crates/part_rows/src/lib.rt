@@ -5,6 +5,7 @@
 #![tactic(auto)]
 
 mod calls;
+mod pairs;
 mod protocols;
 mod symbols;
 mod tester;
@@ -23,4 +24,6 @@ pub fn add_parts<L: Library>(rows: &mut RowText, library: &mut L) {
     topologies::add(rows, library);
     rows.add("# tester\n");
     tester::add(rows);
+    rows.add("# pairs\n");
+    pairs::add(rows, library);
 }

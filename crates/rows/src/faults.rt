@@ -27,8 +27,8 @@ struct Planned {
     lines: u64,
 }
 
-fn number(word: &String) -> u64 {
-    word.as_str().parse::<u64>().unwrap_or(0)
+fn number(word: &str) -> u64 {
+    word.parse::<u64>().unwrap_or(0)
 }
 
 // The last lines of a text, at most so many.
@@ -51,22 +51,85 @@ fn pad(alloc: Global, text: &mut Text, length: usize) -> Result<(), NoMemory> {
     text.append(&spaces)
 }
 
-// Adds a file by its name, with spaces after it up to so many bytes where `+BYTES` follows the name. One that isn't there isn't added.
+// Adds so many lines, each with a number from 0 on between these.
+fn add_lines(
+    alloc: Global,
+    text: &mut Text,
+    before: &str,
+    after: &str,
+    count: u64,
+) -> Result<(), NoMemory> {
+    for number in 0..count {
+        let line = format!(in alloc; "{before}{number}{after}\n")?;
+        text.append(line.as_bytes())?;
+    }
+    Ok(())
+}
+
+// A text in which a line with an `@` is there so many times, with the numbers from 0 in place of that.
+fn repeated(alloc: Global, text: &[u8], count: u64) -> Result<Text, NoMemory> {
+    let mut all = Text::new(alloc);
+    for line in str::from_utf8(text).unwrap_or("").lines() {
+        match line.split_once('@') {
+            Some((before, after)) => add_lines(alloc, &mut all, before, after, count)?,
+            None => {
+                all.append(line.as_bytes())?;
+                all.append(b"\n")?;
+            }
+        }
+    }
+    Ok(all)
+}
+
+// A file of a list: its name, and what is made of it.
+#[derive(Clone, Copy)]
+struct File<'a> {
+    name: &'a str,
+    // How many bytes it has at least, spaces after it counted.
+    length: usize,
+    // How many times a line of it is there, where that isn't 0.
+    count: u64,
+}
+
+fn file_of(word: &str) -> File<'_> {
+    if let Some((name, count)) = word.split_once('*') {
+        return File {
+            name,
+            length: 0,
+            count: number(count),
+        };
+    }
+    let (name, length) = word.split_once('+').unwrap_or((word, "0"));
+    File {
+        name,
+        length: number(length) as usize,
+        count: 0,
+    }
+}
+
+fn made_of(alloc: Global, mut bytes: Text, file: &File<'_>) -> Result<Text, NoMemory> {
+    if file.count > 0 {
+        return repeated(alloc, bytes.as_slice(), file.count);
+    }
+    pad(alloc, &mut bytes, file.length)?;
+    Ok(bytes)
+}
+
+// Adds a file that is there.
 fn add_file<L: Library>(
     alloc: Global,
     library: &mut L,
-    word: &str,
+    file: &File<'_>,
     files: &mut Seq<(Text, Text)>,
 ) -> Result<(), NoMemory> {
-    let (name, length) = word.split_once('+').unwrap_or((word, "0"));
-    let Got::Bytes(mut bytes) = library.read(name, LIMIT) else {
+    let Got::Bytes(bytes) = library.read(file.name, LIMIT) else {
         return Ok(());
     };
-    pad(alloc, &mut bytes, length.parse::<usize>().unwrap_or(0))?;
-    files.push((Text::copied(alloc, name.as_bytes())?, bytes))
+    let name = Text::copied(alloc, file.name.as_bytes())?;
+    files.push((name, made_of(alloc, bytes, file)?))
 }
 
-// The files of a list of names, with commas between them.
+// The files of a list, with commas between them.
 fn files_of<L: Library>(
     alloc: Global,
     library: &mut L,
@@ -74,7 +137,7 @@ fn files_of<L: Library>(
 ) -> Result<Seq<(Text, Text)>, NoMemory> {
     let mut files = Seq::new(alloc);
     for word in list.split(',') {
-        add_file(alloc, library, word, &mut files)?;
+        add_file(alloc, library, &file_of(word), &mut files)?;
     }
     Ok(files)
 }
@@ -147,9 +210,9 @@ fn said(words: &[String]) -> Option<(Option<Planned>, &String, &[String])> {
     match words {
         [kind, read, write, most, files, call @ ..] if kind.as_str() == "fails" => {
             let planned = Planned {
-                read: number(read),
-                write: number(write),
-                most: number(most),
+                read: number(read.as_str()),
+                write: number(write.as_str()),
+                most: number(most.as_str()),
                 room: ROOM,
                 lines: ROOM,
             };
@@ -161,7 +224,7 @@ fn said(words: &[String]) -> Option<(Option<Planned>, &String, &[String])> {
                 write: 0,
                 most: ROOM,
                 room: LONG_ROOM,
-                lines: number(lines),
+                lines: number(lines.as_str()),
             };
             Some((Some(planned), files, call))
         }

@@ -2,14 +2,15 @@
 //! reason why there are none, over the kit's `clap`.
 #![tactic(auto)]
 
+mod arguments;
 mod command_line;
 mod names;
 mod numbers;
 mod options;
 mod reading;
 mod tables;
-mod words;
 
+pub use arguments::words;
 pub use options::{Command, OptionFault, Options};
 pub use reading::read;
 pub use ruby_base::{NoMemory, Text};
@@ -17,4 +18,3 @@ pub use tables::{
     Bounds, CHECKS, COMMAND, COMMANDS, CYCLES, CommandRow, DEADLOCK, GENERATED, LIMIT, LINES,
     NAMES, NUMBERS, NumberOption, PROGRAM, REQUESTS, SEED, TRACE, WORKERS,
 };
-pub use words::words;
