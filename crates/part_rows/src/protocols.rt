@@ -1,21 +1,33 @@
-// The protocols whose files the program reads.
-use ruby_base::{NoMemory, Text};
+// The protocols whose files are read.
+use row_text::RowText;
+use ruby_base::NoMemory;
 use ruby_outside::Library;
-use slicc_front::{Front, front};
+use sample_stores::plan_of;
+use slicc_plan::Plan;
 use std::alloc::Global;
 
-fn front_of<L: Library>(alloc: Global, library: &mut L, path: &str) -> Result<Front, NoMemory> {
-    let name = Text::copied(alloc, path.as_bytes())?;
-    Ok(front(alloc, library, &name))
-}
-
-/// What the protocol of a file in this folder is.
-pub(crate) fn front_in<L: Library>(
+fn read<L: Library>(
     alloc: Global,
     library: &mut L,
     folder: &str,
     file: &str,
-) -> Result<Front, NoMemory> {
+) -> Result<Option<Plan>, NoMemory> {
     let path = format!(in alloc; "{folder}/{file}")?;
-    front_of(alloc, library, path.as_str())
+    plan_of(alloc, library, path.as_str())
+}
+
+/// The plan of the protocol of a file in this folder, if it keeps all rules.
+pub(crate) fn plan_in<L: Library>(
+    rows: &mut RowText,
+    library: &mut L,
+    folder: &str,
+    file: &str,
+) -> Option<Plan> {
+    match read(rows.alloc(), library, folder, file) {
+        Ok(plan) => plan,
+        Err(NoMemory) => {
+            rows.lose();
+            None
+        }
+    }
 }

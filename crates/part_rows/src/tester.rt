@@ -1,4 +1,4 @@
-// Runs the random tester over sequencers whose requests a memory answers by a script, and prints each request that it issues, up
+// Runs the random tester over sequencers whose requests a memory answers by a script, and tells each request that it issues, up
 // to 40 in a run, and what it finds: a line `CYCLE SEAT LINE KIND BYTE` for a request, below a line for each run. What is expected is
 // what `bench/tester-draws` prints, a second tester, written in another language from the rules alone.
 mod lines;
@@ -7,13 +7,12 @@ mod play;
 mod seats;
 
 use memory::Script;
-use play::{Run, write_run};
-use ruby_base::{NoMemory, Text};
-use ruby_outside::{StdSink, put};
-use std::alloc::Global;
+use play::{Run, add_run};
+use row_text::RowText;
+use ruby_base::NoMemory;
 
 // Runs of 40 requests, at one, two and three seats.
-fn write_draws(alloc: Global, seed: u64, text: &mut Text) -> Result<(), NoMemory> {
+fn add_draws(rows: &mut RowText, seed: u64) -> Result<(), NoMemory> {
     for seats in 1..4 {
         let run = Run {
             seed,
@@ -22,7 +21,7 @@ fn write_draws(alloc: Global, seed: u64, text: &mut Text) -> Result<(), NoMemory
             checks: 1000,
             deadlock: 500,
         };
-        write_run(alloc, &run, text)?;
+        add_run(rows, &run)?;
     }
     Ok(())
 }
@@ -39,7 +38,7 @@ const CHECKED: [Checked; 5] = [
     (1, 3, Script::Late, 290),
 ];
 
-fn write_checked(alloc: Global, checked: &Checked, text: &mut Text) -> Result<(), NoMemory> {
+fn add_checked(rows: &mut RowText, checked: &Checked) -> Result<(), NoMemory> {
     let (seed, seats, script, deadlock) = *checked;
     let run = Run {
         seed,
@@ -48,23 +47,22 @@ fn write_checked(alloc: Global, checked: &Checked, text: &mut Text) -> Result<()
         checks: 3,
         deadlock,
     };
-    write_run(alloc, &run, text)
+    add_run(rows, &run)
 }
 
-fn write_runs(alloc: Global, text: &mut Text) -> Result<(), NoMemory> {
+fn add_runs(rows: &mut RowText) -> Result<(), NoMemory> {
     for seed in 1..4 {
-        write_draws(alloc, seed, text)?;
+        add_draws(rows, seed)?;
     }
     for checked in &CHECKED {
-        write_checked(alloc, checked, text)?;
+        add_checked(rows, checked)?;
     }
     Ok(())
 }
 
-/// Prints all runs, and answers whether they were printed whole.
-pub(crate) fn print(rt: &HostRuntime) -> bool {
-    let mut text = Text::new(rt.alloc());
-    let written = write_runs(rt.alloc(), &mut text);
-    let mut sink = StdSink::new(rt);
-    written.is_ok() && put(&mut sink, text.as_slice())
+/// Adds all runs.
+pub(crate) fn add(rows: &mut RowText) {
+    if add_runs(rows).is_err() {
+        rows.lose();
+    }
 }

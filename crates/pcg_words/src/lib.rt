@@ -2,8 +2,6 @@
 #![tactic(auto)]
 
 mod laws;
-#[cfg(test)]
-mod tests;
 mod words;
 
 pub use laws::{begins_again, jumps_as_it_draws};

@@ -1,6 +1,11 @@
+ghost use Rattle.std.specs.Prelude.{◌≤◌, length};
+ghost use Rattle.slicc_lex.specs.Syntax.{AreEnded};
+
 use crate::texts::tokens_of;
+use ruby_base::Seq;
 use slicc_ast::tree::{Block, PrintWord, Stmt};
 use slicc_expr::block;
+use slicc_lex::Token;
 use std::alloc::Global;
 use std::test::Fail;
 
@@ -102,15 +107,19 @@ fn first_kind(tree: &Block) -> (&'static str, usize) {
     }
 }
 
-/// Whether the text is read as the row says.
-fn is_read(alloc: Global, row: &(&[u8], u32, usize, &'static str, usize)) -> bool {
-    let Some(tokens) = tokens_of(alloc, row.0) else {
-        return false;
-    };
+/// Whether the tokens are read as the row says.
+fn are_read(
+    alloc: Global,
+    tokens: &Seq<Token>,
+    row: &(&[u8], u32, usize, &'static str, usize),
+) -> bool
+    requires ended { AreEnded tokens.now }
+    requires size { length tokens.now ≤ 1048577 }
+{
     if tokens.is_empty() {
         return false;
     }
-    match block(alloc, &tokens, 0, 0) {
+    match block(alloc, tokens, 0, 0) {
         Ok((tree, next)) => {
             let (word, inside) = first_kind(&tree);
             let count = tree.statements.len();
@@ -118,6 +127,14 @@ fn is_read(alloc: Global, row: &(&[u8], u32, usize, &'static str, usize)) -> boo
             next == row.1 && count == row.2 && word == row.3 && inside == row.4
         }
         Err(_) => false,
+    }
+}
+
+/// Whether the text is read as the row says.
+fn is_read(alloc: Global, row: &(&[u8], u32, usize, &'static str, usize)) -> bool {
+    match &tokens_of(alloc, row.0) {
+        Some(tokens) => are_read(alloc, tokens, row),
+        None => false,
     }
 }
 

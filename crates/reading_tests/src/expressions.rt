@@ -1,6 +1,11 @@
+ghost use Rattle.std.specs.Prelude.{◌≤◌, length};
+ghost use Rattle.slicc_lex.specs.Syntax.{AreEnded};
+
 use crate::texts::tokens_of;
+use ruby_base::Seq;
 use slicc_ast::tree::{Expr, Operand, Operator, Span, Suffix};
 use slicc_expr::expr;
+use slicc_lex::Token;
 use std::alloc::Global;
 use std::test::Fail;
 
@@ -154,21 +159,29 @@ fn root(e: &Expr) -> (&'static str, u32) {
     }
 }
 
-/// Whether the text is read as the row says.
-fn is_read(alloc: Global, row: &(&[u8], u32, &'static str, u32)) -> bool {
-    let Some(tokens) = tokens_of(alloc, row.0) else {
-        return false;
-    };
+/// Whether the tokens are read as the row says.
+fn are_read(alloc: Global, tokens: &Seq<Token>, row: &(&[u8], u32, &'static str, u32)) -> bool
+    requires ended { AreEnded tokens.now }
+    requires size { length tokens.now ≤ 1048577 }
+{
     if tokens.is_empty() {
         return false;
     }
-    match expr(alloc, &tokens, 0, 0) {
+    match expr(alloc, tokens, 0, 0) {
         Ok((tree, next)) => {
             let (word, start) = root(&tree);
             drop(tree);
             next == row.1 && word == row.2 && start == row.3
         }
         Err(_) => false,
+    }
+}
+
+/// Whether the text is read as the row says.
+fn is_read(alloc: Global, row: &(&[u8], u32, &'static str, u32)) -> bool {
+    match &tokens_of(alloc, row.0) {
+        Some(tokens) => are_read(alloc, tokens, row),
+        None => false,
     }
 }
 

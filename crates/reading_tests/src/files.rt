@@ -1,10 +1,7 @@
-ghost use Rattle.std.specs.Prelude.{◌≤◌, length};
-
 use crate::file_rows::READ;
+use crate::texts::tree_of;
 use slicc_ast::spans;
-use slicc_ast::tree::{Span, Tree};
-use slicc_lex::lex;
-use slicc_parse::{SyntaxFault, parse};
+use slicc_ast::tree::Span;
 use std::alloc::Global;
 use std::test::Fail;
 
@@ -27,24 +24,14 @@ fn are_spans(found: &[Span], expected: &[u32]) -> bool {
     true
 }
 
-fn parsed(alloc: Global, text: &[u8]) -> Option<Result<Tree, SyntaxFault>>
-    requires { length text.now ≤ 1048576 }
-{
-    match lex(alloc, 0, text) {
-        Ok(tokens) => Some(parse(alloc, &tokens)),
-        Err(_) => None,
-    }
-}
-
 /// Whether the text is read as a tree with the row's spans.
 fn is_read(alloc: Global, row: &(&[u8], &[u32])) -> bool {
-    if row.0.len() > 1_048_576 {
-        return false;
-    }
-    let Some(Ok(tree)) = parsed(alloc, row.0) else {
+    let Some(tree) = tree_of(alloc, row.0) else {
         return false;
     };
-    match spans(alloc, &tree) {
+    let found = spans(alloc, &tree);
+    drop(tree);
+    match &found {
         Ok(found) => are_spans(found.as_slice(), row.1),
         Err(_) => false,
     }

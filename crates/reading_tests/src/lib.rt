@@ -1,5 +1,5 @@
-//! Texts, and what is read in them: their tokens, declarations, expressions and blocks, or the first fault; and of whole files where
-//! the nodes of their trees are.
+//! Texts, and what is read in them: their tokens, declarations, expressions and blocks, or the first fault; of whole files where the nodes of
+//! their trees are; and of protocols what no printed text shows of their names, their tables and what transitions need.
 #![tactic(auto)]
 
 #[cfg(test)]
@@ -14,6 +14,8 @@ mod file_rows;
 mod files;
 #[cfg(test)]
 mod refusals;
+#[cfg(test)]
+mod tables;
 #[cfg(test)]
 mod texts;
 #[cfg(test)]

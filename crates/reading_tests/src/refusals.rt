@@ -1,6 +1,11 @@
+ghost use Rattle.std.specs.Prelude.{◌≤◌, length};
+ghost use Rattle.slicc_lex.specs.Syntax.{AreEnded};
+
 use crate::texts::tokens_of;
+use ruby_base::Seq;
 use slicc_expr::SyntaxFault::{Deep, Syntax};
 use slicc_expr::{SyntaxFault, block, expr};
+use slicc_lex::Token;
 use std::alloc::Global;
 use std::test::Fail;
 
@@ -97,15 +102,30 @@ enum Form {
     Block,
 }
 
-/// The fault of a row's text, if it has one.
-fn fault_of(alloc: Global, form: Form, row: &Refused) -> Option<SyntaxFault> {
-    let tokens = tokens_of(alloc, row.0)?;
-    if row.1 as usize >= tokens.len() || row.2 > 64 {
+fn fault_in(
+    alloc: Global,
+    tokens: &Seq<Token>,
+    form: Form,
+    at: u32,
+    depth: u32,
+) -> Option<SyntaxFault>
+    requires ended { AreEnded tokens.now }
+    requires size { length tokens.now ≤ 1048577 }
+{
+    if at as usize >= tokens.len() || depth > 64 {
         return None;
     }
     match form {
-        Form::Expression => expr(alloc, &tokens, row.1, row.2).err(),
-        Form::Block => block(alloc, &tokens, row.1, row.2).err(),
+        Form::Expression => expr(alloc, tokens, at, depth).err(),
+        Form::Block => block(alloc, tokens, at, depth).err(),
+    }
+}
+
+/// The fault of a row's text, if it has one.
+fn fault_of(alloc: Global, form: Form, row: &Refused) -> Option<SyntaxFault> {
+    match &tokens_of(alloc, row.0) {
+        Some(tokens) => fault_in(alloc, tokens, form, row.1, row.2),
+        None => None,
     }
 }
 

@@ -2,7 +2,9 @@ ghost use Rattle.std.specs.Prelude.{◌≤◌, length, IfSome};
 ghost use Rattle.slicc_lex.specs.Syntax.{AreEnded};
 
 use ruby_base::Seq;
+use slicc_ast::tree::Tree;
 use slicc_lex::{Token, lex};
+use slicc_parse::parse;
 use std::alloc::Global;
 
 /// The tokens of a text that is small enough, if it has no fault.
@@ -15,6 +17,17 @@ pub(crate) fn tokens_of(alloc: Global, text: &[u8]) -> Option<Seq<Token>>
     }
     match lex(alloc, 0, text) {
         Ok(tokens) => Some(tokens),
+        Err(_) => None,
+    }
+}
+
+/// The tree of a text that is small enough, if it is a file.
+pub(crate) fn tree_of(alloc: Global, text: &[u8]) -> Option<Tree> {
+    if text.len() > 1_048_576 {
+        return None;
+    }
+    match lex(alloc, 0, text) {
+        Ok(tokens) => parse(alloc, &tokens).ok(),
         Err(_) => None,
     }
 }

@@ -1,59 +1,51 @@
-//! Makes whole calls of the program and prints what each answers: a line `== WORDS`, the text of the answer, and a line
-//! `status N`. The calls are the lines of the file `calls`, over the files of the folder that it is run in, so that the calls in
-//! `data/calls` and their answers in `stdout` are rows of a table: each says what the whole program makes of a protocol, and a
-//! further row is a file and its lines, and no proof. After them come the runs of the file `worlds/rows`, whose requests are those of
-//! a script. With the words of one such run it makes that run alone, which is for `bench/world`.
+//! Prints tables of examples, and what they have to print is in `stdout`. First come whole calls of the program, of each a line
+//! `== WORDS`, the text of the answer, and a line `status N`. The calls are the lines of the file `calls`, over the files of the folder that
+//! the program is run in, so that the calls in `data/calls` and their answers in `stdout` are rows of a table: each says what the whole
+//! program makes of a protocol, and a further row is a file and its lines, and no proof. After them come the calls of the file `faults`, over
+//! libraries and sinks in memory; the runs of the file `worlds/rows`, whose requests are those of a script; the rows of parts of the program,
+//! by `part_rows`; and the scans of small protocols, by `scan_rows`.
+//!
+//! With words, it makes one run of its own, which is for `bench/world`, or times what a script of `bench/` asks for.
 #![tactic(auto)]
 
+mod faults;
+mod lists;
+mod reading;
 mod row;
 mod table;
+mod times;
 mod worlds;
 
+use lists::{List, write_list};
+use part_rows::add_parts;
+use row_text::RowText;
 use ruby_base::NoMemory;
-use ruby_outside::{FileLibrary, Got, Library, Sink, StdSink};
+use ruby_outside::{FileLibrary, Library, Sink, StdSink, put};
+use scan_rows::add_scans;
 use std::alloc::Global;
 use std::env;
 use std::process::ExitCode;
 use std::sync::Wait;
 use std::thread::Threads;
-use table::write_rows;
+use times::time;
 
-// The files with the calls and with the runs, and the most bytes that each may have.
-const CALLS: &str = "calls";
-
-const RUNS: &str = "worlds/rows";
-
-const LIST_LIMIT: u64 = 1_048_576;
-
-// Writes the rows of the calls.
-fn write_calls<R: Threads + Wait + Sync, L: Library, S: Sink>(
+// Writes all rows, until one isn't written whole, and answers whether all were.
+fn write_all<R: Threads + Wait + Sync, L: Library, S: Sink>(
     rt: &R,
     alloc: Global,
     library: &mut L,
     sink: &mut S,
 ) -> Result<bool, NoMemory> {
-    let Got::Bytes(calls) = library.read(CALLS, LIST_LIMIT) else {
-        return Ok(false);
-    };
-    match str::from_utf8(calls.as_slice()) {
-        Ok(calls) => write_rows(rt, alloc, calls, library, sink),
-        Err(_) => Ok(false),
+    for list in [List::Calls, List::Faults, List::Runs] {
+        if !write_list(rt, alloc, list, library, sink)? {
+            return Ok(false);
+        }
     }
-}
-
-// Writes the rows of the runs.
-fn write_runs<L: Library, S: Sink>(
-    alloc: Global,
-    library: &mut L,
-    sink: &mut S,
-) -> Result<bool, NoMemory> {
-    let Got::Bytes(runs) = library.read(RUNS, LIST_LIMIT) else {
-        return Ok(false);
-    };
-    match str::from_utf8(runs.as_slice()) {
-        Ok(runs) => worlds::write_rows(alloc, runs, library, sink),
-        Err(_) => Ok(false),
-    }
+    let mut rows = RowText::new(alloc);
+    add_parts(&mut rows, library);
+    rows.add("# scans\n");
+    add_scans(&mut rows);
+    Ok(put(sink, rows.bytes()) && rows.is_whole())
 }
 
 // The words of the command line, with a blank between two.
@@ -67,22 +59,26 @@ fn line_of(rt: &HostRuntime) -> Option<String> {
 }
 
 fn main(rt: HostRuntime) -> ExitCode {
-    let mut library = FileLibrary::new(rt.alloc(), &rt);
+    let alloc = rt.alloc();
+    let mut library = FileLibrary::new(alloc, &rt);
     let mut sink = StdSink::new(&rt);
     let Some(line) = line_of(&rt) else {
         return ExitCode::FAILURE;
     };
-    let alloc = rt.alloc();
-    let written = if line.is_empty() {
-        match write_calls(&rt, alloc, &mut library, &mut sink) {
-            Ok(true) => write_runs(alloc, &mut library, &mut sink),
-            other => other,
-        }
+    let line = line.as_str();
+    let is_done = if line.is_empty() {
+        matches!(write_all(&rt, alloc, &mut library, &mut sink), Ok(true))
+    } else if line.starts_with("time ") {
+        time(&rt, alloc, &mut library, line).is_ok()
     } else {
-        worlds::write_rows(alloc, line.as_str(), &mut library, &mut sink)
+        matches!(
+            worlds::write_row(alloc, line, &mut library, &mut sink),
+            Ok(true)
+        )
     };
-    match written {
-        Ok(true) => ExitCode::SUCCESS,
-        _ => ExitCode::FAILURE,
+    if is_done {
+        ExitCode::SUCCESS
+    } else {
+        ExitCode::FAILURE
     }
 }

@@ -1,11 +1,11 @@
-// The rows of a table: the calls of a list, and what they answer.
+// Calls of the program, and what they answer.
 ghost use Rattle.std.specs.Prelude.{IfOk, map, string_bytes};
 ghost use Rattle.rows.specs.Call.{IsRow};
 
 use crate::row::row_of;
 use ruby_base::{NoMemory, Seq, Text};
 use ruby_cli::ruby;
-use ruby_outside::{Library, MemSink, OpenGate, Sink, put};
+use ruby_outside::{Library, MemSink, OpenGate};
 use std::alloc::Global;
 use std::sync::Wait;
 use std::thread::Threads;
@@ -13,8 +13,8 @@ use std::thread::Threads;
 // The most bytes of a call's text. A longer one is cut off there, and the call ends with status 7.
 const ROOM: u64 = 65_536;
 
-// The words of a line, which are separated by blanks.
-fn words(alloc: Global, line: &str) -> Result<Vec<String>, NoMemory> {
+/// The words of a line, which are separated by blanks.
+pub(crate) fn words(alloc: Global, line: &str) -> Result<Vec<String>, NoMemory> {
     let mut words = Vec::new(alloc);
     for word in line.split_whitespace() {
         words.push(String::from_str(alloc, word)?)?;
@@ -22,16 +22,8 @@ fn words(alloc: Global, line: &str) -> Result<Vec<String>, NoMemory> {
     Ok(words)
 }
 
-// Whether the words of a line are a call: there are some, and the first doesn't begin a comment.
-fn is_call(words: &[String]) -> bool {
-    match words {
-        [] => false,
-        [first, ..] => !first.as_str().starts_with('#'),
-    }
-}
-
-// Makes the call with these words over a library, and answers what is printed of it.
-fn row<R: Threads + Wait + Sync, L: Library>(
+/// Makes the call with these words over a library, and answers what is printed of it.
+pub(crate) fn row<R: Threads + Wait + Sync, L: Library>(
     rt: &R,
     alloc: Global,
     line: &str,
@@ -43,25 +35,4 @@ fn row<R: Threads + Wait + Sync, L: Library>(
     let mut sink = MemSink::new(alloc, Seq::new(alloc), ROOM, ROOM)?;
     let done = ruby(rt, alloc, words, library, &mut sink, &OpenGate);
     row_of(alloc, line, sink.bytes(), done.status)
-}
-
-/// Makes the call that is in each line of a list, over a library, and writes the rows to a sink, until one isn't written whole.
-/// A line without a word, and one whose first word begins with `#`, are no calls. It answers whether all rows were written.
-pub(crate) fn write_rows<R: Threads + Wait + Sync, L: Library, S: Sink>(
-    rt: &R,
-    alloc: Global,
-    calls: &str,
-    library: &mut L,
-    sink: &mut S,
-) -> Result<bool, NoMemory> {
-    for line in calls.lines() {
-        let words = words(alloc, line)?;
-        if is_call(words.as_slice()) {
-            let row = row(rt, alloc, line, words.as_slice(), library)?;
-            if !put(sink, row.as_slice()) {
-                return Ok(false);
-            }
-        }
-    }
-    Ok(true)
 }

@@ -1,4 +1,4 @@
-// Runs under a script of requests: the rows of a second list, and of each a line `== NAME` and below it the whole journal of the run, or how
+// Runs under a script of requests: the rows of a list, and of each a line `== NAME` and below it the whole journal of the run, or how
 // it ended alone.
 ghost use Rattle.std.specs.Prelude.{◌≤◌};
 ghost use Rattle.ctl_face.specs.Fits.{last_cycle};
@@ -14,8 +14,8 @@ use ruby_outside::{Library, Sink, put};
 use run::write_run;
 use std::alloc::Global;
 
-// Writes a row, and answers whether it was written whole. A run whose files can't be read, or are refused, has no row.
-fn write_row<L: Library, S: Sink>(
+// Writes the run of a row, and answers whether it was written whole. A run whose files can't be read, or are refused, has no lines.
+fn write_named<L: Library, S: Sink>(
     alloc: Global,
     library: &mut L,
     sink: &mut S,
@@ -27,19 +27,15 @@ fn write_row<L: Library, S: Sink>(
     Ok(put(sink, head.as_bytes()) && write_run(alloc, library, sink, row)?)
 }
 
-/// Writes the rows of a list until one isn't written whole, and answers whether all were.
-pub(crate) fn write_rows<L: Library, S: Sink>(
+/// Writes the row of a line, or that the line says no run, and answers whether it was written whole.
+pub(crate) fn write_row<L: Library, S: Sink>(
     alloc: Global,
-    rows: &str,
+    line: &str,
     library: &mut L,
     sink: &mut S,
 ) -> Result<bool, NoMemory> {
-    for line in rows.lines() {
-        if let Some(row) = row_of(line) {
-            if !write_row(alloc, library, sink, &row)? {
-                return Ok(false);
-            }
-        }
+    match row_of(line) {
+        Some(row) => write_named(alloc, library, sink, &row),
+        None => Ok(put(sink, b"no run\n")),
     }
-    Ok(true)
 }

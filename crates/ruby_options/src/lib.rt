@@ -1,7 +1,8 @@
-//! What the words of a command line ask for. `read` takes the words after the program's name to the options, or to the
+//! What the words of a command line ask for. `words` are those after the program's name, and `read` takes them to the options, or to the
 //! reason why there are none, over the kit's `clap`.
 #![tactic(auto)]
 
+mod arguments;
 mod command_line;
 mod names;
 mod numbers;
@@ -9,6 +10,7 @@ mod options;
 mod reading;
 mod tables;
 
+pub use arguments::words;
 pub use options::{Command, OptionFault, Options};
 pub use reading::read;
 pub use ruby_base::{NoMemory, Text};

@@ -48,12 +48,12 @@ goes_as old new routes now ctl same has_routes fits is = record {
 pub same_then : (a b c : Parts) → IsSameStore a b → IsSameStore b c → IsSameStore a c
 same_then a b c first second = record { machine = second.machine ∙ first.machine; me = second.me ∙ first.me }
 
-pub opened : (s : Parts) (machine : MachineSetup) (me : ℕ) (routes : Routes) → machine_of s ≡ machine → me_of s ≡ me → ctl_of s ≡ opening_ctl machine
-    → HasRoutes machine me routes → Fits machine me (opening_ctl machine) 0 → GoesOn s routes 0
-opened s machine me routes is who ctl has_routes fits = record {
+pub opened : (s : Parts) (machine : MachineSetup) (me : ℕ) (routes : Routes) (now : ℕ) → machine_of s ≡ machine → me_of s ≡ me → ctl_of s ≡ opening_ctl machine
+    → HasRoutes machine me routes → Fits machine me (opening_ctl machine) now → GoesOn s routes now
+opened s machine me routes now is who ctl has_routes fits = record {
   routes_fit =
       subst (λ (m : MachineSetup). HasRoutes m (me_of s) routes) (sym is) (subst (λ (n : ℕ). HasRoutes machine n routes) (sym who) has_routes);
   fits =
-      subst (λ (c : Ctl). Fits (machine_of s) (me_of s) c 0) (sym ctl)
-      (subst (λ (m : MachineSetup). Fits m (me_of s) (opening_ctl machine) 0) (sym is) (subst (λ (n : ℕ). Fits machine n (opening_ctl machine) 0) (sym who) fits));
+      subst (λ (c : Ctl). Fits (machine_of s) (me_of s) c now) (sym ctl)
+      (subst (λ (m : MachineSetup). Fits m (me_of s) (opening_ctl machine) now) (sym is) (subst (λ (n : ℕ). Fits machine n (opening_ctl machine) now) (sym who) fits));
 }

@@ -1,2 +1,2 @@
-pub mod Beginning
+pub mod Arriving
 pub mod Going

@@ -1,9 +1,9 @@
 // The controller whose scans are done: its store, with a request in its queue, and the routes to it and another of its machine.
-ghost use Rattle.std.specs.Prelude.{IfOk, IfSome};
+ghost use Rattle.std.specs.Prelude.{◌-◌, IfOk, IfSome};
 ghost use Rattle.ruby_value.specs.Requests.{IsRequest};
-ghost use Rattle.sample_stores.specs.Fitting.{FitsAlways};
+ghost use Rattle.sample_stores.specs.Going.{GoesOn};
 
-use ctl_face::{Fields, NoMemory, Routes, is_machine};
+use ctl_face::{Fields, NoMemory, Routes};
 use ctl_store::Store;
 use machine_setup::setup;
 use ruby_symbols::{Symbols, mandatory};
@@ -28,8 +28,8 @@ fn sizes(alloc: Global) -> Result<Sizes, NoMemory> {
     })
 }
 
-/// What the machine is to the controller.
-pub(crate) fn machine(alloc: Global, plan: &Plan) -> Result<Option<MachineSetup>, NoMemory> {
+// What the machine is to the controller.
+fn machine(alloc: Global, plan: &Plan) -> Result<Option<MachineSetup>, NoMemory> {
     let sizes = sizes(alloc)?;
     setup(alloc, plan, 0, &sizes)
 }
@@ -48,11 +48,12 @@ pub(crate) fn routes(alloc: Global, receiving: Option<u16>) -> Result<Routes, No
 
 // A load of four bytes of a line, by its address, whose second address is one of line 3.
 fn request(alloc: Global, address: u64) -> Result<Fields, NoMemory> {
-    let mut values = Vec::new(alloc);
-    values.push(Value::Addr(address))?;
-    values.push(Value::Addr(200))?;
-    values.push(Value::Enum(2, 0))?;
-    values.push(Value::Int(4))?;
+    let values = vec![in alloc;
+        Value::Addr(address),
+        Value::Addr(200),
+        Value::Enum(2, 0),
+        Value::Int(4),
+    ]?;
     Ok(Fields::of(values))
 }
 
@@ -84,51 +85,59 @@ fn write() -> Asked
 }
 
 // Whether the requests could be issued, if the machine has a sequencer.
-fn are_issued(store: &mut Store) -> bool
-    requires fits { FitsAlways store.old }
-    ensures fits { FitsAlways store.new }
+fn are_issued(store: &mut Store, routes: &Routes, now: u64) -> bool
+    requires { GoesOn store.old routes.now now }
+    ensures { GoesOn store.new routes.now now }
 {
     if !store.machine().has_sequencer {
         return true;
     }
-    is_issued(store, load()) && is_issued(store, write())
+    is_issued(store, routes, now, load()) && is_issued(store, routes, now, write())
 }
 
-fn queue(symbols: &Symbols) -> Option<u16> {
+/// The number of the queue of requests.
+pub(crate) fn queue(symbols: &Symbols) -> Option<u16> {
     match symbols.machines.get(0) {
         Some(m) => mandatory(m),
         None => None,
     }
 }
 
-/// The store with a request for a line, by its address, that has arrived in cycle 1, where there was memory for it.
-pub(crate) fn begun(
+/// Whether a request for a line, by its address, could come to the queue of this number, which arrives in cycle 1, and what is asked of
+/// the sequencer.
+pub(crate) fn is_begun(
     alloc: Global,
-    plan: &Plan,
-    machine: MachineSetup,
+    store: &mut Store,
+    queue: Option<u16>,
+    routes: &Routes,
+    now: u64,
     address: u64,
-) -> Result<Option<Store>, NoMemory>
-    ensures { IfOk result (λ o. IfSome o FitsAlways) }
+) -> bool
+    requires { GoesOn store.old routes.now now }
+    ensures { GoesOn store.new routes.now now }
 {
-    let Some(queue) = queue(plan.symbols()) else {
-        return Ok(None);
+    let (Some(queue), Ok(fields)) = (queue, request(alloc, address)) else {
+        return false;
     };
-    if !is_machine(&machine) {
-        return Ok(None);
-    }
-    let mut store = opened(alloc, machine, ME)?;
     let number = MsgNo {
         sender: DRIVER,
         count: 0,
     };
-    if !is_delivered(
-        &mut store,
-        message(number, queue, 1, request(alloc, address)?),
-    ) {
-        return Ok(None);
+    is_delivered(store, routes, now, message(number, queue, 1, fields))
+        && are_issued(store, routes, now)
+}
+
+/// The store of the controller of a plan's protocol, as a run begins, in the cycle before this one.
+pub(crate) fn store_of(
+    alloc: Global,
+    plan: &Plan,
+    routes: &Routes,
+    now: u64,
+) -> Result<Option<Store>, NoMemory>
+    ensures { IfOk result (λ o. IfSome o (λ s. GoesOn s routes.now (now - 1))) }
+{
+    match machine(alloc, plan)? {
+        Some(machine) => opened(alloc, machine, ME, routes, now.saturating_sub(1)),
+        None => Ok(None),
     }
-    if !are_issued(&mut store) {
-        return Ok(None);
-    }
-    Ok(Some(store))
 }

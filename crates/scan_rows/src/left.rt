@@ -1,10 +1,11 @@
 // What is left of a controller after its scan: the cycles at which it must wake, how many messages it has, the states of its lines, the
 // lines of its tables, what its scan has sent to another controller, and the requests that its scan has finished.
+use crate::shown::{add_block, add_value, state_name};
 use acts::{Local, Ref, Value, get, lookup, state};
 use ctl_face::{Fields, MachineSetup, Message, NoMemory};
 use ctl_store::Store;
+use row_text::RowText;
 use ruby_value::{Answer, Ask, Delivery};
-use std::alloc::Global;
 
 // The lines that the rows speak of, of 64 bytes each.
 const LINES: [u64; 3] = [0, 1, 3];
@@ -25,150 +26,145 @@ const TABLES: &[(&str, bool, &[&str])] = &[
 // The fields of its messages.
 const MESSAGE: &[&str] = &["Destination", "Count", "DataBlk", "Where"];
 
-/// Something that is left, and those of its fields that differ from what they began with: a line of a table by its byte address, a copy
-/// by its receiver, or a finished request by the byte address of its line.
-#[derive(Drop)]
-pub(crate) struct Thing {
-    pub(crate) what: &'static str,
-    pub(crate) number: u64,
-    pub(crate) fields: Vec<(&'static str, Value)>,
+// Adds something that is left: a line of a table by its byte address, a copy by its receiver, or a finished request by the byte address of
+// its line.
+fn add_thing(rows: &mut RowText, what: &str, number: u64) {
+    rows.add("; ");
+    rows.add(what);
+    rows.show(" ", &number);
 }
 
-/// All that is left.
-#[derive(Drop)]
-pub(crate) struct Left {
-    /// The cycles at which the controller must wake, from that of the scan on.
-    pub(crate) marks: Vec<u64>,
-    /// How many messages are queued, stalled and recycled.
-    pub(crate) census: (u64, u64, u64),
-    /// Byte addresses of lines, and their states in the built-in map, where these aren't the default.
-    pub(crate) states: Vec<(u64, u16)>,
-    /// The lines of tables.
-    pub(crate) lines: Vec<Thing>,
+// Adds a field, if it differs from what it began with.
+fn add_field(rows: &mut RowText, name: &str, value: &Value, first: Option<&Value>) {
+    if first != Some(value) {
+        rows.add(" ");
+        rows.add(name);
+        rows.add(" ");
+        add_value(rows, value);
+    }
 }
 
-fn marks(alloc: Global, store: &Store, now: u64) -> Result<Vec<u64>, NoMemory> {
-    let mut marks = Vec::new(alloc);
+fn add_count(rows: &mut RowText, word: &str, n: u64) {
+    if n > 0 {
+        rows.show(word, &n);
+    }
+}
+
+/// Adds the cycles at which a controller must wake, from a cycle on, and how many messages are queued, stalled and recycled.
+pub(crate) fn add_mail(rows: &mut RowText, store: &Store, now: u64) {
     let mut from = now;
+    let mut word = "; marks ";
     for _ in 0..u64::MAX {
         let Some(mark) = store.next_mark(from) else {
-            return Ok(marks);
+            break;
         };
-        marks.push(mark)?;
+        rows.show(word, &mark);
+        word = " ";
         from = mark.saturating_add(1);
     }
-    Ok(marks)
+    let (queued, stalled, recycled) = store.census();
+    add_count(rows, "; queued ", queued);
+    add_count(rows, "; stalled ", stalled);
+    add_count(rows, "; recycled ", recycled);
 }
 
-fn states<L: Local>(alloc: Global, local: &L) -> Result<Vec<(u64, u16)>, NoMemory> {
-    let mut states = Vec::new(alloc);
-    for line in LINES {
-        if let Ok(now) = state(local, line) {
-            if local.machine().default_state != Some(now) {
-                states.push((line * 64, now))?;
-            }
+// Adds the state of a line in the built-in map, where it isn't the default.
+fn add_state<L: Local>(rows: &mut RowText, local: &L, line: u64) {
+    if let Ok(now) = state(local, line) {
+        if local.machine().default_state != Some(now) {
+            rows.show("; ", &line.wrapping_mul(64));
+            rows.add(" in ");
+            rows.add(state_name(now));
         }
     }
-    Ok(states)
 }
 
-fn line_fields<L: Local>(
-    alloc: Global,
-    local: &L,
-    r: &Ref,
-    names: &'static [&'static str],
-    initial: &Fields,
-) -> Result<Vec<(&'static str, Value)>, NoMemory> {
-    let mut fields = Vec::new(alloc);
+// Whether a field has this value.
+fn has<L: Local>(local: &L, r: &Ref, field: u16, value: &Value) -> bool {
+    match get(local, r, field) {
+        Ok(now) => now == *value,
+        Err(_) => false,
+    }
+}
+
+// Whether all fields of a line have the values that they began with.
+fn is_initial<L: Local>(local: &L, r: &Ref, initial: &Fields) -> bool {
+    for (field, first) in (0..u16::MAX).zip(initial.as_slice()) {
+        if !has(local, r, field, first) {
+            return false;
+        }
+    }
+    true
+}
+
+// Adds the fields of a line that differ from a new line's.
+fn add_fields<L: Local>(rows: &mut RowText, local: &L, r: &Ref, names: &[&str], initial: &Fields) {
     for (field, name) in (0..u16::MAX).zip(names) {
-        let Ok(value) = get(local, r, field) else {
-            return Err(NoMemory);
-        };
-        if initial.get(field) != Some(&value) {
-            fields.push((*name, value))?;
+        match get(local, r, field) {
+            Ok(value) => add_field(rows, name, &value, initial.get(field)),
+            Err(_) => rows.lose(),
         }
     }
-    Ok(fields)
 }
 
-// A line of a table, if the table has it, and of a table that has all lines, if it was written.
-fn line_left<L: Local>(
-    alloc: Global,
-    local: &L,
-    table: u16,
-    line: u64,
-) -> Result<Option<Thing>, NoMemory> {
+// Adds a line of a table, if the table has it, and of a table that has all lines, if it was written.
+fn add_line<L: Local>(rows: &mut RowText, local: &L, table: u16, line: u64) {
     let (Some((what, has_all, names)), Some(setup)) = (
         TABLES.get(usize::from(table)),
         local.machine().tables.get(usize::from(table)),
     ) else {
-        return Ok(None);
+        return;
     };
     let Ok(Some(r)) = lookup(local, table, line) else {
-        return Ok(None);
+        return;
     };
-    let fields = line_fields(alloc, local, &r, names, &setup.initial)?;
-    if *has_all && fields.is_empty() {
-        return Ok(None);
+    if *has_all && is_initial(local, &r, &setup.initial) {
+        return;
     }
-    Ok(Some(Thing {
-        what,
-        number: line.wrapping_mul(64),
-        fields,
-    }))
+    add_thing(rows, what, line.wrapping_mul(64));
+    add_fields(rows, local, &r, names, &setup.initial);
 }
 
-fn lines<L: Local>(alloc: Global, local: &L) -> Result<Vec<Thing>, NoMemory> {
-    let mut lines = Vec::new(alloc);
+/// Adds the states of lines and the lines of tables, by a local of the controller.
+pub(crate) fn add_lines<L: Local>(rows: &mut RowText, local: &L) {
+    for line in LINES {
+        add_state(rows, local, line);
+    }
     for table in 0..3 {
         for line in LINES {
-            if let Some(thing) = line_left(alloc, local, table, line)? {
-                lines.push(thing)?;
-            }
+            add_line(rows, local, table, line);
         }
     }
-    Ok(lines)
 }
 
-/// What is left of a controller, by its store and a local of it, from a cycle on.
-pub(crate) fn all_left<L: Local>(
-    alloc: Global,
-    store: &Store,
-    local: &L,
-    now: u64,
-) -> Result<Left, NoMemory> {
-    Ok(Left {
-        marks: marks(alloc, store, now)?,
-        census: store.census(),
-        states: states(alloc, local)?,
-        lines: lines(alloc, local)?,
-    })
-}
-
-/// A copy that was sent to another controller of the machine.
-pub(crate) fn copy_left(
-    alloc: Global,
-    machine: &MachineSetup,
-    copy: &Delivery<Message>,
-) -> Result<Thing, NoMemory> {
-    let mut fields = Vec::new(alloc);
-    if let Some(buffer) = machine.buffers.get(usize::from(copy.message.buffer)) {
-        let initial = Fields::of_kinds(alloc, &buffer.kinds)?;
-        for (field, name) in (0..u16::MAX).zip(MESSAGE) {
-            if let Some(value) = copy.message.fields.get(field) {
-                if initial.get(field) != Some(value) {
-                    fields.push((*name, value.clone()?))?;
-                }
-            }
+// Adds the fields of a copy that differ from what they began with.
+fn add_message(rows: &mut RowText, message: &Message, initial: &Fields) {
+    for (field, name) in (0..u16::MAX).zip(MESSAGE) {
+        if let Some(value) = message.fields.get(field) {
+            add_field(rows, name, value, initial.get(field));
         }
     }
-    Ok(Thing {
-        what: "copy for",
-        number: u64::from(copy.receiver),
-        fields,
-    })
 }
 
+fn add_copy(rows: &mut RowText, machine: &MachineSetup, copy: &Delivery<Message>) {
+    add_thing(rows, "copy for", u64::from(copy.receiver));
+    let Some(buffer) = machine.buffers.get(usize::from(copy.message.buffer)) else {
+        return rows.lose();
+    };
+    match Fields::of_kinds(rows.alloc(), &buffer.kinds) {
+        Ok(initial) => add_message(rows, &copy.message, &initial),
+        Err(NoMemory) => rows.lose(),
+    }
+}
+
+/// Adds the copies that were sent to another controller of the machine.
+pub(crate) fn add_copies(rows: &mut RowText, machine: &MachineSetup, copies: &[Delivery<Message>]) {
+    for copy in copies {
+        add_copy(rows, machine, copy);
+    }
+}
+
+// Takes the next request that was finished out of the controller's sequencer, if there is one.
 fn take_answer(store: &mut Store) -> Option<Answer> {
     match store.sequencer() {
         Some(sequencer) => sequencer.take_done(),
@@ -176,21 +172,18 @@ fn take_answer(store: &mut Store) -> Option<Answer> {
     }
 }
 
-/// Takes the next request that was finished out of the controller's sequencer, if there is one.
-pub(crate) fn request_left(alloc: Global, store: &mut Store) -> Result<Option<Thing>, NoMemory> {
-    let Some(answer) = take_answer(store) else {
-        return Ok(None);
-    };
-    let mut fields = Vec::new(alloc);
-    fields.push(("DataBlk", Value::Block(answer.block)))?;
-    let what = match answer.asked.kind {
-        Ask::Load => "load",
-        Ask::Store => "store",
-        Ask::Fetch => "fetch",
-    };
-    Ok(Some(Thing {
-        what,
-        number: answer.asked.line.wrapping_mul(64),
-        fields,
-    }))
+/// Adds the requests that were finished, which it takes out of the sequencer; a controller had two.
+pub(crate) fn add_requests(rows: &mut RowText, store: &mut Store) {
+    for _ in 0..2 {
+        if let Some(answer) = take_answer(store) {
+            let what = match answer.asked.kind {
+                Ask::Load => "load",
+                Ask::Store => "store",
+                Ask::Fetch => "fetch",
+            };
+            add_thing(rows, what, answer.asked.line.wrapping_mul(64));
+            rows.add(" DataBlk ");
+            add_block(rows, &answer.block);
+        }
+    }
 }

@@ -1,23 +1,21 @@
-// Does the scans, and prints how each ends and what it leaves.
-ghost use Rattle.ctl_face.specs.RoutesFit.{HasRoutes};
-ghost use Rattle.ctl_store.specs.Kept.{machine_of, me_of};
-ghost use Rattle.sample_stores.specs.Fitting.{FitsAlways};
+// Does the scans, and tells how each ends and what it leaves.
+ghost use Rattle.std.specs.Prelude.{◌-◌};
+ghost use Rattle.sample_stores.specs.Going.{GoesOn};
 
-use crate::after::write_after;
+use crate::after::add_after;
 use crate::before::{Before, make_ready};
-use crate::begun::{begun, machine, routes};
-use crate::protocol::{plan_of, text_of};
+use crate::begun::{is_begun, queue, routes, store_of};
+use crate::protocol::{joined, plan_by, protocol_of};
 use crate::row::Row;
-use crate::shown::ShownEnd;
+use crate::shown::add_end;
 use crate::ticker::{TICKER, TickerRow};
-use ctl_face::{NoMemory, Routes, has_routes};
+use ctl_face::{NoMemory, Routes};
 use ctl_store::Store;
+use row_text::RowText;
 use ruby_base::Text;
-use sample_stores::{begin, scan as scan_store};
+use sample_stores::{begin, let_protocol_go, scan as scan_store};
 use slicc_interpreter::Interpreted;
 use slicc_plan::Plan;
-use std::alloc::Global;
-use std::io;
 
 /// How many transitions the controller may fire in a cycle.
 const LIMIT: u64 = 32;
@@ -36,74 +34,64 @@ struct Scan<'a> {
     receiving: Option<u16>,
 }
 
-fn write_on(
-    rt: &HostRuntime,
-    alloc: Global,
+// Adds the line of a scan of a store's controller, whose queue of requests has this number.
+fn add_on(
+    rows: &mut RowText,
     scan: Scan<'_>,
     protocol: &Interpreted,
     store: &mut Store,
+    queue: Option<u16>,
     routes: &Routes,
-) -> io::Result<bool>
-    requires fits { FitsAlways store.old }
-    requires routes { HasRoutes (machine_of store.old) (me_of store.old) routes.now }
+)
+    requires { GoesOn store.old routes.now (scan.now - 1) }
 {
+    let alloc = rows.alloc();
     let now = scan.now;
-    if now == 0 || now > 1000 {
-        return Ok(false);
+    if now == 0 || now > 1000 || !is_begun(alloc, store, queue, routes, now - 1, scan.address) {
+        return rows.lose();
     }
     begin(store, routes, now);
     if make_ready(alloc, store, routes, now, scan.before).is_err() {
-        return Ok(false);
+        return rows.lose();
     }
     let Ok(end) = scan_store(
         alloc, protocol, 0, store, routes, SEED, now, scan.fired, LIMIT,
     ) else {
-        return Ok(false);
+        return rows.lose();
     };
-    print!(rt; "{}: {}", scan.name, ShownEnd(&end))?;
-    if !write_after(rt, alloc, store, routes, now, end)? {
-        return Ok(false);
-    }
-    println!(rt; "")?;
-    Ok(true)
+    add_end(rows, scan.name, &end);
+    add_after(rows, store, routes, now, end);
 }
 
-fn write_of(rt: &HostRuntime, alloc: Global, scan: Scan<'_>, plan: Plan) -> io::Result<bool> {
-    let (Ok(Some(machine)), Ok(routes)) = (machine(alloc, &plan), routes(alloc, scan.receiving))
-    else {
-        return Ok(false);
-    };
-    let Ok(Some(mut store)) = begun(alloc, &plan, machine, scan.address) else {
-        return Ok(false);
-    };
-    if !has_routes(store.machine(), store.me(), &routes) {
-        return Ok(false);
-    }
+// Adds the line of a scan of the controller of a protocol.
+fn add_scan(rows: &mut RowText, scan: Scan<'_>, plan: Plan, routes: &Routes) {
+    let queue = queue(plan.symbols());
+    let store = store_of(rows.alloc(), &plan, routes, scan.now);
     let protocol = Interpreted::new(plan);
-    write_on(rt, alloc, scan, &protocol, &mut store, &routes)
+    match store {
+        Ok(Some(mut store)) => add_on(rows, scan, &protocol, &mut store, queue, routes),
+        Ok(None) | Err(NoMemory) => rows.lose(),
+    }
+    let_protocol_go(protocol);
 }
 
-fn write_text(
-    rt: &HostRuntime,
-    alloc: Global,
-    scan: Scan<'_>,
-    text: Result<Text, NoMemory>,
-) -> io::Result<bool> {
-    let Ok(text) = text else {
-        return Ok(false);
-    };
-    match plan_of(alloc, text) {
-        Ok(Some(plan)) => write_of(rt, alloc, scan, plan),
-        Ok(None) => {
-            println!(rt; "{}: no plan", scan.name)?;
-            Ok(true)
-        }
-        Err(_) => Ok(false),
+// Adds the line of a scan of the protocol that has this text.
+fn add_by(rows: &mut RowText, scan: Scan<'_>, protocol: Text, routes: &Routes) {
+    match plan_by(rows.alloc(), protocol) {
+        Ok(Some(plan)) => add_scan(rows, scan, plan, routes),
+        Ok(None) | Err(NoMemory) => rows.lose(),
     }
 }
 
-/// Does the scan of a row in cycle 10, with a request for address 64, and answers whether there was memory for it.
-pub(crate) fn write_row(rt: &HostRuntime, alloc: Global, row: &Row) -> io::Result<bool> {
+fn add_line(rows: &mut RowText, scan: Scan<'_>, protocol: Result<Text, NoMemory>) {
+    match (protocol, routes(rows.alloc(), scan.receiving)) {
+        (Ok(protocol), Ok(routes)) => add_by(rows, scan, protocol, &routes),
+        _ => rows.lose(),
+    }
+}
+
+/// Adds the line of the scan of a row in cycle 10, with a request for address 64.
+pub(crate) fn add_row(rows: &mut RowText, row: &Row) {
     let scan = Scan {
         name: row.name,
         address: 64,
@@ -112,17 +100,11 @@ pub(crate) fn write_row(rt: &HostRuntime, alloc: Global, row: &Row) -> io::Resul
         fired: 0,
         receiving: Some(2),
     };
-    write_text(rt, alloc, scan, text_of(alloc, row))
+    add_line(rows, scan, protocol_of(rows.alloc(), row));
 }
 
-fn ticker(alloc: Global, end: &str) -> Result<Text, NoMemory> {
-    let mut text = Text::copied(alloc, TICKER.as_bytes())?;
-    text.append(end.as_bytes())?;
-    Ok(text)
-}
-
-/// Does a scan of the ticker.
-pub(crate) fn write_tick(rt: &HostRuntime, alloc: Global, row: &TickerRow) -> io::Result<bool> {
+/// Adds the line of a scan of the ticker.
+pub(crate) fn add_tick(rows: &mut RowText, row: &TickerRow) {
     let scan = Scan {
         name: row.name,
         address: 0,
@@ -131,5 +113,5 @@ pub(crate) fn write_tick(rt: &HostRuntime, alloc: Global, row: &TickerRow) -> io
         fired: row.fired,
         receiving: None,
     };
-    write_text(rt, alloc, scan, ticker(alloc, row.end))
+    add_line(rows, scan, joined(rows.alloc(), &[TICKER, row.end]));
 }

@@ -1,12 +1,12 @@
-// How a scan ended, what it did to messages, and what is left after it, as text.
-use crate::left::{Left, Thing};
+// How a scan ended, what it did to messages, and values, as text.
 use ctl_store::Outcome;
+use row_text::RowText;
 use ruby_value::{Block, Fault, MsgNo, NetDest, Sent, Value};
 use run_journal::{FireNote, StopAt};
 use sample_stores::ScanEnd;
-use std::fmt;
 
-fn state_name(state: u16) -> &'static str {
+/// The name of a state.
+pub(crate) fn state_name(state: u16) -> &'static str {
     match state {
         0 => "A",
         1 => "B",
@@ -22,68 +22,43 @@ fn event_name(event: u16) -> &'static str {
     }
 }
 
-/// A transition that fired.
-#[derive(Clone, Copy)]
-struct ShownFire(FireNote);
-
-impl fmt::Display for ShownFire {
-    fn fmt<W: fmt::Write>(&self, f: &mut fmt::Formatter<W>) -> fmt::Result {
-        let FireNote {
-            address,
-            state,
-            event,
-            next,
-        } = self.0;
-        write!(
-            f,
-            "fired {address} {} {} {}",
-            state_name(state),
-            event_name(event),
-            state_name(next)
-        )
-    }
+// A transition that fired.
+fn add_fire(rows: &mut RowText, note: &FireNote) {
+    rows.show("fired ", &note.address);
+    rows.show(" ", &state_name(note.state));
+    rows.show(" ", &event_name(note.event));
+    rows.show(" ", &state_name(note.next));
 }
 
 // The messages of a list, where it has some, by their senders and numbers.
-fn write_list<W: fmt::Write>(
-    f: &mut fmt::Formatter<W>,
-    word: &str,
-    numbers: &[MsgNo],
-) -> fmt::Result {
+fn add_list(rows: &mut RowText, word: &str, numbers: &[MsgNo]) {
     if numbers.is_empty() {
-        return Ok(());
+        return;
     }
-    write!(f, ", {word}")?;
+    rows.add(word);
     for n in numbers {
-        write!(f, " {}:{}", n.sender, n.count)?;
+        rows.show(" ", &n.sender);
+        rows.show(":", &n.count);
     }
-    Ok(())
 }
 
-fn write_sent<W: fmt::Write>(f: &mut fmt::Formatter<W>, sent: &[Sent]) -> fmt::Result {
+fn add_sent(rows: &mut RowText, sent: &[Sent]) {
     for s in sent {
-        write!(
-            f,
-            ", sent {}:{} to {} for {}",
-            s.number.sender, s.number.count, s.receiver, s.arrival
-        )?;
+        rows.show(", sent ", &s.number.sender);
+        rows.show(":", &s.number.count);
+        rows.show(" to ", &s.receiver);
+        rows.show(" for ", &s.arrival);
     }
-    Ok(())
 }
 
-/// What a scan that fired has done to messages: those that it has consumed, stalled, woken and recycled, and each copy that it has
-/// sent, with its receiver and its arrival.
-#[derive(Clone, Copy)]
-struct ShownActs<'a>(&'a Outcome);
-
-impl<'a> fmt::Display for ShownActs<'a> {
-    fn fmt<W: fmt::Write>(&self, f: &mut fmt::Formatter<W>) -> fmt::Result {
-        write_list(f, "consumed", self.0.consumed())?;
-        write_list(f, "stalled", self.0.stalled())?;
-        write_list(f, "woken", self.0.woken())?;
-        write_list(f, "recycled", self.0.recycled())?;
-        write_sent(f, self.0.sent())
-    }
+// What a scan that fired has done to messages: those that it has consumed, stalled, woken and recycled, and each copy that it has sent,
+// with its receiver and its arrival.
+fn add_acts(rows: &mut RowText, outcome: &Outcome) {
+    add_list(rows, ", consumed", outcome.consumed());
+    add_list(rows, ", stalled", outcome.stalled());
+    add_list(rows, ", woken", outcome.woken());
+    add_list(rows, ", recycled", outcome.recycled());
+    add_sent(rows, outcome.sent());
 }
 
 fn word_of(fault: &Fault) -> &'static str {
@@ -105,135 +80,79 @@ fn word_of(fault: &Fault) -> &'static str {
     }
 }
 
-/// Where a scan stopped: what is known of its transition, and `-` for what isn't.
-#[derive(Clone, Copy)]
-struct ShownStop<'a>(&'a StopAt);
-
-impl<'a> fmt::Display for ShownStop<'a> {
-    fn fmt<W: fmt::Write>(&self, f: &mut fmt::Formatter<W>) -> fmt::Result {
-        f.write_str("stop ")?;
-        match self.0.address {
-            Some(address) => write!(f, "{address}")?,
-            None => f.write_str("-")?,
-        }
-        let state = match self.0.state {
-            Some(state) => state_name(state),
-            None => "-",
-        };
-        let event = match self.0.event {
-            Some(event) => event_name(event),
-            None => "-",
-        };
-        write!(f, " {state} {event} {}", word_of(&self.0.fault))
+// Where a scan stopped: what is known of its transition, and `-` for what isn't.
+fn add_stop(rows: &mut RowText, at: &StopAt) {
+    match at.address {
+        Some(address) => rows.show("stop ", &address),
+        None => rows.add("stop -"),
     }
+    rows.add(" ");
+    rows.add(match at.state {
+        Some(state) => state_name(state),
+        None => "-",
+    });
+    rows.add(" ");
+    rows.add(match at.event {
+        Some(event) => event_name(event),
+        None => "-",
+    });
+    rows.add(" ");
+    rows.add(word_of(&at.fault));
 }
 
-/// How a scan ended.
-#[derive(Clone, Copy)]
-pub(crate) struct ShownEnd<'a>(pub(crate) &'a ScanEnd);
-
-impl<'a> fmt::Display for ShownEnd<'a> {
-    fn fmt<W: fmt::Write>(&self, f: &mut fmt::Formatter<W>) -> fmt::Result {
-        match self.0 {
-            ScanEnd::Fired(o) => write!(f, "{}{}", ShownFire(o.note()), ShownActs(o)),
-            ScanEnd::Idle { stalled: true } => f.write_str("idle, stalled"),
-            ScanEnd::Idle { stalled: false } => f.write_str("idle"),
-            ScanEnd::Full => f.write_str("full"),
-            ScanEnd::Stop(at) => write!(f, "{}", ShownStop(at)),
+/// Adds the name of a scan, and how it ended.
+pub(crate) fn add_end(rows: &mut RowText, name: &str, end: &ScanEnd) {
+    rows.add(name);
+    rows.add(": ");
+    match end {
+        ScanEnd::Fired(outcome) => {
+            add_fire(rows, &outcome.note());
+            add_acts(rows, outcome);
         }
+        ScanEnd::Idle { stalled: true } => rows.add("idle, stalled"),
+        ScanEnd::Idle { stalled: false } => rows.add("idle"),
+        ScanEnd::Full => rows.add("full"),
+        ScanEnd::Stop(at) => add_stop(rows, at),
     }
 }
 
 // The members, separated by `+`.
-fn write_members<W: fmt::Write>(f: &mut fmt::Formatter<W>, members: &NetDest) -> fmt::Result {
+fn add_members(rows: &mut RowText, members: &NetDest) {
     let mut before = "";
-    for number in 0..64 {
+    for number in 0..64_u32 {
         if members.contains(number) {
-            write!(f, "{before}{number}")?;
+            rows.show(before, &number);
             before = "+";
         }
     }
-    Ok(())
 }
 
-// The bytes that aren't 0, each after its place.
-fn write_block<W: fmt::Write>(f: &mut fmt::Formatter<W>, block: &Block) -> fmt::Result {
+/// Adds the bytes of a block that aren't 0, each after its place.
+pub(crate) fn add_block(rows: &mut RowText, block: &Block) {
     let mut before = "";
     for (place, byte) in block.bytes.iter().enumerate() {
         if *byte != 0 {
-            write!(f, "{before}{place}:{byte}")?;
+            rows.show(before, &place);
+            rows.show(":", byte);
             before = "+";
         }
     }
     if before.is_empty() {
-        f.write_str("zero")?;
-    }
-    Ok(())
-}
-
-#[derive(Clone, Copy)]
-struct ShownValue<'a>(&'a Value);
-
-impl<'a> fmt::Display for ShownValue<'a> {
-    fn fmt<W: fmt::Write>(&self, f: &mut fmt::Formatter<W>) -> fmt::Result {
-        match self.0 {
-            Value::Bool(b) => write!(f, "{b}"),
-            Value::Int(n) => write!(f, "{n}"),
-            Value::Enum(_, member) => write!(f, "{member}"),
-            Value::Addr(address) => write!(f, "{address}"),
-            Value::Machine(number) => write!(f, "{number}"),
-            Value::Dest(members) => write_members(f, members),
-            Value::Block(block) => write_block(f, block),
-            Value::Entry(Some(r)) | Value::Tbe(Some(r)) => write!(f, "{}", r.line),
-            Value::Entry(None) | Value::Tbe(None) => f.write_str("nothing"),
-        }
+        rows.add("zero");
     }
 }
 
-/// Something that is left.
-#[derive(Clone, Copy)]
-pub(crate) struct ShownThing<'a>(pub(crate) &'a Thing);
-
-impl<'a> fmt::Display for ShownThing<'a> {
-    fn fmt<W: fmt::Write>(&self, f: &mut fmt::Formatter<W>) -> fmt::Result {
-        write!(f, "; {} {}", self.0.what, self.0.number)?;
-        for (name, value) in &self.0.fields {
-            write!(f, " {name} {}", ShownValue(value))?;
-        }
-        Ok(())
-    }
-}
-
-fn write_count<W: fmt::Write>(f: &mut fmt::Formatter<W>, word: &str, n: u64) -> fmt::Result {
-    if n > 0 {
-        write!(f, "; {word} {n}")?;
-    }
-    Ok(())
-}
-
-/// All that is left, each after a semicolon.
-#[derive(Clone, Copy)]
-pub(crate) struct ShownLeft<'a>(pub(crate) &'a Left);
-
-impl<'a> fmt::Display for ShownLeft<'a> {
-    fn fmt<W: fmt::Write>(&self, f: &mut fmt::Formatter<W>) -> fmt::Result {
-        let left = self.0;
-        if !left.marks.is_empty() {
-            f.write_str("; marks")?;
-        }
-        for mark in &left.marks {
-            write!(f, " {mark}")?;
-        }
-        let (queued, stalled, recycled) = left.census;
-        write_count(f, "queued", queued)?;
-        write_count(f, "stalled", stalled)?;
-        write_count(f, "recycled", recycled)?;
-        for (address, state) in &left.states {
-            write!(f, "; {address} in {}", state_name(*state))?;
-        }
-        for line in &left.lines {
-            write!(f, "{}", ShownThing(line))?;
-        }
-        Ok(())
+/// Adds a value.
+pub(crate) fn add_value(rows: &mut RowText, value: &Value) {
+    match value {
+        Value::Bool(b) => rows.show("", b),
+        Value::Int(n) => rows.show("", n),
+        Value::Enum(_, member) => rows.show("", member),
+        Value::Addr(address) => rows.show("", address),
+        Value::Machine(number) => rows.show("", number),
+        Value::Dest(members) => add_members(rows, members),
+        Value::Block(block) => add_block(rows, block),
+        Value::Entry(Some(r)) | Value::Tbe(Some(r)) => rows.show("", &r.line),
+        Value::Entry(None) | Value::Tbe(None) => rows.add("nothing"),
     }
 }

@@ -1,60 +1,62 @@
 // Values and answers as text: a value is its kind's name and its numbers, a block is 128 hexadecimal digits.
 use ctl_face::{Fault, Trouble};
+use row_text::RowText;
 use ruby_value::{Block, NetDest, Ref, Value};
 use std::fmt;
 
-fn write_controllers<W: fmt::Write>(members: &NetDest, f: &mut fmt::Formatter<W>) -> fmt::Result {
-    for number in 0..64 {
+fn add_controllers(rows: &mut RowText, members: &NetDest) {
+    for number in 0..64_u32 {
         if members.contains(number) {
-            write!(f, " {number}")?;
+            rows.show(" ", &number);
         }
     }
-    Ok(())
 }
 
-fn write_block<W: fmt::Write>(block: &Block, f: &mut fmt::Formatter<W>) -> fmt::Result {
-    for byte in &block.bytes {
-        write!(f, "{byte:02x}")?;
-    }
-    Ok(())
-}
-
-fn write_reference<W: fmt::Write>(r: &Option<Ref>, f: &mut fmt::Formatter<W>) -> fmt::Result {
-    match r {
-        Some(r) => write!(f, "{} {}", r.table, r.line),
-        None => f.write_str("none"),
-    }
-}
-
-/// A value.
+// Two hexadecimal digits.
 #[derive(Clone, Copy)]
-pub(crate) struct Shown<'a>(pub(crate) &'a Value);
+struct Hexadecimal(u8);
 
-impl<'a> fmt::Display for Shown<'a> {
+impl fmt::Display for Hexadecimal {
     fn fmt<W: fmt::Write>(&self, f: &mut fmt::Formatter<W>) -> fmt::Result {
-        match self.0 {
-            Value::Bool(b) => write!(f, "Bool {b}"),
-            Value::Int(n) => write!(f, "Int {n}"),
-            Value::Enum(enumeration, member) => write!(f, "Enum {enumeration} {member}"),
-            Value::Addr(address) => write!(f, "Addr {address}"),
-            Value::Machine(number) => write!(f, "Machine {number}"),
-            Value::Dest(members) => {
-                f.write_str("Dest")?;
-                write_controllers(members, f)
-            }
-            Value::Block(block) => {
-                f.write_str("Block ")?;
-                write_block(block, f)
-            }
-            Value::Entry(r) => {
-                f.write_str("Entry ")?;
-                write_reference(r, f)
-            }
-            Value::Tbe(r) => {
-                f.write_str("Tbe ")?;
-                write_reference(r, f)
-            }
+        write!(f, "{:02x}", self.0)
+    }
+}
+
+fn add_block(rows: &mut RowText, block: &Block) {
+    rows.add("Block ");
+    for byte in &block.bytes {
+        rows.show("", &Hexadecimal(*byte));
+    }
+}
+
+fn add_reference(rows: &mut RowText, word: &str, r: &Option<Ref>) {
+    rows.add(word);
+    match r {
+        Some(r) => {
+            rows.show(" ", &r.table);
+            rows.show(" ", &r.line);
         }
+        None => rows.add(" none"),
+    }
+}
+
+fn add_value(rows: &mut RowText, value: &Value) {
+    match value {
+        Value::Bool(b) => rows.show("Bool ", b),
+        Value::Int(n) => rows.show("Int ", n),
+        Value::Enum(enumeration, member) => {
+            rows.show("Enum ", enumeration);
+            rows.show(" ", member);
+        }
+        Value::Addr(address) => rows.show("Addr ", address),
+        Value::Machine(number) => rows.show("Machine ", number),
+        Value::Dest(members) => {
+            rows.add("Dest");
+            add_controllers(rows, members);
+        }
+        Value::Block(block) => add_block(rows, block),
+        Value::Entry(r) => add_reference(rows, "Entry", r),
+        Value::Tbe(r) => add_reference(rows, "Tbe", r),
     }
 }
 
@@ -77,33 +79,22 @@ fn word_of(fault: &Fault) -> &'static str {
     }
 }
 
-/// What a call answers: its value, `done` where it has none, or its fault.
-#[derive(Drop)]
-pub(crate) struct Answered(pub(crate) Result<Option<Value>, Trouble>);
-
-impl fmt::Display for Answered {
-    fn fmt<W: fmt::Write>(&self, f: &mut fmt::Formatter<W>) -> fmt::Result {
-        match &self.0 {
-            Ok(Some(v)) => write!(f, "{}", Shown(v)),
-            Ok(None) => f.write_str("done"),
-            Err(Trouble::Fault(fault)) => write!(f, "fault {}", word_of(fault)),
-            Err(Trouble::NoMemory) => f.write_str("no memory"),
-        }
+/// Adds what a call answers: its value, `done` where it has none, or its fault.
+pub(crate) fn add_answer(rows: &mut RowText, answer: &Result<Option<Value>, Trouble>) {
+    match answer {
+        Ok(Some(v)) => add_value(rows, v),
+        Ok(None) => rows.add("done"),
+        Err(Trouble::Fault(fault)) => rows.show("fault ", &word_of(fault)),
+        Err(Trouble::NoMemory) => rows.add("no memory"),
     }
 }
 
-/// The arguments of a call.
-#[derive(Clone, Copy)]
-pub(crate) struct Arguments<'a>(pub(crate) &'a [Value]);
-
-impl<'a> fmt::Display for Arguments<'a> {
-    fn fmt<W: fmt::Write>(&self, f: &mut fmt::Formatter<W>) -> fmt::Result {
-        for (i, v) in self.0.iter().enumerate() {
-            if i > 0 {
-                f.write_str(", ")?;
-            }
-            write!(f, "{}", Shown(v))?;
+/// Adds the arguments of a call.
+pub(crate) fn add_arguments(rows: &mut RowText, values: &[Value]) {
+    for (i, v) in values.iter().enumerate() {
+        if i > 0 {
+            rows.add(", ");
         }
-        Ok(())
+        add_value(rows, v);
     }
 }

@@ -1,36 +1,39 @@
-// Makes the calls, and prints what each answers.
-ghost use Rattle.ctl_face.specs.RoutesFit.{HasRoutes};
-ghost use Rattle.ctl_store.specs.Kept.{machine_of, me_of};
-ghost use Rattle.part_rows.specs.Begun.{FitsIn};
+// Makes the calls, and adds what each answers.
+ghost use Rattle.std.specs.Prelude.{IfOk, IfSome};
+ghost use Rattle.sample_stores.specs.Going.{GoesOn};
 
-use crate::calls::begun::{NOW, is_delivered, is_issued, load, opened, write};
-use crate::calls::node::{KEPT_NUMBERS, PARAMETERS, machine, routes, setting};
+use crate::calls::node::{DRIVER, KEPT_NUMBERS, ME, PARAMETERS, QUEUE, machine, routes, setting};
+use crate::calls::requests::{load, store};
 use crate::calls::row::{Row, values};
 use crate::calls::rows::GROUPS;
-use crate::calls::shown::{Answered, Arguments};
+use crate::calls::shown::{add_answer, add_arguments};
 use acts::set;
 use built_in_acts::{CallSetting, built_in};
-use ctl_face::{Local, Routes, has_routes, is_machine};
+use ctl_face::{Local, NoMemory, Routes};
 use ctl_store::{Draft, Store};
-use ruby_value::{Ref, Value};
+use row_text::RowText;
+use ruby_value::{MsgNo, Ref, Value};
+use sample_controllers::{message, one_field};
+use sample_stores::{is_delivered, is_issued, opened};
 use std::alloc::Global;
-use std::io;
 
-// Makes a call in a local, and prints it.
-fn write_row<L: Local>(
-    rt: &HostRuntime,
-    alloc: Global,
-    local: &mut L,
-    setting: &CallSetting,
-    row: &Row,
-) -> io::Result<bool> {
+// The cycle of the calls.
+const NOW: u64 = 10;
+
+// Makes a call in a local, and adds its line.
+fn add_row<L: Local>(rows: &mut RowText, local: &mut L, setting: &CallSetting, row: &Row) {
     let Row(number, name, on, arguments) = row;
-    let Ok(arguments) = values(alloc, arguments) else {
-        return Ok(false);
+    let Ok(arguments) = values(rows.alloc(), arguments) else {
+        return rows.lose();
     };
-    let answer = Answered(built_in(alloc, local, setting, *number, *on, &arguments));
-    println!(rt; "{number} {name}({}): {answer}", Arguments(&arguments))?;
-    Ok(true)
+    let answer = built_in(rows.alloc(), local, setting, *number, *on, &arguments);
+    rows.show("", number);
+    rows.show(" ", name);
+    rows.add("(");
+    add_arguments(rows, &arguments);
+    rows.add("): ");
+    add_answer(rows, &answer);
+    rows.add("\n");
 }
 
 // Whether the numbers of the machines' controllers could be written.
@@ -47,63 +50,73 @@ fn are_kept<L: Local>(local: &mut L) -> bool {
     true
 }
 
-fn write_rows<L: Local>(
-    rt: &HostRuntime,
-    alloc: Global,
-    local: &mut L,
-    setting: &CallSetting,
-    rows: &[Row],
-) -> io::Result<bool> {
+fn add_group<L: Local>(rows: &mut RowText, local: &mut L, setting: &CallSetting, group: &[Row]) {
     if !are_kept(local) {
-        return Ok(false);
+        return rows.lose();
     }
-    for row in rows {
-        if !write_row(rt, alloc, local, setting, row)? {
-            return Ok(false);
-        }
+    for row in group {
+        add_row(rows, local, setting, row);
     }
-    Ok(true)
 }
 
 // The groups, each on a draft of its own, which is dropped.
-fn write_on(
-    rt: &HostRuntime,
-    alloc: Global,
-    store: &Store,
-    routes: &Routes,
-    setting: &CallSetting,
-) -> io::Result<bool>
-    requires fits { FitsIn store.now NOW }
-    requires routes { HasRoutes (machine_of store.now) (me_of store.now) routes.now }
+fn add_groups(rows: &mut RowText, node: &Store, routes: &Routes, setting: &CallSetting)
+    requires { GoesOn node.now routes.now NOW }
 {
-    for rows in GROUPS {
-        let mut draft = Draft::on(alloc, store, routes, 42, NOW);
-        if !write_rows(rt, alloc, &mut draft, setting, rows)? {
-            return Ok(false);
-        }
+    for group in GROUPS {
+        let mut draft = Draft::on(rows.alloc(), node, routes, 42, NOW);
+        add_group(rows, &mut draft, setting, group);
     }
-    Ok(true)
 }
 
-/// Prints all calls, and answers whether there was memory for them.
-pub(crate) fn print(rt: &HostRuntime) -> io::Result<bool> {
-    let alloc = rt.alloc();
-    let (Ok(machine), Ok(routes), Ok(setting)) = (machine(alloc), routes(alloc), setting(alloc))
-    else {
-        return Ok(false);
+// Whether a message of the driver, which has the address of line 1, could come to the controller, and the requests.
+fn is_begun(alloc: Global, node: &mut Store, routes: &Routes) -> bool
+    requires { GoesOn node.old routes.now NOW }
+    ensures { GoesOn node.new routes.now NOW }
+{
+    let Ok(fields) = one_field(alloc, Value::Addr(64)) else {
+        return false;
     };
-    if !is_machine(&machine) {
-        return Ok(false);
-    }
-    let Ok(mut store) = opened(alloc, machine) else {
-        return Ok(false);
+    let number = MsgNo {
+        sender: DRIVER,
+        count: 0,
     };
-    if !is_delivered(alloc, &mut store)
-        || !is_issued(&mut store, load())
-        || !is_issued(&mut store, write())
-        || !has_routes(store.machine(), store.me(), &routes)
-    {
-        return Ok(false);
+    is_delivered(node, routes, NOW, message(number, QUEUE, NOW, fields))
+        && is_issued(node, routes, NOW, load())
+        && is_issued(node, routes, NOW, store())
+}
+
+fn add_on(rows: &mut RowText, node: &mut Store, routes: &Routes)
+    requires { GoesOn node.old routes.now NOW }
+{
+    if !is_begun(rows.alloc(), node, routes) {
+        return rows.lose();
     }
-    write_on(rt, alloc, &store, &routes, &setting)
+    match setting(rows.alloc()) {
+        Ok(setting) => add_groups(rows, node, routes, &setting),
+        Err(NoMemory) => rows.lose(),
+    }
+}
+
+// The store of the controller as a run begins.
+fn node_of(alloc: Global, routes: &Routes) -> Result<Option<Store>, NoMemory>
+    ensures { IfOk result (λ o. IfSome o (λ s. GoesOn s routes.now NOW)) }
+{
+    let machine = machine(alloc)?;
+    opened(alloc, machine, ME, routes, NOW)
+}
+
+fn add_by(rows: &mut RowText, routes: &Routes) {
+    match node_of(rows.alloc(), routes) {
+        Ok(Some(mut node)) => add_on(rows, &mut node, routes),
+        Ok(None) | Err(NoMemory) => rows.lose(),
+    }
+}
+
+/// Adds the lines of all calls.
+pub(crate) fn add(rows: &mut RowText) {
+    match routes(rows.alloc()) {
+        Ok(routes) => add_by(rows, &routes),
+        Err(NoMemory) => rows.lose(),
+    }
 }

@@ -1,145 +1,148 @@
 //! The machines of a protocol.
-use crate::symbols::parts::{name, print_numbers};
-use crate::symbols::types::print_fields;
+use crate::symbols::parts::add_numbers;
+use crate::symbols::types::add_fields;
+use row_text::RowText;
 use ruby_symbols::{
     ActionSymbol, BufferSymbol, FormalSymbol, FunctionSymbol, MachineSymbols, PortSymbol, Symbols,
     TableSort, TableSymbol, TransitionSymbol,
 };
 use ruby_value::BufferPlace;
-use std::io::{self, Print};
 
-fn print_table<R: Print>(rt: &R, number: usize, t: &TableSymbol) -> io::Result<()> {
-    print!(rt;
-        "  table {number} {} structure {}",
-        name(&t.name),
-        t.structure
-    )?;
+// The head of what is declared: a word, its number and its name.
+fn add_head(rows: &mut RowText, word: &str, number: usize, name: &[u8]) {
+    rows.show(word, &number);
+    rows.add(" ");
+    rows.add_bytes(name);
+}
+
+fn add_table(rows: &mut RowText, number: usize, t: &TableSymbol) {
+    add_head(rows, "  table ", number, &t.name);
+    rows.show(" structure ", &t.structure);
     match t.sort {
-        TableSort::Cache => println!(rt; " cache"),
-        TableSort::Directory => println!(rt; " directory"),
-        TableSort::Tbe { entries } => println!(rt; " of {entries} entries"),
+        TableSort::Cache => rows.add(" cache\n"),
+        TableSort::Directory => rows.add(" directory\n"),
+        TableSort::Tbe { entries } => {
+            rows.show(" of ", &entries);
+            rows.add(" entries\n");
+        }
     }
 }
 
-fn print_buffer<R: Print>(rt: &R, number: usize, b: &BufferSymbol) -> io::Result<()> {
-    print!(rt;
-        "  buffer {number} {} message {:?} ordered {}",
-        name(&b.name),
-        b.message,
-        b.ordered
-    )?;
+fn add_buffer(rows: &mut RowText, number: usize, b: &BufferSymbol) {
+    add_head(rows, "  buffer ", number, &b.name);
+    rows.debug(" message ", &b.message);
+    rows.show(" ordered ", &b.ordered);
     match b.place {
-        BufferPlace::Local => println!(rt; " local"),
+        BufferPlace::Local => rows.add(" local"),
         BufferPlace::To {
             network,
             destination,
-        } => println!(rt; " to {network} by {destination:?}"),
-        BufferPlace::From { network } => println!(rt; " from {network}"),
+        } => {
+            rows.show(" to ", &network);
+            rows.debug(" by ", &destination);
+        }
+        BufferPlace::From { network } => rows.show(" from ", &network),
+    }
+    rows.add("\n");
+}
+
+fn add_ports(rows: &mut RowText, word: &str, ports: &[PortSymbol]) {
+    for (number, p) in ports.iter().enumerate() {
+        add_head(rows, word, number, &p.name);
+        rows.show(" on ", &p.buffer);
+        rows.show(" at ", &p.declaration);
+        rows.add("\n");
     }
 }
 
-fn print_port<R: Print>(rt: &R, word: &str, number: usize, p: &PortSymbol) -> io::Result<()> {
-    println!(rt;
-        "  {word} {number} {} on {} at {}",
-        name(&p.name),
-        p.buffer,
-        p.declaration
-    )
-}
-
-fn print_formal<R: Print>(rt: &R, f: &FormalSymbol) -> io::Result<()> {
-    match &f.name {
-        None => print!(rt; " {:?}", f.kind),
-        Some(called) => print!(rt; " {} {:?}", name(called), f.kind),
+fn add_formal(rows: &mut RowText, formal: &FormalSymbol) {
+    if let Some(name) = &formal.name {
+        rows.add(" ");
+        rows.add_bytes(name);
     }
+    rows.debug(" ", &formal.kind);
 }
 
-fn print_function<R: Print>(rt: &R, number: usize, f: &FunctionSymbol) -> io::Result<()> {
-    print!(rt;
-        "  function {number} {} at {} gives {:?} takes",
-        name(&f.name),
-        f.declaration,
-        f.result
-    )?;
+fn add_function(rows: &mut RowText, number: usize, f: &FunctionSymbol) {
+    add_head(rows, "  function ", number, &f.name);
+    rows.show(" at ", &f.declaration);
+    rows.debug(" gives ", &f.result);
+    rows.add(" takes");
     for formal in &f.formals {
-        print_formal(rt, formal)?;
+        add_formal(rows, formal);
     }
-    println!(rt; "")
+    rows.add("\n");
 }
 
-fn print_action<R: Print>(rt: &R, number: usize, a: &ActionSymbol) -> io::Result<()> {
-    println!(rt; "  action {number} {} at {}", name(&a.name), a.declaration)
+fn add_action(rows: &mut RowText, number: usize, a: &ActionSymbol) {
+    add_head(rows, "  action ", number, &a.name);
+    rows.show(" at ", &a.declaration);
+    rows.add("\n");
 }
 
-fn print_transition<R: Print>(rt: &R, number: usize, t: &TransitionSymbol) -> io::Result<()> {
-    print!(rt; "  transition {number} from")?;
-    print_numbers(rt, &t.states)?;
-    print!(rt; " on")?;
-    print_numbers(rt, &t.events)?;
-    print!(rt; " to {:?} does", t.next)?;
-    print_numbers(rt, &t.actions)?;
-    println!(rt; "")
+fn add_transition(rows: &mut RowText, number: usize, t: &TransitionSymbol) {
+    rows.show("  transition ", &number);
+    rows.add(" from");
+    add_numbers(rows, &t.states);
+    rows.add(" on");
+    add_numbers(rows, &t.events);
+    rows.debug(" to ", &t.next);
+    rows.add(" does");
+    add_numbers(rows, &t.actions);
+    rows.add("\n");
 }
 
-fn print_objects<R: Print>(rt: &R, m: &MachineSymbols) -> io::Result<()> {
+fn add_objects(rows: &mut RowText, m: &MachineSymbols) {
     for (number, t) in m.tables.iter().enumerate() {
-        print_table(rt, number, t)?;
+        add_table(rows, number, t);
     }
-    print_fields(rt, "value", &m.values)?;
-    print_fields(rt, "reference", &m.references)?;
+    add_fields(rows, "  value ", &m.values);
+    add_fields(rows, "  reference ", &m.references);
     for (number, b) in m.buffers.iter().enumerate() {
-        print_buffer(rt, number, b)?;
+        add_buffer(rows, number, b);
     }
-    match &m.sequencer {
-        None => Ok(()),
-        Some(called) => println!(rt; "  sequencer {}", name(called)),
+    if let Some(sequencer) = &m.sequencer {
+        rows.add("  sequencer ");
+        rows.add_bytes(sequencer);
+        rows.add("\n");
     }
 }
 
-fn print_bodies<R: Print>(rt: &R, m: &MachineSymbols) -> io::Result<()> {
-    for (number, p) in m.in_ports.iter().enumerate() {
-        print_port(rt, "in port", number, p)?;
-    }
-    for (number, p) in m.out_ports.iter().enumerate() {
-        print_port(rt, "out port", number, p)?;
-    }
+fn add_bodies(rows: &mut RowText, m: &MachineSymbols) {
+    add_ports(rows, "  in port ", &m.in_ports);
+    add_ports(rows, "  out port ", &m.out_ports);
     for (number, f) in m.functions.iter().enumerate() {
-        print_function(rt, number, f)?;
+        add_function(rows, number, f);
     }
     for (number, a) in m.actions.iter().enumerate() {
-        print_action(rt, number, a)?;
+        add_action(rows, number, a);
     }
     for (number, t) in m.transitions.iter().enumerate() {
-        print_transition(rt, number, t)?;
+        add_transition(rows, number, t);
     }
-    Ok(())
 }
 
-fn print_machine<R: Print>(rt: &R, number: usize, m: &MachineSymbols) -> io::Result<()> {
-    println!(rt;
-        "machine {number} {} states {} events {}",
-        name(&m.name),
-        m.states,
-        m.events
-    )?;
-    print!(rt; "  permissions")?;
-    print_numbers(rt, &m.permissions)?;
-    println!(rt; "")?;
-    println!(rt;
-        "  entry {:?} directory {:?} TBE {:?}",
-        m.entry, m.directory, m.tbe
-    )?;
-    print_objects(rt, m)?;
-    print_bodies(rt, m)?;
-    println!(rt;
-        "  getState {:?} setState {:?} setAccessPermission {:?} z_stall {:?}",
-        m.get_state, m.set_state, m.set_permission, m.stall
-    )
+fn add_machine(rows: &mut RowText, number: usize, m: &MachineSymbols) {
+    add_head(rows, "machine ", number, &m.name);
+    rows.show(" states ", &m.states);
+    rows.show(" events ", &m.events);
+    rows.add("\n  permissions");
+    add_numbers(rows, &m.permissions);
+    rows.debug("\n  entry ", &m.entry);
+    rows.debug(" directory ", &m.directory);
+    rows.debug(" TBE ", &m.tbe);
+    rows.add("\n");
+    add_objects(rows, m);
+    add_bodies(rows, m);
+    rows.debug("  getState ", &m.get_state);
+    rows.debug(" setState ", &m.set_state);
+    rows.debug(" setAccessPermission ", &m.set_permission);
+    rows.debug(" z_stall ", &m.stall);
+    rows.add("\n");
 }
 
-pub(crate) fn print_machines<R: Print>(rt: &R, symbols: &Symbols) -> io::Result<()> {
+pub(crate) fn add_machines(rows: &mut RowText, symbols: &Symbols) {
     for (number, m) in symbols.machines.iter().enumerate() {
-        print_machine(rt, number, m)?;
+        add_machine(rows, number, m);
     }
-    Ok(())
 }

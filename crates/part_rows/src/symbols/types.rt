@@ -1,41 +1,47 @@
 //! The types of a protocol.
-use crate::symbols::parts::{name, print_value};
+use crate::symbols::parts::add_value;
+use row_text::RowText;
 use ruby_symbols::{EnumerationSymbol, FieldSymbol, StructureSymbol, Symbols};
-use std::io::{self, Print};
 
-fn print_enumeration<R: Print>(rt: &R, number: usize, e: &EnumerationSymbol) -> io::Result<()> {
-    print!(rt;
-        "enumeration {number} {} of {:?} default {}:",
-        name(&e.name),
-        e.machine,
-        e.default
-    )?;
+fn add_enumeration(rows: &mut RowText, number: usize, e: &EnumerationSymbol) {
+    rows.show("enumeration ", &number);
+    rows.add(" ");
+    rows.add_bytes(&e.name);
+    rows.debug(" of ", &e.machine);
+    rows.show(" default ", &e.default);
+    rows.add(":");
     for member in &e.members {
-        print!(rt; " {}", name(member))?;
+        rows.add(" ");
+        rows.add_bytes(member);
     }
-    println!(rt; "")
+    rows.add("\n");
 }
 
-/// Fields with their numbers, each a line.
-pub(crate) fn print_fields<R: Print>(rt: &R, word: &str, fields: &[FieldSymbol]) -> io::Result<()> {
-    for (number, f) in fields.iter().enumerate() {
-        print!(rt; "  {word} {number} {} {:?}", name(&f.name), f.kind)?;
-        print_value(rt, &f.initial)?;
+/// Fields with their numbers, each a line, which begins with a word.
+pub(crate) fn add_fields(rows: &mut RowText, word: &str, fields: &[FieldSymbol]) {
+    for (number, field) in fields.iter().enumerate() {
+        rows.show(word, &number);
+        rows.add(" ");
+        rows.add_bytes(&field.name);
+        rows.debug(" ", &field.kind);
+        add_value(rows, &field.initial);
     }
-    Ok(())
 }
 
-fn print_structure<R: Print>(rt: &R, number: usize, s: &StructureSymbol) -> io::Result<()> {
-    println!(rt; "structure {number} {} of {:?}", name(&s.name), s.machine)?;
-    print_fields(rt, "field", &s.fields)
+fn add_structure(rows: &mut RowText, number: usize, s: &StructureSymbol) {
+    rows.show("structure ", &number);
+    rows.add(" ");
+    rows.add_bytes(&s.name);
+    rows.debug(" of ", &s.machine);
+    rows.add("\n");
+    add_fields(rows, "  field ", &s.fields);
 }
 
-pub(crate) fn print_types<R: Print>(rt: &R, symbols: &Symbols) -> io::Result<()> {
+pub(crate) fn add_types(rows: &mut RowText, symbols: &Symbols) {
     for (number, e) in symbols.enumerations.iter().enumerate() {
-        print_enumeration(rt, number, e)?;
+        add_enumeration(rows, number, e);
     }
     for (number, s) in symbols.structures.iter().enumerate() {
-        print_structure(rt, number, s)?;
+        add_structure(rows, number, s);
     }
-    Ok(())
 }

@@ -1,79 +1,65 @@
-// The lines that are written of a run.
+// The lines that are told of a run.
 use crate::tester::play::Run;
-use ruby_base::{NoMemory, Text};
+use row_text::RowText;
 use sequencer::{Ask, Finding, Issued};
-use std::alloc::Global;
 
 /// The line of a run, above those of its requests.
-pub(crate) fn write_head(alloc: Global, run: &Run, text: &mut Text) -> Result<(), NoMemory> {
-    let Run {
-        seed,
-        seats,
-        script,
-        checks,
-        deadlock,
-    } = *run;
-    let script = script.name();
-    let line = format!(in alloc;
-        "seed {seed} seats {seats} {script} checks {checks} deadlock {deadlock}\n"
-    )?;
-    text.append(line.as_bytes())
+pub(crate) fn add_head(rows: &mut RowText, run: &Run) {
+    rows.show("seed ", &run.seed);
+    rows.show(" seats ", &run.seats);
+    rows.show(" ", &run.script.name());
+    rows.show(" checks ", &run.checks);
+    rows.show(" deadlock ", &run.deadlock);
+    rows.add("\n");
 }
 
-fn write_request(
-    alloc: Global,
-    now: u64,
-    issued: &Issued,
-    text: &mut Text,
-) -> Result<(), NoMemory> {
-    let kind = match issued.asked.kind {
-        Ask::Load => "LD",
-        Ask::Store => "ST",
-        Ask::Fetch => "IFETCH",
-    };
-    let seat = issued.seat;
-    let line = issued.asked.line;
-    let byte = issued.asked.byte;
-    let written = format!(in alloc; "{now} {seat} {line} {kind} {byte}\n")?;
-    text.append(written.as_bytes())
+fn add_request(rows: &mut RowText, now: u64, issued: &Issued) {
+    rows.show("", &now);
+    rows.show(" ", &issued.seat);
+    rows.show(" ", &issued.asked.line);
+    rows.add(match issued.asked.kind {
+        Ask::Load => " LD",
+        Ask::Store => " ST",
+        Ask::Fetch => " IFETCH",
+    });
+    rows.show(" ", &issued.asked.byte);
+    rows.add("\n");
 }
 
 /// A line for each request that was issued in a cycle.
-pub(crate) fn write_requests(
-    alloc: Global,
-    now: u64,
-    issued: &[Issued],
-    text: &mut Text,
-) -> Result<(), NoMemory> {
+pub(crate) fn add_requests(rows: &mut RowText, now: u64, issued: &[Issued]) {
     for i in issued {
-        write_request(alloc, now, i, text)?;
+        add_request(rows, now, i);
     }
-    Ok(())
 }
 
 /// The line of what was found in a cycle.
-pub(crate) fn write_finding(
-    alloc: Global,
-    now: u64,
-    finding: &Finding,
-    text: &mut Text,
-) -> Result<(), NoMemory> {
-    let line = match *finding {
+pub(crate) fn add_finding(rows: &mut RowText, now: u64, finding: &Finding) {
+    rows.show("", &now);
+    match finding {
         Finding::Incoherent {
             controller,
             line,
             offset,
             expected,
             found,
-        } => format!(in alloc;
-            "{now} incoherent {controller} {line} {offset} {expected} {found}\n"
-        ),
+        } => {
+            rows.show(" incoherent ", controller);
+            rows.show(" ", line);
+            rows.show(" ", offset);
+            rows.show(" ", expected);
+            rows.show(" ", found);
+        }
         Finding::Deadlock {
             controller,
             line,
             issued,
-        } => format!(in alloc; "{now} deadlock {controller} {line} {issued}\n"),
-        Finding::Passed { checks } => format!(in alloc; "{now} passed {checks}\n"),
-    }?;
-    text.append(line.as_bytes())
+        } => {
+            rows.show(" deadlock ", controller);
+            rows.show(" ", line);
+            rows.show(" ", issued);
+        }
+        Finding::Passed { checks } => rows.show(" passed ", checks),
+    }
+    rows.add("\n");
 }

@@ -1,13 +1,13 @@
 // A run of the tester.
 ghost use Rattle.std.specs.Prelude.{◌≤◌, length};
 
-use crate::tester::lines::{write_finding, write_head};
+use crate::tester::lines::{add_finding, add_head};
 use crate::tester::memory::{Script, answer_seat};
 use crate::tester::seats::turn;
 use random_tester::Tester;
-use ruby_base::{NoMemory, Text};
+use row_text::RowText;
+use ruby_base::NoMemory;
 use sequencer::{Block, Sequencer};
-use std::alloc::Global;
 
 /// What a run is over: the tester's seed, how many seats there are, how a memory answers, how many checks have to pass and after
 /// how many cycles a request is a deadlock.
@@ -37,12 +37,11 @@ fn answer_all(script: Script, now: u64, memory: &mut [Block], sequencers: &mut [
 }
 
 // The cycles of a run.
-fn write_cycles(
-    alloc: Global,
+fn add_cycles(
+    rows: &mut RowText,
     script: Script,
     tester: &mut Tester,
     sequencers: &mut [Sequencer],
-    text: &mut Text,
 ) -> Result<(), NoMemory>
     requires some { 1 ≤ length sequencers.old }
     requires few { length sequencers.old ≤ 3 }
@@ -51,9 +50,10 @@ fn write_cycles(
     let mut issued: usize = 0;
     for now in 0..LAST_CYCLE {
         answer_all(script, now, &mut memory, sequencers);
-        let turned = turn(alloc, now, tester, sequencers, text)?;
+        let turned = turn(rows, now, tester, sequencers)?;
         if let Some(finding) = turned.end.finding {
-            return write_finding(alloc, now, &finding, text);
+            add_finding(rows, now, &finding);
+            return Ok(());
         }
         issued = issued.saturating_add(turned.issued);
         if issued >= REQUESTS {
@@ -63,9 +63,10 @@ fn write_cycles(
     Ok(())
 }
 
-/// Makes a run and writes its lines.
-pub(crate) fn write_run(alloc: Global, run: &Run, text: &mut Text) -> Result<(), NoMemory> {
-    write_head(alloc, run, text)?;
+/// Makes a run and adds its lines.
+pub(crate) fn add_run(rows: &mut RowText, run: &Run) -> Result<(), NoMemory> {
+    add_head(rows, run);
+    let alloc = rows.alloc();
     let stream = 2 * u64::from(run.seats);
     let mut tester = Tester::new(alloc, run.seed, stream, LINES, run.checks, run.deadlock)?;
     let mut sequencers = [
@@ -74,11 +75,5 @@ pub(crate) fn write_run(alloc: Global, run: &Run, text: &mut Text) -> Result<(),
         Sequencer::new(alloc),
     ];
     let seats = usize::from(run.seats.clamp(1, 3));
-    write_cycles(
-        alloc,
-        run.script,
-        &mut tester,
-        &mut sequencers[..seats],
-        text,
-    )
+    add_cycles(rows, run.script, &mut tester, &mut sequencers[..seats])
 }

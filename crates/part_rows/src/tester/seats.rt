@@ -1,9 +1,10 @@
 // The sequencers of some controllers, which are moved to seats for the length of a turn and back again.
 ghost use Rattle.std.specs.Prelude.{◌≡◌, ◌≤◌, ◌^◌, IfOk, length};
 
-use crate::tester::lines::write_requests;
+use crate::tester::lines::add_requests;
 use random_tester::Tester;
-use ruby_base::{NoMemory, Text};
+use row_text::RowText;
+use ruby_base::NoMemory;
 use sequencer::{Driver, DriverEnd, OwnedSeat, OwnedSeats, Sequencer};
 use std::alloc::Global;
 use std::mem;
@@ -45,23 +46,22 @@ pub(crate) struct Turned {
     pub(crate) end: DriverEnd,
 }
 
-/// The turn of a cycle of the tester over these sequencers, whose requests are written to a text.
+/// The turn of a cycle of the tester over these sequencers, whose requests are added.
 pub(crate) fn turn(
-    alloc: Global,
+    rows: &mut RowText,
     now: u64,
     tester: &mut Tester,
     sequencers: &mut [Sequencer],
-    text: &mut Text,
 ) -> Result<Turned, NoMemory>
     requires some { 1 ≤ length sequencers.old }
     requires few { length sequencers.old ≤ 3 }
     requires cycle { now ≤ 10 ^ 12 }
 {
-    let mut seats = seats_of(alloc, sequencers)?;
+    let mut seats = seats_of(rows.alloc(), sequencers)?;
     tester.reserve(now, &mut seats)?;
     seats.fits();
     let end = tester.turn(now, &mut seats);
-    write_requests(alloc, now, seats.issued(), text)?;
+    add_requests(rows, now, seats.issued());
     let issued = seats.issued().len();
     put_back(seats.into_seats(), sequencers);
     Ok(Turned { issued, end })

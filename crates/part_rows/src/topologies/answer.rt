@@ -1,64 +1,25 @@
-// What is printed of a topology, or of its fault.
-use ruby_base::{NoMemory, Seq, Text};
+// What is told of a topology, or of its fault.
+use row_text::RowText;
+use ruby_base::{Seq, Text};
 use ruby_topology::{Routes, Seat, Sizes, TopoFault, Topology};
-use std::alloc::Global;
 
 // More controllers than these have their paths printed as a sum and a number that tells two tables apart.
 const FEW: usize = 4;
 
-/// A line that is made piece by piece. Where memory runs out it loses the piece, and is no longer whole.
-#[derive(Drop)]
-struct Line {
-    alloc: Global,
-    text: Text,
-    whole: bool,
-}
-
-impl Line {
-    fn new(alloc: Global) -> Line {
-        Line {
-            alloc,
-            text: Text::new(alloc),
-            whole: true,
-        }
-    }
-
-    fn add(&mut self, word: &str) {
-        if self.text.append(word.as_bytes()).is_err() {
-            self.whole = false;
-        }
-    }
-
-    fn add_number(&mut self, before: &str, number: u64) {
-        match format!(in self.alloc; "{before}{number}") {
-            Ok(digits) => self.add(digits.as_str()),
-            Err(_) => self.whole = false,
-        }
-    }
-
-    /// The text, if none of it was lost.
-    fn text(self) -> Result<Text, NoMemory> {
-        let Line { text, whole, .. } = self;
-        if whole { Ok(text) } else { Err(NoMemory) }
-    }
-}
-
-fn add_names(line: &mut Line, names: &[Text]) {
-    line.add("; names");
+fn add_names(rows: &mut RowText, names: &[Text]) {
+    rows.add("; names");
     for name in names {
-        line.add(" ");
-        if line.text.append(name.as_slice()).is_err() {
-            line.whole = false;
-        }
+        rows.add(" ");
+        rows.add_bytes(name);
     }
 }
 
-fn add_paths(line: &mut Line, paths: &[Seq<u64>]) {
-    line.add("; paths");
+fn add_paths(rows: &mut RowText, paths: &[Seq<u64>]) {
+    rows.add("; paths");
     for row in paths {
-        line.add(" /");
+        rows.add(" /");
         for path in row {
-            line.add_number(" ", *path);
+            rows.show(" ", path);
         }
     }
 }
@@ -72,106 +33,101 @@ fn mixed(row: &[u64], mut all: (u64, u64)) -> (u64, u64) {
     all
 }
 
-fn add_sums(line: &mut Line, paths: &[Seq<u64>]) {
+fn add_sums(rows: &mut RowText, paths: &[Seq<u64>]) {
     let mut all = (0, 0);
     for row in paths {
         all = mixed(row.as_slice(), all);
     }
-    line.add_number("; sum ", all.0);
-    line.add_number(" mixed ", all.1);
+    rows.show("; sum ", &all.0);
+    rows.show(" mixed ", &all.1);
 }
 
-fn add_receivers(line: &mut Line, controller: usize, buffers: &[Option<u16>]) {
+fn add_receivers(rows: &mut RowText, controller: usize, buffers: &[Option<u16>]) {
     for (network, buffer) in buffers.iter().enumerate() {
         if let Some(number) = buffer {
-            line.add_number(" ", controller as u64);
-            line.add_number(".", network as u64);
-            line.add_number(".", u64::from(*number));
+            rows.show(" ", &controller);
+            rows.show(".", &network);
+            rows.show(".", number);
         }
     }
 }
 
-fn add_routes(line: &mut Line, routes: &Routes) {
+fn add_routes(rows: &mut RowText, routes: &Routes) {
     if routes.paths.len() <= FEW {
-        add_paths(line, &routes.paths);
+        add_paths(rows, &routes.paths);
     } else {
-        add_sums(line, &routes.paths);
+        add_sums(rows, &routes.paths);
     }
-    line.add_number("; jitter ", routes.jitter);
-    line.add("; ordered");
+    rows.show("; jitter ", &routes.jitter);
+    rows.add("; ordered");
     for (network, keeps) in routes.ordered.iter().enumerate() {
         if *keeps {
-            line.add_number(" ", network as u64);
+            rows.show(" ", &network);
         }
     }
-    line.add("; receiving");
+    rows.add("; receiving");
     for (controller, buffers) in routes.receiving.iter().enumerate() {
         if routes.paths.len() <= FEW {
-            add_receivers(line, controller, buffers.as_slice());
+            add_receivers(rows, controller, buffers.as_slice());
         }
     }
 }
 
-fn add_sizes(line: &mut Line, sizes: &Sizes) {
-    line.add("; sizes");
+fn add_sizes(rows: &mut RowText, sizes: &Sizes) {
+    rows.add("; sizes");
     for (first, count) in &sizes.machines {
-        line.add_number(" ", u64::from(*first));
-        line.add_number("+", u64::from(*count));
+        rows.show(" ", first);
+        rows.show("+", count);
     }
     for (table, sets, ways) in &sizes.caches {
-        line.add_number(" cache ", u64::from(*table));
-        line.add_number(" ", u64::from(*sets));
-        line.add_number(" ", u64::from(*ways));
+        rows.show(" cache ", table);
+        rows.show(" ", sets);
+        rows.show(" ", ways);
     }
     for (table, entries) in &sizes.tbes {
-        line.add_number(" tbes ", u64::from(*table));
-        line.add_number(" ", u64::from(*entries));
+        rows.show(" tbes ", table);
+        rows.show(" ", entries);
     }
     for (value, number) in &sizes.parameters {
-        line.add_number(" set ", u64::from(*value));
-        line.add_number(" ", number.unsigned_abs());
+        rows.show(" set ", value);
+        rows.show(" ", &number.unsigned_abs());
     }
 }
 
-fn add_seats(line: &mut Line, seats: &[Seat]) {
-    line.add("; seats");
+fn add_seats(rows: &mut RowText, seats: &[Seat]) {
+    rows.add("; seats");
     for seat in seats {
-        line.add_number(" ", u64::from(seat.controller));
+        rows.show(" ", &seat.controller);
         if !seat.sequencer {
-            line.add(" without");
+            rows.add(" without");
         }
     }
 }
 
-fn add_topology(line: &mut Line, topology: &Topology) {
-    line.add("counts");
+fn add_topology(rows: &mut RowText, topology: &Topology) {
+    rows.add("counts");
     for count in &topology.counts {
-        line.add_number(" ", u64::from(*count));
+        rows.show(" ", count);
     }
     if topology.names().len() <= FEW {
-        add_names(line, topology.names().as_slice());
+        add_names(rows, topology.names().as_slice());
     }
-    add_routes(line, &topology.routes);
+    add_routes(rows, &topology.routes);
     for sizes in &topology.sizes {
-        add_sizes(line, sizes);
+        add_sizes(rows, sizes);
     }
-    add_seats(line, &topology.seats);
+    add_seats(rows, &topology.seats);
 }
 
-/// What is printed of an answer: a topology's parts, or the line and the rule that it breaks.
-pub(crate) fn answer_line(
-    alloc: Global,
-    answer: Result<Topology, TopoFault>,
-) -> Result<Text, NoMemory> {
-    let mut line = Line::new(alloc);
+/// Adds what is told of an answer: a topology's parts, or the line and the rule that it breaks.
+pub(crate) fn add_answer(rows: &mut RowText, answer: &Result<Topology, TopoFault>) {
     match answer {
-        Ok(topology) => add_topology(&mut line, &topology),
-        Err(TopoFault::NoMemory) => return Err(NoMemory),
-        Err(TopoFault::Line { rule, line: number }) => {
-            line.add_number("", u64::from(number));
-            line.add_number(" T", u64::from(rule));
+        Ok(topology) => add_topology(rows, topology),
+        Err(TopoFault::NoMemory) => rows.lose(),
+        Err(TopoFault::Line { rule, line }) => {
+            rows.show("", line);
+            rows.show(" T", rule);
         }
     }
-    line.add("\n");
-    line.text()
+    rows.add("\n");
 }

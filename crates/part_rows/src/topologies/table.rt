@@ -1,10 +1,11 @@
 // The rows of the table.
-use crate::protocols::front_in;
-use crate::topologies::answer::answer_line;
+use crate::protocols::plan_in;
+use crate::topologies::answer::add_answer;
+use row_text::RowText;
 use ruby_base::{NoMemory, Seq, Text};
-use ruby_outside::{Library, Sink, put};
+use ruby_outside::Library;
 use ruby_topology::{TopoFault, Topology, plain, read_topology};
-use slicc_front::Front;
+use sample_stores::let_go;
 use slicc_plan::Plan;
 use std::alloc::Global;
 
@@ -57,39 +58,23 @@ fn answer(alloc: Global, row: &str, plan: &Plan) -> Result<Topology, TopoFault> 
     topology
 }
 
-// What is printed of a row, for the protocol of the file of this name.
-fn line_in<L: Library>(
-    alloc: Global,
-    library: &mut L,
-    protocol: &str,
-    row: &str,
-) -> Result<Text, NoMemory> {
-    match front_in(alloc, library, "topologies", protocol)? {
-        Front::Plan(plan) => answer_line(alloc, answer(alloc, row, &plan)),
-        _ => Text::copied(alloc, b"no plan\n"),
+// Adds the line of a row, for the protocol of the file of this name.
+fn add_line<L: Library>(rows: &mut RowText, library: &mut L, protocol: &str, row: &str) {
+    match plan_in(rows, library, "topologies", protocol) {
+        Some(plan) => {
+            add_answer(rows, &answer(rows.alloc(), row, &plan));
+            let_go(plan);
+        }
+        None => rows.add("no plan\n"),
     }
 }
 
-// A row names the file of its protocol, and after a colon stands its topology.
-fn line_of<L: Library>(alloc: Global, library: &mut L, row: &str) -> Result<Text, NoMemory> {
-    match row.split_once(':') {
-        Some((protocol, file)) => line_in(alloc, library, protocol, file),
-        _ => Text::copied(alloc, b"no row\n"),
-    }
-}
-
-/// Writes what is printed of each row to a sink, until one isn't written whole, and answers whether all were.
-pub(crate) fn write_rows<L: Library, S: Sink>(
-    alloc: Global,
-    library: &mut L,
-    list: &str,
-    sink: &mut S,
-) -> Result<bool, NoMemory> {
+/// Adds the line of each row, which names the file of its protocol, and after a colon has its topology.
+pub(crate) fn add_rows<L: Library>(rows: &mut RowText, library: &mut L, list: &str) {
     for row in list.lines() {
-        let line = line_of(alloc, library, row)?;
-        if !put(sink, line.as_slice()) {
-            return Ok(false);
+        match row.split_once(':') {
+            Some((protocol, topology)) => add_line(rows, library, protocol, topology),
+            None => rows.add("no row\n"),
         }
     }
-    Ok(true)
 }

@@ -1,52 +1,39 @@
 // The lines of a journal: of each entry what a trace has of it, and below it what a trace leaves out, which is the lists of messages of a
 // transition. The end of a wake-up and a turn have a line of their own.
-use ruby_base::{NoMemory, Seq, Text};
+use row_text::RowText;
+use ruby_base::{Seq, Text};
 use ruby_outside::{Sink, put};
 use run_journal::{End, Entry, Finding, MsgNo, Sent, Verdict};
 use slicc_plan::Plan;
 use std::alloc::Global;
-use std::fmt;
 use trace_print::write_entry;
 
-// Numbers of messages, as `SENDER.COUNT` with commas between them, or `-` where there is none.
-#[derive(Clone, Copy)]
-struct Numbers<'a>(&'a [MsgNo]);
-
-impl<'a> fmt::Display for Numbers<'a> {
-    fn fmt<W: fmt::Write>(&self, f: &mut fmt::Formatter<W>) -> fmt::Result {
-        if self.0.is_empty() {
-            return f.write_str("-");
-        }
-        for (place, number) in self.0.iter().enumerate() {
-            if place > 0 {
-                f.write_str(",")?;
-            }
-            write!(f, "{}.{}", number.sender, number.count)?;
-        }
-        Ok(())
+// Numbers of messages after a word, as `SENDER.COUNT` with commas between them, or `-` where there is none.
+fn add_numbers(rows: &mut RowText, word: &str, numbers: &[MsgNo]) {
+    let mut before = word;
+    for number in numbers {
+        rows.show(before, &number.sender);
+        rows.show(".", &number.count);
+        before = ",";
+    }
+    if numbers.is_empty() {
+        rows.show(word, &"-");
     }
 }
 
-// Copies that were sent, as `SENDER.COUNT>RECEIVER:BUFFER@ARRIVAL` with commas between them, or `-` where there is none.
-#[derive(Clone, Copy)]
-struct Copies<'a>(&'a [Sent]);
-
-impl<'a> fmt::Display for Copies<'a> {
-    fn fmt<W: fmt::Write>(&self, f: &mut fmt::Formatter<W>) -> fmt::Result {
-        if self.0.is_empty() {
-            return f.write_str("-");
-        }
-        for (place, sent) in self.0.iter().enumerate() {
-            if place > 0 {
-                f.write_str(",")?;
-            }
-            write!(
-                f,
-                "{}.{}>{}:{}@{}",
-                sent.number.sender, sent.number.count, sent.receiver, sent.buffer, sent.arrival
-            )?;
-        }
-        Ok(())
+// Copies that were sent, as `SENDER.COUNT>RECEIVER:BUFFER@ARRIVAL`, in the same way.
+fn add_copies(rows: &mut RowText, word: &str, copies: &[Sent]) {
+    let mut before = word;
+    for sent in copies {
+        rows.show(before, &sent.number.sender);
+        rows.show(".", &sent.number.count);
+        rows.show(">", &sent.receiver);
+        rows.show(":", &sent.buffer);
+        rows.show("@", &sent.arrival);
+        before = ",";
+    }
+    if copies.is_empty() {
+        rows.show(word, &"-");
     }
 }
 
@@ -74,27 +61,23 @@ fn verdict_word(verdict: &Option<Verdict>) -> &'static str {
 }
 
 // The line of the end of a wake-up that no trace has.
-fn end_line(
-    alloc: Global,
-    names: &[Text],
-    cycle: u64,
-    controller: u32,
-    end: &End,
-) -> Result<String, NoMemory> {
+fn add_end(rows: &mut RowText, names: &[Text], cycle: u64, controller: u32, end: &End) {
     let word = match end {
-        End::Idle => "idle",
-        End::Full => "full",
-        End::Stop(_) => return Ok(String::new(alloc)),
+        End::Idle => "idle ",
+        End::Full => "full ",
+        End::Stop(_) => return,
     };
-    let name = match names.get(controller as usize) {
-        Some(name) => str::from_utf8(name.as_slice()).unwrap_or("?"),
-        None => "?",
-    };
-    Ok(format!(in alloc; "{word} {cycle} {name}\n")?)
+    rows.show(word, &cycle);
+    rows.add(" ");
+    match names.get(controller as usize) {
+        Some(name) => rows.add_bytes(name),
+        None => rows.lose(),
+    }
+    rows.add("\n");
 }
 
 // What a trace leaves out of an entry.
-fn rest_of(alloc: Global, names: &[Text], e: &Entry) -> Result<String, NoMemory> {
+fn add_rest(rows: &mut RowText, names: &[Text], e: &Entry) {
     match e {
         Entry::Fired {
             consumed,
@@ -103,31 +86,45 @@ fn rest_of(alloc: Global, names: &[Text], e: &Entry) -> Result<String, NoMemory>
             woken,
             recycled,
             ..
-        } => Ok(format!(in alloc;
-            "  consumed {} sent {} stalled {} woken {} recycled {}\n",
-            Numbers(consumed.as_slice()),
-            Copies(sent.as_slice()),
-            Numbers(stalled.as_slice()),
-            Numbers(woken.as_slice()),
-            Numbers(recycled.as_slice())
-        )?),
+        } => {
+            add_numbers(rows, "  consumed ", consumed);
+            add_copies(rows, " sent ", sent);
+            add_numbers(rows, " stalled ", stalled);
+            add_numbers(rows, " woken ", woken);
+            add_numbers(rows, " recycled ", recycled);
+            rows.add("\n");
+        }
         Entry::Ended {
             cycle,
             controller,
             end,
-        } => end_line(alloc, names, *cycle, *controller, end),
+        } => add_end(rows, names, *cycle, *controller, end),
         Entry::Turned {
             cycle,
             issued,
             finding,
             verdict,
-        } => Ok(format!(in alloc;
-            "turned {cycle} issued {} finding {} verdict {}\n",
-            Numbers(issued.as_slice()),
-            finding_word(finding),
-            verdict_word(verdict)
-        )?),
+        } => {
+            rows.show("turned ", cycle);
+            add_numbers(rows, " issued ", issued);
+            rows.show(" finding ", &finding_word(finding));
+            rows.show(" verdict ", &verdict_word(verdict));
+            rows.add("\n");
+        }
     }
+}
+
+// Writes the lines of an entry, and answers whether they were written whole.
+fn write_lines<S: Sink>(
+    alloc: Global,
+    sink: &mut S,
+    plan: &Plan,
+    names: &Seq<Text>,
+    e: &Entry,
+) -> bool {
+    let mut rest = RowText::new(alloc);
+    add_rest(&mut rest, names.as_slice(), e);
+    write_entry(sink, plan, names, e) && put(sink, rest.bytes()) && rest.is_whole()
 }
 
 /// Writes the lines of a journal until one isn't written whole, and answers whether all were.
@@ -137,15 +134,11 @@ pub(crate) fn write_entries<S: Sink>(
     plan: &Plan,
     names: &Seq<Text>,
     journal: &[Entry],
-) -> Result<bool, NoMemory> {
+) -> bool {
     for e in journal {
-        if !write_entry(sink, plan, names, e) {
-            return Ok(false);
-        }
-        let rest = rest_of(alloc, names.as_slice(), e)?;
-        if !put(sink, rest.as_bytes()) {
-            return Ok(false);
+        if !write_lines(alloc, sink, plan, names, e) {
+            return false;
         }
     }
-    Ok(true)
+    true
 }

@@ -22,9 +22,6 @@ const LAST_CYCLE: u64 = 1_000_000_000_000;
 pub(crate) fn row_of<'a>(line: &'a str) -> Option<Row<'a>>
     ensures { IfSome result (λ row. row.limits.cycles ≤ last_cycle) }
 {
-    if line.starts_with('#') {
-        return None;
-    }
     let mut words = line.split_whitespace();
     let name = words.next()?;
     let protocol = words.next()?;

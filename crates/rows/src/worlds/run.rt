@@ -12,8 +12,8 @@ use ruby_options::{Command, Options};
 use ruby_outside::{Got, Library, Sink};
 use ruby_topology::{TopoFault, Topology, read_topology};
 use ruby_world::{RunLimits, RunRecord, run_whole};
+use sample_stores::plan_of;
 use scripted_driver::Script;
-use slicc_front::{Front, front};
 use slicc_interpreter::Interpreted;
 use slicc_plan::{Plan, copy_plan};
 use std::alloc::Global;
@@ -73,15 +73,10 @@ fn script_of(alloc: Global, bytes: &[u8]) -> Result<Script, NoMemory>
     Ok(Script::new(requests_of(alloc, text)?))
 }
 
-fn write_record<S: Sink>(
-    alloc: Global,
-    sink: &mut S,
-    record: &RunRecord,
-    whole: bool,
-) -> Result<bool, NoMemory> {
+fn write_record<S: Sink>(alloc: Global, sink: &mut S, record: &RunRecord, whole: bool) -> bool {
     let names = &record.topology.names;
-    if whole && !write_entries(alloc, sink, &record.plan, names, record.journal.as_slice())? {
-        return Ok(false);
+    if whole && !write_entries(alloc, sink, &record.plan, names, record.journal.as_slice()) {
+        return false;
     }
     let rest = RunText {
         plan: &record.plan,
@@ -90,7 +85,7 @@ fn write_record<S: Sink>(
         account: &record.account,
         verdict: &record.verdict,
     };
-    Ok(write_rest(sink, &rest))
+    write_rest(sink, &rest)
 }
 
 // The run of a plan over a topology.
@@ -132,29 +127,28 @@ fn write_over<S: Sink>(
     match topology_of(alloc, bytes, &plan) {
         Ok(topology) => {
             let record = run_of(alloc, &row.limits, plan, topology, script)?;
-            write_record(alloc, sink, &record, row.whole)
+            Ok(write_record(alloc, sink, &record, row.whole))
         }
         Err(_) => Ok(false),
     }
 }
 
-// The run of a protocol over these bytes of a topology's file, by this script.
+// The run of a protocol over these bytes of a topology's file, by these of a script's.
 fn write_by<L: Library, S: Sink>(
     alloc: Global,
     library: &mut L,
     sink: &mut S,
     row: &Row<'_>,
     topology: &[u8],
-    script: Script,
+    script: &[u8],
 ) -> Result<bool, NoMemory>
     requires cycles { row.now.limits.cycles ≤ last_cycle }
     requires length { length topology.now ≤ 1048576 }
-    requires opening { opening script ≡ script }
 {
-    let name = Text::copied(alloc, row.protocol.as_bytes())?;
-    match front(alloc, library, &name) {
-        Front::Plan(plan) => write_over(alloc, sink, row, plan, topology, script),
-        _ => Ok(false),
+    let script = script_of(alloc, script)?;
+    match plan_of(alloc, library, row.protocol)? {
+        Some(plan) => write_over(alloc, sink, row, plan, topology, script),
+        None => Ok(false),
     }
 }
 
@@ -169,9 +163,17 @@ pub(crate) fn write_run<L: Library, S: Sink>(
 {
     let topology = bytes_of(library, row.topology, FILE_LIMIT);
     let script = bytes_of(library, row.script, SCRIPT_LIMIT);
-    let (Some(topology), Some(script)) = (topology, script) else {
-        return Ok(false);
-    };
-    let script = script_of(alloc, script.as_slice())?;
-    write_by(alloc, library, sink, row, topology.as_slice(), script)
+    match (topology, script) {
+        (Some(topology), Some(script)) => {
+            write_by(
+                alloc,
+                library,
+                sink,
+                row,
+                topology.as_slice(),
+                script.as_slice(),
+            )
+        }
+        _ => Ok(false),
+    }
 }

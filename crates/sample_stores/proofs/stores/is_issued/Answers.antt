@@ -1,7 +1,7 @@
-use Rattle.sample_stores.proofs.Beginning.{issued_fits}
+use Rattle.sample_stores.proofs.Arriving.{issued_goes}
 use Rattle.sample_stores.proofs.stores.is_issued.Goals as goal
 
-pub returns-in-Some-clause-fits : goal.returns-in-Some-clause-fits
-returns-in-Some-clause-fits c =
-    issued_fits c.args.store.now c.args.request c.in-Some.sequencer.now c.issue.new.self c.in-Some.ensures.value c.requires.request c.requires.fits
-    c.issue.result c.issue.ensures.ok c.issue.ensures.refused
+pub returns-in-Some-clause-goes : goal.returns-in-Some-clause-goes
+returns-in-Some-clause-goes c =
+    issued_goes c.args.store.now c.args.routes.now c.args.now c.requires.goes c.in-Some.sequencer.now c.issue.new.self c.in-Some.ensures.value
+    c.args.request c.requires.request c.issue.result c.issue.ensures.ok c.issue.ensures.refused

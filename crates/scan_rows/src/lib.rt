@@ -1,0 +1,43 @@
+//! Scans of small protocols on drafts of a controller, for the program `rows`: rows of what scans do, and what times them.
+//!
+//! The rows are a line for each scan: how it ended, that is the transition that fired with its lists of messages (`consumed 2:0`: sender
+//! and number), that it was idle or full, or where it stopped and why; and then, each after a semicolon, what is left: the marks, how many
+//! messages are queued, stalled and recycled, the states of lines that aren't the default, the lines of tables with the fields that differ
+//! from a new line's, the copies for another controller and the finished requests. What has fired is sealed and applied, and else the
+//! draft is dropped. There is a scan for each statement, operator and built-in call, and for the faults. What is expected stands in
+//! `crates/rows/stdout`, worked out by hand from the rules of the language; a further row is a few lines here and a line there.
+#![tactic(auto)]
+
+mod after;
+mod before;
+mod begun;
+mod calls;
+mod expressions;
+mod left;
+mod protocol;
+mod row;
+mod scans;
+mod shown;
+mod statements;
+mod ticker;
+mod times;
+
+use calls::CALLS;
+use expressions::EXPRESSIONS;
+use row_text::RowText;
+use scans::{add_row, add_tick};
+use statements::STATEMENTS;
+use ticker::TICKS;
+pub use times::{time_drafts, time_scans};
+
+/// Adds the rows.
+pub fn add_scans(rows: &mut RowText) {
+    for row in TICKS {
+        add_tick(rows, row);
+    }
+    for table in [STATEMENTS, EXPRESSIONS, CALLS] {
+        for row in table {
+            add_row(rows, row);
+        }
+    }
+}

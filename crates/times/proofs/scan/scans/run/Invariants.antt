@@ -1,5 +1,0 @@
-use Rattle.sample_stores.specs.Going.{GoesOn}
-use Rattle.times.proofs.scan.scans.run.Given as goal
-
-abbrev pub invariant-loop-done : goal.invariant-loop-done
-invariant-loop-done l = GoesOn l.store l.routes l.done
