@@ -26,7 +26,7 @@ use Rattle.protocol_runs.specs.Rules.{rules}
 use Rattle.protocol_runs.proofs.Driver.{IsDriver}
 use Rattle.protocol_runs.proofs.Lawful.{one_end, one_history}
 use Rattle.run_record.specs.declared.record.RunRecord.{RunRecord}
-use Rattle.one_worker.specs.Records.{IsWholeRunBy, rules_in, setting_in}
+use Rattle.protocol_meaning.specs.Records.{IsWholeRunBy, rules_in, setting_in}
 use Rattle.call_meaning.specs.Headline.{IsByOneWorker}
 use Rattle.call_meaning.specs.Record.{IsSoBy, IsWholeRun, is_tested, tester_of}
 use Rattle.call_meaning.specs.Right.{IsSameBeginning}

@@ -21,7 +21,7 @@ use Rattle.protocol_runs.specs.Meaning.{IsMeaning}
 use Rattle.protocol_runs.proofs.Driver.{IsDriver}
 use Rattle.protocol_runs.proofs.Lawful.{accounted, adds_up, invalid_exactly, wakes_once}
 use Rattle.run_record.specs.declared.record.RunRecord.{RunRecord}
-use Rattle.one_worker.specs.Records.{IsWholeRunBy, rules_in, setting_in}
+use Rattle.protocol_meaning.specs.Records.{IsWholeRunBy, rules_in, setting_in}
 use Rattle.call_meaning.specs.Headline.{IsAccountBy, IsInvalidExactly, IsMessageAccount, IsTallied, IsWokenOnce}
 use Rattle.call_meaning.specs.Record.{IsSoBy, IsWholeRun, OfDrivers, is_tested, tester_of}
 

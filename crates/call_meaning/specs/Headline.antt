@@ -25,7 +25,7 @@ use Rattle.ruby_options.specs.declared.options.Command.TheVariants.{Run, Plain, 
 use Rattle.ruby_options.specs.declared.options.Options.{Options}
 use Rattle.ruby_topology.specs.declared.topology.Topology.{Topology}
 use Rattle.run_record.specs.declared.record.RunRecord.{RunRecord}
-use Rattle.one_worker.specs.Records.{IsRecordOf, rules_in}
+use Rattle.protocol_meaning.specs.Records.{IsRecordOf, rules_in}
 use Rattle.ruby_answers.specs.declared.answer.Answer.{Answer}
 use Rattle.ruby_answers.specs.declared.answer.Answer.TheVariants.{Ran, Generated, ReadFault}
 use Rattle.ruby_answers.specs.declared.done.Done.{Done}

@@ -10,7 +10,7 @@ use Rattle.ruby_options.specs.declared.options.Command.TheVariants.{Run}
 use Rattle.ruby_options.specs.declared.options.Options.{Options}
 use Rattle.ruby_topology.specs.declared.topology.Topology.{Topology}
 use Rattle.run_record.specs.declared.record.RunRecord.{RunRecord}
-use Rattle.one_worker.specs.Records.{IsWholeRunBy}
+use Rattle.protocol_meaning.specs.Records.{IsWholeRunBy}
 use Rattle.sequencer.specs.Drive.{Drive}
 use Rattle.sequencer.specs.PlainDriver.{plain_drive}
 use Rattle.sequencer.specs.Seats.{Seat}

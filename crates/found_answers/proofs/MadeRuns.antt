@@ -8,7 +8,7 @@ use Rattle.slicc_ast.specs.declared.tree.item.Tree.{Tree}
 use Rattle.ruby_options.specs.declared.options.Options.{Options}
 use Rattle.ruby_topology.specs.declared.topology.Topology.{Topology}
 use Rattle.run_record.specs.declared.record.RunRecord.{RunRecord}
-use Rattle.one_worker.specs.Records.{IsWholeRunBy, rules_in}
+use Rattle.ruby_world.specs.Records.{IsWholeRunBy, rules_in}
 use Rattle.call_meaning.specs.Find.{IsRunIn}
 use Rattle.call_meaning.specs.Headline.{IsByOneWorker}
 use Rattle.call_meaning.specs.Record.{ByItsDriver, IsSoBy, IsWholeRun, OfDrivers, is_tested, tester_of}

@@ -5,4 +5,5 @@
 mod find;
 mod runs;
 
+pub use call_meaning::{answers_are_one, clauses_follow};
 pub use find::find_answer;

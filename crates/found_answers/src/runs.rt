@@ -8,7 +8,7 @@ ghost use Rattle.ruby_options.specs.Within.{IsWithin};
 ghost use Rattle.ruby_runs.specs.Alone.{IsAlone};
 ghost use Rattle.ruby_topology.specs.Faults.{ForLine};
 ghost use Rattle.ruby_topology.specs.Topology.{IsRefused, IsRefusedPlain};
-ghost use Rattle.one_worker.specs.Records.{IsWholeRunBy, rules_in};
+ghost use Rattle.ruby_world.specs.Records.{IsWholeRunBy, rules_in};
 ghost use Rattle.slicc_plan.specs.SymbolsOf.{symbols_of};
 ghost use Rattle.topology_fit.specs.FitsPlan.{FitsPlan};
 

@@ -19,7 +19,7 @@ use Rattle.protocol_runs.specs.Rules.{rules}
 use Rattle.sequencer.specs.Drive.{Drive}
 use Rattle.sequencer.specs.Seats.{Seat}
 use Rattle.run_record.specs.declared.record.RunRecord.{RunRecord}
-use Rattle.one_worker.specs.Records as records
+use Rattle.protocol_meaning.specs.Records as records
 use Rattle.world_events.specs.Worlds.{IsWorldOf, WorldView, rules_in}
 
 module _ {D : Type 0} (drive : D → List Seat → ℕ → Drive D) where

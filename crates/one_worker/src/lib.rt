@@ -10,3 +10,4 @@ mod waking;
 pub use laws::runs_from_the_opening_are_alone;
 pub use recording::{into_record, world_after};
 pub use waking::{WORKER, wake_all};
+pub use world_events::{Held, RunLimits, World};

@@ -4,7 +4,7 @@ ghost use Rattle.run_journal.specs.Tally.{tally};
 ghost use Rattle.ruby_runs.specs.Account.{account};
 ghost use Rattle.ruby_runs.specs.Alone.{IsAlone};
 ghost use Rattle.ruby_runs.specs.Run.{HasEnded};
-ghost use Rattle.one_worker.specs.Records.{IsRecordOf, IsWholeRunBy, rules_in as rules_of};
+ghost use Rattle.protocol_meaning.specs.Records.{IsRecordOf, IsWholeRunBy, rules_in as rules_of};
 ghost use Rattle.world_events.specs.Worlds.{InWorld, rules_in};
 
 use crate::waking::WORKER;

@@ -1,6 +1,6 @@
-pub use Rattle.call_meaning.specs.Call
-pub use Rattle.call_meaning.specs.Find
-pub use Rattle.call_meaning.specs.Headline
-pub use Rattle.call_meaning.specs.Record
-pub use Rattle.call_meaning.specs.Right
-pub use Rattle.call_meaning.specs.Words
+pub use Rattle.found_answers.specs.Call
+pub use Rattle.found_answers.specs.Find
+pub use Rattle.found_answers.specs.Headline
+pub use Rattle.found_answers.specs.Record
+pub use Rattle.found_answers.specs.Right
+pub use Rattle.found_answers.specs.Words

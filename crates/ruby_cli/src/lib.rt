@@ -5,7 +5,7 @@
 mod program;
 mod top;
 
-pub use call_meaning::{answers_are_one, clauses_follow};
+pub use found_answers::{answers_are_one, clauses_follow};
 pub use program::ruby;
 pub use ruby_answers::{Answer, Done, exit_code};
 pub use ruby_options::{Command, Options};

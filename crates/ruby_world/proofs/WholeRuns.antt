@@ -9,11 +9,11 @@ use Rattle.ruby_runs.specs.Rules.{Rules}
 use Rattle.ruby_runs.specs.Run.{IsRun, Ran}
 use Rattle.ruby_runs.specs.World.{World, is_held, opening, opening_place}
 use Rattle.ruby_topology.specs.declared.topology.Topology.{Topology}
-use Rattle.world_events.specs.declared.limits.RunLimits.{RunLimits}
+use Rattle.one_worker.specs.RunLimits.{RunLimits}
 use Rattle.run_record.specs.declared.record.RunRecord.{RunRecord}
 use Rattle.one_worker.specs.Adds.{HasAddedAlone}
-use Rattle.one_worker.specs.Records as records
-use Rattle.world_events.specs.Worlds.{InWorld, IsNobodyHeld, WorldView, opened, rules_in}
+use Rattle.protocol_meaning.specs.Records as records
+use Rattle.one_worker.specs.Worlds.{InWorld, IsNobodyHeld, WorldView, opened, rules_in}
 use Rattle.one_worker.proofs.Views.{alone-all}
 use Rattle.sequencer.specs.Drive.{Drive}
 use Rattle.sequencer.specs.Seats.{Seat}

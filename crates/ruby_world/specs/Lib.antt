@@ -1,4 +1,4 @@
-pub use Rattle.world_events.specs.Worlds
-pub use Rattle.world_events.specs.Held
-pub use Rattle.one_worker.specs.Records
+pub use Rattle.one_worker.specs.Worlds
+pub use Rattle.one_worker.specs.Held
+pub use Rattle.protocol_meaning.specs.Records
 pub use Rattle.one_worker.specs.Adds

@@ -2,14 +2,13 @@
 ghost use Rattle.std.specs.Prelude.{◌≡◌, IfOk, OnOk, is_some};
 ghost use Rattle.one_worker.specs.Adds.{HasAddedAlone};
 ghost use Rattle.ruby_runs.specs.Run.{HasEnded};
-ghost use Rattle.world_events.specs.Worlds.{InWorld, IsNobodyHeld};
+ghost use Rattle.one_worker.specs.Worlds.{InWorld, IsNobodyHeld};
 
-use one_worker::{WORKER, wake_all, world_after};
+use one_worker::{WORKER, World, wake_all, world_after};
 use protocol_meaning::Protocol;
 use ruby_value::NoMemory;
 use sequencer::Driver;
 use std::alloc::Global;
-use world_events::World;
 
 // Whether a verdict stands.
 fn has_ended<D: Driver>(world: &World<D>) -> bool

@@ -5,7 +5,6 @@ mod alone;
 mod whole;
 
 pub use alone::run_alone;
-pub use one_worker::{into_record, runs_from_the_opening_are_alone};
+pub use one_worker::{Held, RunLimits, World, into_record, runs_from_the_opening_are_alone};
 pub use run_record::RunRecord;
 pub use whole::run_whole;
-pub use world_events::{Held, RunLimits, World};

@@ -2,11 +2,11 @@
 ghost use Rattle.std.specs.Prelude.{◌≡◌, ◌≤◌, IfOk, length};
 ghost use Rattle.ctl_face.specs.Fits.{last_cycle};
 ghost use Rattle.ruby_runs.specs.Alone.{IsAlone};
-ghost use Rattle.one_worker.specs.Records.{IsWholeRunBy, rules_in};
+ghost use Rattle.protocol_meaning.specs.Records.{IsWholeRunBy, rules_in};
 ghost use Rattle.topology_fit.specs.FitsPlan.{FitsPlan};
 
 use crate::alone::run_alone;
-use one_worker::{into_record, runs_from_the_opening_are_alone};
+use one_worker::{RunLimits, World, into_record, runs_from_the_opening_are_alone};
 use protocol_meaning::Protocol;
 use ruby_options::Options;
 use ruby_topology::Topology;
@@ -15,7 +15,6 @@ use run_record::RunRecord;
 use sequencer::Driver;
 use slicc_plan::Plan;
 use std::alloc::Global;
-use world_events::{RunLimits, World};
 
 /// A whole run, by one worker, of a protocol over a topology that fits it, with the bounds of these options, by a driver that is as its
 /// constructor made it and finds the seats that it needs.
