@@ -5,6 +5,7 @@ pub mod Frames
 pub mod Operators
 pub mod Names
 pub mod CallNumbers
+pub mod CallRows
 pub mod Calls
 pub mod Expressions
 pub mod Places

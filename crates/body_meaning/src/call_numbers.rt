@@ -1,8 +1,72 @@
 // The numbers of the built-in calls by their names.
-ghost use Rattle.std.specs.Prelude.{◌≡◌};
+ghost use Rattle.std.specs.Prelude.{◌≡◌, map};
 ghost use Rattle.body_meaning.specs.CallNumbers.{block_call as block_call_of, cache_call as cache_call_of, callback as callback_of, changes_receiver as changes_receiver_of, directory_call as directory_call_of, entry_call as entry_call_of, index_call as index_call_of, plain_call as plain_call_of, port_call as port_call_of, read_callback as read_callback_of, sequencer_call as sequencer_call_of, set_call as set_call_of, table_call as table_call_of, tbe_call as tbe_call_of, write_callback as write_callback_of};
+ghost use Rattle.body_meaning.specs.CallRows.{number_among as number_among_of};
 
 use ruby_symbols::TableSort;
+
+// The name of a call, and its number.
+type NamedCall = (&'static str, u16);
+
+const ON_CACHES: [NamedCall; 9] = [
+    ("lookup", 4),
+    ("isTagPresent", 6),
+    ("cacheAvail", 7),
+    ("cacheProbe", 8),
+    ("allocate", 9),
+    ("deallocate", 10),
+    ("setMRU", 11),
+    ("profileDemandHit", 56),
+    ("profileDemandMiss", 57),
+];
+
+const ON_DIRECTORIES: [NamedCall; 3] = [("lookup", 12), ("isPresent", 14), ("allocate", 15)];
+
+const ON_TBE_TABLES: [NamedCall; 4] = [
+    ("lookup", 16),
+    ("allocate", 18),
+    ("deallocate", 19),
+    ("isPresent", 20),
+];
+
+const ON_SETS: [NamedCall; 9] = [
+    ("add", 21),
+    ("remove", 22),
+    ("clear", 23),
+    ("count", 24),
+    ("isElement", 25),
+    ("isEmpty", 26),
+    ("addNetDest", 27),
+    ("removeNetDest", 28),
+    ("broadcast", 29),
+];
+
+const WITHOUT_RECEIVER: [NamedCall; 11] = [
+    ("clockEdge", 37),
+    ("curCycle", 38),
+    ("cyclesToTicks", 39),
+    ("ticksToCycles", 40),
+    ("mapAddressToMachine", 41),
+    ("makeLineAddress", 42),
+    ("machineIDToNodeID", 43),
+    ("machineIDToMachineType", 44),
+    ("wakeUpBuffers", 49),
+    ("wakeUpAllBuffers", 50),
+    ("profileMsgDelay", 53),
+];
+
+// The number of the first of these calls that has this name.
+fn number_among(name: &[u8], calls: &[NamedCall]) -> Option<u16>
+    ensures { result ≡ number_among_of (map (λ row. (row.0.now, row.1)) calls.now) name.now }
+{
+    let [row, others @ ..] = calls else {
+        return None;
+    };
+    if name == row.0.as_bytes() {
+        return Some(row.1);
+    }
+    number_among(name, others)
+}
 
 /// The number of the call of this name on a port, written with this many arguments.
 pub(crate) fn port_call(name: &[u8], count: usize) -> Option<u16>
@@ -26,67 +90,19 @@ pub(crate) fn port_call(name: &[u8], count: usize) -> Option<u16>
 fn cache_call(name: &[u8]) -> Option<u16>
     ensures { result ≡ cache_call_of name.now }
 {
-    if name == b"lookup".as_slice() {
-        return Some(4);
-    }
-    if name == b"isTagPresent".as_slice() {
-        return Some(6);
-    }
-    if name == b"cacheAvail".as_slice() {
-        return Some(7);
-    }
-    if name == b"cacheProbe".as_slice() {
-        return Some(8);
-    }
-    if name == b"allocate".as_slice() {
-        return Some(9);
-    }
-    if name == b"deallocate".as_slice() {
-        return Some(10);
-    }
-    if name == b"setMRU".as_slice() {
-        return Some(11);
-    }
-    if name == b"profileDemandHit".as_slice() {
-        return Some(56);
-    }
-    if name == b"profileDemandMiss".as_slice() {
-        return Some(57);
-    }
-    None
+    number_among(name, &ON_CACHES)
 }
 
 fn directory_call(name: &[u8]) -> Option<u16>
     ensures { result ≡ directory_call_of name.now }
 {
-    if name == b"lookup".as_slice() {
-        return Some(12);
-    }
-    if name == b"isPresent".as_slice() {
-        return Some(14);
-    }
-    if name == b"allocate".as_slice() {
-        return Some(15);
-    }
-    None
+    number_among(name, &ON_DIRECTORIES)
 }
 
 fn tbe_call(name: &[u8]) -> Option<u16>
     ensures { result ≡ tbe_call_of name.now }
 {
-    if name == b"lookup".as_slice() {
-        return Some(16);
-    }
-    if name == b"allocate".as_slice() {
-        return Some(18);
-    }
-    if name == b"deallocate".as_slice() {
-        return Some(19);
-    }
-    if name == b"isPresent".as_slice() {
-        return Some(20);
-    }
-    None
+    number_among(name, &ON_TBE_TABLES)
 }
 
 /// The number of the call of this name on a table of lines.
@@ -115,34 +131,7 @@ pub(crate) fn index_call(sort: TableSort) -> u16
 pub(crate) fn set_call(name: &[u8]) -> Option<u16>
     ensures { result ≡ set_call_of name.now }
 {
-    if name == b"add".as_slice() {
-        return Some(21);
-    }
-    if name == b"remove".as_slice() {
-        return Some(22);
-    }
-    if name == b"clear".as_slice() {
-        return Some(23);
-    }
-    if name == b"count".as_slice() {
-        return Some(24);
-    }
-    if name == b"isElement".as_slice() {
-        return Some(25);
-    }
-    if name == b"isEmpty".as_slice() {
-        return Some(26);
-    }
-    if name == b"addNetDest".as_slice() {
-        return Some(27);
-    }
-    if name == b"removeNetDest".as_slice() {
-        return Some(28);
-    }
-    if name == b"broadcast".as_slice() {
-        return Some(29);
-    }
-    None
+    number_among(name, &ON_SETS)
 }
 
 /// The number of the call of this name on a block.
@@ -222,38 +211,5 @@ pub(crate) fn entry_call(name: &[u8]) -> Option<u16>
 pub fn plain_call(name: &[u8]) -> Option<u16>
     ensures { result ≡ plain_call_of name.now }
 {
-    if name == b"clockEdge".as_slice() {
-        return Some(37);
-    }
-    if name == b"curCycle".as_slice() {
-        return Some(38);
-    }
-    if name == b"cyclesToTicks".as_slice() {
-        return Some(39);
-    }
-    if name == b"ticksToCycles".as_slice() {
-        return Some(40);
-    }
-    if name == b"mapAddressToMachine".as_slice() {
-        return Some(41);
-    }
-    if name == b"makeLineAddress".as_slice() {
-        return Some(42);
-    }
-    if name == b"machineIDToNodeID".as_slice() {
-        return Some(43);
-    }
-    if name == b"machineIDToMachineType".as_slice() {
-        return Some(44);
-    }
-    if name == b"wakeUpBuffers".as_slice() {
-        return Some(49);
-    }
-    if name == b"wakeUpAllBuffers".as_slice() {
-        return Some(50);
-    }
-    if name == b"profileMsgDelay".as_slice() {
-        return Some(53);
-    }
-    None
+    number_among(name, &WITHOUT_RECEIVER)
 }
