@@ -72,6 +72,23 @@ fn write_row<R: Threads + Wait + Sync, L: Library, S: Sink>(
     }
 }
 
+// Writes the rows of lines until one isn't written whole.
+fn write_lines<R: Threads + Wait + Sync, L: Library, S: Sink>(
+    rt: &R,
+    alloc: Global,
+    list: List,
+    lines: &str,
+    library: &mut L,
+    sink: &mut S,
+) -> Result<bool, NoMemory> {
+    for line in lines.lines() {
+        if is_row(line) && !write_row(rt, alloc, list, line, library, sink)? {
+            return Ok(false);
+        }
+    }
+    Ok(true)
+}
+
 /// Writes the rows of a list until one isn't written whole, and answers whether all were.
 pub(crate) fn write_list<R: Threads + Wait + Sync, L: Library, S: Sink>(
     rt: &R,
@@ -83,13 +100,8 @@ pub(crate) fn write_list<R: Threads + Wait + Sync, L: Library, S: Sink>(
     let Got::Bytes(bytes) = library.read(list.file(), LIST_LIMIT) else {
         return Ok(false);
     };
-    for line in str::from_utf8(bytes.as_slice())
-        .unwrap_or("no text")
-        .lines()
-    {
-        if is_row(line) && !write_row(rt, alloc, list, line, library, sink)? {
-            return Ok(false);
-        }
+    match str::from_utf8(bytes.as_slice()) {
+        Ok(lines) => write_lines(rt, alloc, list, lines, library, sink),
+        Err(_) => Ok(false),
     }
-    Ok(true)
 }

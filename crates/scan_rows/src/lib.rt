@@ -28,6 +28,7 @@ use row_text::RowText;
 use scans::{add_row, add_tick};
 use statements::STATEMENTS;
 use ticker::TICKS;
+pub use times::{time_drafts, time_scans};
 
 /// Adds the rows.
 pub fn add_scans(rows: &mut RowText) {
