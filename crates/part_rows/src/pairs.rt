@@ -6,49 +6,39 @@ use ruby_outside::Library;
 use sample_stores::let_go;
 use slicc_plan::{Plan, same_plan};
 
-// A file in a folder.
-#[derive(Clone, Copy)]
-struct File {
-    folder: &'static str,
-    name: &'static str,
-}
+// A folder and a file in it.
+type File = (&'static str, &'static str);
 
-const fn file(name: &'static str) -> File {
-    File {
-        folder: "pairs",
-        name,
-    }
-}
+const TICK: File = ("pairs", "tick.sm");
 
-const TICK: File = file("tick.sm");
+const SPACED: File = ("pairs", "spaced.sm");
 
-const INCLUDING: File = file("including.sm");
+const HALF: File = ("pairs", "half.sm");
 
-const MSI: File = File {
-    folder: "symbols",
-    name: "msi.sm",
-};
+const INCLUDING: File = ("pairs", "including.sm");
+
+const MSI: File = ("symbols", "msi.sm");
 
 const PAIRS: [(File, File); 7] = [
     (TICK, TICK),
     (MSI, MSI),
-    (TICK, file("spaced.sm")),
-    (TICK, file("half.sm")),
+    (TICK, SPACED),
+    (TICK, HALF),
     (TICK, MSI),
     (INCLUDING, INCLUDING),
     (INCLUDING, TICK),
 ];
 
 fn add_name(rows: &mut RowText, file: File, after: &str) {
-    rows.add(file.folder);
+    rows.add(file.0);
     rows.add("/");
-    rows.add(file.name);
+    rows.add(file.1);
     rows.add(after);
 }
 
 // Adds whether a plan is that of a file.
 fn add_answer<L: Library>(rows: &mut RowText, library: &mut L, plan: &Plan, other: File) {
-    match plan_in(rows, library, other.folder, other.name) {
+    match plan_in(rows, library, other.0, other.1) {
         Some(other) => {
             let is_same = same_plan(plan, &other);
             let_go(other);
@@ -65,7 +55,7 @@ fn add_answer<L: Library>(rows: &mut RowText, library: &mut L, plan: &Plan, othe
 fn add_pair<L: Library>(rows: &mut RowText, library: &mut L, first: File, second: File) {
     add_name(rows, first, " ");
     add_name(rows, second, ": ");
-    match plan_in(rows, library, first.folder, first.name) {
+    match plan_in(rows, library, first.0, first.1) {
         Some(plan) => {
             add_answer(rows, library, &plan, second);
             let_go(plan);
