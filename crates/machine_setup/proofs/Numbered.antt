@@ -11,6 +11,7 @@ use Rattle.ruby_value.specs.declared.value.Value.{Value}
 use Rattle.ruby_value.specs.declared.value.Value.TheVariants as value
 use Rattle.ruby_value.specs.declared.setup.Sizes.{Sizes}
 use Rattle.ruby_symbols.specs.declared.machine.TableSort.{TableSort}
+use Rattle.ruby_symbols.specs.declared.machine.TableSymbol.{TableSymbol}
 use Rattle.ruby_symbols.specs.declared.types.FieldSymbol.{FieldSymbol}
 use Rattle.slicc_ast.specs.declared.tree.item.Tree.{Tree}
 use Rattle.slicc_ast.specs.declared.tree.machine.Machine.{Machine}
@@ -40,12 +41,17 @@ counted : {X : Type 0} (xs : List X) (i : ℕ) → i < length xs → 0 + length 
 counted xs i below = grind (arith, common_steps)
 
 -- the lists that are made of the first elements, with one more of them
-pub tables_step : (trees : List Tree) (m : Machine) (sizes : Sizes) (xs : List TableSort) (i : ℕ) (x : TableSort) → i < length xs → x ≡ slice_index_or xs i x
-    → tables_from trees m sizes 0 (take (i + 1) xs) ≡ tables_from trees m sizes 0 (take i xs) ++ table_setup trees m sizes i x ∷ []
+mapped_count : {X Y : Type 0} (f : X → Y) (xs : List X) (i : ℕ) → i < length xs → 0 + length (map f (take i xs)) ≡ i
+mapped_count f xs i below = grind (arith, common_steps)
+
+pub tables_step : (trees : List Tree) (m : Machine) (sizes : Sizes) (xs : List TableSymbol) (i : ℕ) (x : TableSymbol) → i < length xs → x ≡ slice_index_or xs i x
+    → tables_from trees m sizes 0 (map (λ (t : TableSymbol). t.sort) (take (i + 1) xs)) ≡ tables_from trees m sizes 0 (map (λ (t : TableSymbol). t.sort) (take i xs)) ++ table_setup trees m sizes i x.sort ∷ []
 tables_step trees m sizes xs i x below is =
-    ap (tables_from trees m sizes 0) (one_more xs i x below is)
-    ∙ tables_more trees m sizes 0 (take i xs) x
-    ∙ ap (λ k. tables_from trees m sizes 0 (take i xs) ++ table_setup trees m sizes k x ∷ []) (counted xs i below)
+    let sorts : List TableSymbol → List TableSort = map (λ (t : TableSymbol). t.sort) in
+    ap (λ ys. tables_from trees m sizes 0 (sorts ys)) (one_more xs i x below is)
+    ∙ ap (tables_from trees m sizes 0) (map-append (λ (t : TableSymbol). t.sort) (take i xs) (x ∷ []))
+    ∙ tables_more trees m sizes 0 (sorts (take i xs)) x.sort
+    ∙ ap (λ k. tables_from trees m sizes 0 (sorts (take i xs)) ++ table_setup trees m sizes k x.sort ∷ []) (mapped_count (λ (t : TableSymbol). t.sort) xs i below)
 
 pub values_step : (sizes : Sizes) (xs : List FieldSymbol) (i : ℕ) (x : FieldSymbol) → i < length xs → x ≡ slice_index_or xs i x
     → values_from sizes 0 (take (i + 1) xs) ≡ values_from sizes 0 (take i xs) ++ opening_value sizes i x ∷ []

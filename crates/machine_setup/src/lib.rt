@@ -8,7 +8,6 @@ mod opening_values;
 mod parameter_table;
 mod states;
 mod table_sizes;
-mod table_sorts;
 
 pub use law::setup_is_machine;
 pub use machine::setup;

@@ -19,11 +19,15 @@ counted : {X : Type 0} (xs : List X) (i : ℕ) → i < length xs → 0 + length 
 counted xs i below = grind (arith, common_steps)
 
 -- what is made of the first elements, with one more of them
-pub numbered_step : {X Y : Type 0} (f : ℕ → X → List Y) (xs : List X) (i : ℕ) (x : X) → i < length xs → x ≡ slice_index_or xs i x
+numbered_step : {X Y : Type 0} (f : ℕ → X → List Y) (xs : List X) (i : ℕ) (x : X) → i < length xs → x ≡ slice_index_or xs i x
     → numbered_from f 0 (take (i + 1) xs) ≡ numbered_from f 0 (take i xs) ++ f i x
 numbered_step f xs i x below is =
     let taken : take (i + 1) xs ≡ take i xs ++ x ∷ [] = rw (add-one, take-suc xs i x below) (ap (λ y. take i xs ++ y ∷ []) (sym is)) in
     ap (numbered_from f 0) taken ∙ numbered_more f 0 (take i xs) x ∙ ap (λ k. numbered_from f 0 (take i xs) ++ f k x) (counted xs i below)
+
+pub list_step : {X Y : Type 0} (f : ℕ → X → List Y) (xs : List X) (i : ℕ) (x : X) (old new : List Y) → i < length xs → x ≡ slice_index_or xs i x
+    → new ≡ old ++ f i x → old ≡ numbered_from f 0 (take i xs) → new ≡ numbered_from f 0 (take (i + 1) xs)
+list_step f xs i x old new below is more was = more ∙ ap (λ ys. ys ++ f i x) was ∙ sym (numbered_step f xs i x below is)
 
 machines_more : (trees : List Tree) (n : ℕ) (ms : List Machine) (m : Machine) → machines_from trees n (ms ++ m ∷ []) ≡ machines_from trees n ms ++ machine_symbols trees (n + length ms) m ∷ []
 machines_more trees n [] m = ap (λ k. machine_symbols trees k m ∷ []) (sym (add-zero n))

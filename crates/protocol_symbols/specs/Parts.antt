@@ -1,16 +1,21 @@
 -- The parts in which a machine's symbols are made.
-use Rattle.std.specs.Prelude.{◌≡◌, ℕ, List, find, flat_map, map}
+use Rattle.std.specs.Prelude.{◌≡◌, ◌++◌, ℕ, List, Option, find, flat_map, map}
 use Rattle.ruby_symbols.specs.declared.machine.BufferSymbol.{BufferSymbol}
+use Rattle.slicc_ast.specs.declared.tree.declaration.Pairs.{Pairs}
 use Rattle.slicc_ast.specs.declared.tree.item.Tree.{Tree}
+use Rattle.slicc_ast.specs.declared.tree.machine.Decl.{Decl}
+use Rattle.slicc_ast.specs.declared.tree.machine.Literal.{Literal}
 use Rattle.slicc_ast.specs.declared.tree.machine.Machine.{Machine}
-use Rattle.slicc_plan.specs.Declarations.{machine_declarations}
+use Rattle.slicc_plan.specs.Declarations.{Declaration, machine_declarations, within}
 use Rattle.slicc_plan.specs.Limits.{is_events, is_states}
-use Rattle.slicc_plan.specs.MachineValues.{references_of, values_of}
+use Rattle.slicc_plan.specs.MachineValues.{reference_in, reference_of_type, references_of, value_in, value_of_type, values_of}
 use Rattle.slicc_plan.specs.Machines.{directory_structure, entry_structure, tbe_structure, written_of}
-use Rattle.slicc_plan.specs.SymbolsOfMachines.{action_symbols, buffer_symbols, function_symbols, in_port_symbol, line_number, number_of_found, numbered_from, out_port_symbol, permissions_found, sequencer_name, table_symbol, transition_symbol}
-use Rattle.protocol_symbols.specs.declared.machine.Bodies.{Bodies}
+use Rattle.slicc_plan.specs.SymbolsOfMachines.{action_symbol, buffer_symbol, buffer_symbols, function_symbol, in_port_symbol, line_number, number_of_found, numbered_from, out_port_symbol, permissions_found, sequencer_name, table_of_sort, table_symbol, transition_symbol}
+use Rattle.slicc_plan.specs.Tables.{table_sort}
+use Rattle.slicc_plan.specs.Types.{type_in}
+use Rattle.protocol_symbols.specs.declared.bodies.Bodies.{Bodies}
 use Rattle.protocol_symbols.specs.declared.machine.Numbers.{Numbers}
-use Rattle.protocol_symbols.specs.declared.machine.Objects.{Objects}
+use Rattle.protocol_symbols.specs.declared.objects.Objects.{Objects}
 use Rattle.protocol_symbols.specs.declared.machine.Rest.{Rest}
 
 pub record AreNumbers (trees : List Tree) (m : Machine) (numbers : Numbers) : Type 0 where
@@ -26,11 +31,42 @@ pub record AreObjects (trees : List Tree) (number : ℕ) (m : Machine) (objects 
   pub references : objects.references ≡ references_of trees m
   pub buffers : objects.buffers ≡ buffer_symbols trees number m
 
-pub record AreBodies (trees : List Tree) (m : Machine) (buffers : List BufferSymbol) (bodies : Bodies) : Type 0 where
-  pub in_ports : bodies.in_ports ≡ numbered_from (in_port_symbol buffers) 0 m.declarations
-  pub out_ports : bodies.out_ports ≡ numbered_from (out_port_symbol buffers) 0 m.declarations
-  pub functions : bodies.functions ≡ function_symbols trees m
-  pub actions : bodies.actions ≡ action_symbols m
+-- a parameter or an object of this name and type is added, but for a buffer
+pub record AddNamed (trees : List Tree) (m : Machine) (text kind : List ℕ) (pairs : Pairs) (literal : Option Literal) (old new : Objects) : Type 0 where
+  pub tables : new.tables ≡ old.tables ++ table_of_sort trees m text (table_sort (type_in trees (within m) kind) pairs)
+  pub values : new.values ≡ old.values ++ value_of_type trees text (type_in trees (within m) kind) literal
+  pub references : new.references ≡ old.references ++ reference_of_type trees m text (type_in trees (within m) kind)
+  pub buffers : new.buffers ≡ old.buffers
+
+-- a declaration is added
+pub record AddObject (trees : List Tree) (number : ℕ) (m : Machine) (d : Declaration) (old new : Objects) : Type 0 where
+  pub tables : new.tables ≡ old.tables ++ table_symbol trees m d
+  pub values : new.values ≡ old.values ++ value_in trees m d
+  pub references : new.references ≡ old.references ++ reference_in trees m d
+  pub buffers : new.buffers ≡ old.buffers ++ buffer_symbol trees number m d
+
+pub record AddObjects (trees : List Tree) (number : ℕ) (m : Machine) (ds : List Declaration) (old new : Objects) : Type 0 where
+  pub tables : new.tables ≡ old.tables ++ flat_map (table_symbol trees m) ds
+  pub values : new.values ≡ old.values ++ flat_map (value_in trees m) ds
+  pub references : new.references ≡ old.references ++ flat_map (reference_in trees m) ds
+  pub buffers : new.buffers ≡ old.buffers ++ flat_map (buffer_symbol trees number m) ds
+
+-- the declaration of this number between the machine's braces is added
+pub record AddBody (trees : List Tree) (m : Machine) (buffers : List BufferSymbol) (number : ℕ) (d : Decl) (old new : Bodies) : Type 0 where
+  pub in_ports : new.in_ports ≡ old.in_ports ++ in_port_symbol buffers number d
+  pub out_ports : new.out_ports ≡ old.out_ports ++ out_port_symbol buffers number d
+  pub functions : new.functions ≡ old.functions ++ function_symbol trees m number d
+  pub actions : new.actions ≡ old.actions ++ action_symbol number d
+
+-- these are what these declarations make
+pub record AreBodiesOf (trees : List Tree) (m : Machine) (buffers : List BufferSymbol) (ds : List Decl) (bodies : Bodies) : Type 0 where
+  pub in_ports : bodies.in_ports ≡ numbered_from (in_port_symbol buffers) 0 ds
+  pub out_ports : bodies.out_ports ≡ numbered_from (out_port_symbol buffers) 0 ds
+  pub functions : bodies.functions ≡ numbered_from (function_symbol trees m) 0 ds
+  pub actions : bodies.actions ≡ numbered_from action_symbol 0 ds
+
+abbrev pub AreBodies : List Tree → Machine → List BufferSymbol → Bodies → Type 0
+AreBodies trees m buffers bodies = AreBodiesOf trees m buffers m.declarations bodies
 
 pub record AreRest (trees : List Tree) (m : Machine) (rest : Rest) : Type 0 where
   pub name : rest.name ≡ m.name.text

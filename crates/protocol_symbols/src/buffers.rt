@@ -1,32 +1,29 @@
 //! The buffers of a machine.
-ghost use Rattle.std.specs.Prelude.{◌≡◌, ◌++◌, ◌∷◌, [], IfOk, OnOk, Some, flat_map, map, option_and_then};
+ghost use Rattle.std.specs.Prelude.{◌≡◌, ◌++◌, ◌∷◌, [], IfOk, OnOk, Some, map, option_and_then};
 ghost use Rattle.std.specs.Option.{option_map};
-ghost use Rattle.slicc_plan.specs.Declarations.{machine_declarations};
 ghost use Rattle.slicc_plan.specs.Networks.{all_ports};
 ghost use Rattle.slicc_plan.specs.Setups.{attributes_of};
-ghost use Rattle.slicc_plan.specs.SymbolsOfMachines.{buffer_of_place, buffer_symbol, buffer_symbols};
+ghost use Rattle.slicc_plan.specs.SymbolsOfMachines.{buffer_of_place, buffer_symbol};
 ghost use Rattle.slicc_plan.specs.TypeNumbers.{structure_number};
-ghost use Rattle.declared_types.specs.Lent.{declaration_of, declarations_of, type_of};
-ghost use Rattle.buffer_setup.specs.Ports.{buffer_seen, port_seen};
+ghost use Rattle.declared_types.specs.Lent.{declaration_of, type_of};
+ghost use Rattle.type_numbers.specs.Ports.{buffer_seen, port_seen};
 ghost use Rattle.type_numbers.specs.Numbered.{AreNumbered, trees_of};
 
-use buffer_setup::{BufferIn, PortOn, buffer_in, buffer_place, is_ordered, message_type};
 use declared_types::{Declared, KnownType};
 use ruby_base::{NoMemory, Seq, Text};
 use ruby_symbols::BufferSymbol;
 use slicc_ast::tree::Machine;
 use std::alloc::Global;
-use type_numbers::{TypeNumbers, type_number};
+use type_numbers::{
+    BufferIn, PortOn, TypeNumbers, buffer_in, buffer_place, is_ordered, message_type, type_number,
+};
 
-fn message_number<'a>(
-    types: &TypeNumbers<'a>,
-    t: Option<KnownType<'a>>,
-) -> Result<Option<u16>, NoMemory>
+fn message_number<'a>(types: &TypeNumbers<'a>, t: Option<KnownType<'a>>) -> Option<u16>
     requires { AreNumbered types.now }
-    ensures { IfOk result (λ number. number ≡ option_and_then (structure_number (trees_of types.now)) (option_map type_of t.entry)) }
+    ensures { result ≡ option_and_then (structure_number (trees_of types.now)) (option_map type_of t.entry) }
 {
     match t {
-        None => Ok(None),
+        None => None,
         Some(t) => type_number(types, t),
     }
 }
@@ -45,7 +42,7 @@ fn buffer_of_place<'a>(
 {
     let t = message_type(ports, number as usize, b);
     let place = buffer_place(types, b.place, t)?;
-    let message = message_number(types, t)?;
+    let message = message_number(types, t);
     Ok(BufferSymbol {
         name: Text::copied(alloc, &b.name.text)?,
         place,
@@ -54,7 +51,9 @@ fn buffer_of_place<'a>(
     })
 }
 
-fn add_buffer<'a>(
+/// Adds the buffer that a declaration of the machine of this number declares, if it does, where these are the ports of all
+/// machines.
+pub fn add_buffer<'a>(
     alloc: Global,
     list: &mut Seq<BufferSymbol>,
     types: &TypeNumbers<'a>,
@@ -71,43 +70,4 @@ fn add_buffer<'a>(
         None => Ok(()),
         Some(b) => list.push(buffer_of_place(alloc, types, ports, number, d, b)?),
     }
-}
-
-// Adds the buffers among what the machine of this number declares, where these are the ports of all machines.
-fn add_buffers<'a>(
-    alloc: Global,
-    list: &mut Seq<BufferSymbol>,
-    types: &TypeNumbers<'a>,
-    ports: &[PortOn<'a>],
-    number: u16,
-    m: &'a Machine,
-    declarations: &[Declared<'a>],
-) -> Result<(), NoMemory>
-    requires types { AreNumbered types.now }
-    requires ports { map port_seen ports.now ≡ all_ports (trees_of types.now) }
-    ensures { OnOk result (list.new ≡ list.old ++ flat_map (buffer_symbol (trees_of types.now) number m.now) (declarations_of declarations.now)) }
-{
-    for d in declarations {
-        add_buffer(alloc, list, types, ports, number, m, *d)?;
-    }
-    Ok(())
-}
-
-/// The buffers of the machine of this number, which declares this, where these are the ports of all machines.
-pub fn buffers_of<'a>(
-    alloc: Global,
-    types: &TypeNumbers<'a>,
-    ports: &[PortOn<'a>],
-    number: u16,
-    m: &'a Machine,
-    declarations: &[Declared<'a>],
-) -> Result<Seq<BufferSymbol>, NoMemory>
-    requires types { AreNumbered types.now }
-    requires ports { map port_seen ports.now ≡ all_ports (trees_of types.now) }
-    requires declarations { declarations_of declarations.now ≡ machine_declarations m.now }
-    ensures { IfOk result (λ list. list ≡ buffer_symbols (trees_of types.now) number m.now) }
-{
-    let mut list = Seq::new(alloc);
-    add_buffers(alloc, &mut list, types, ports, number, m, declarations)?;
-    Ok(list)
 }

@@ -1,38 +1,29 @@
 //! The enumerations of a protocol.
-ghost use Rattle.std.specs.Prelude.{◌≡◌, ◌++◌, [], IfOk, None, OnOk, codes, flat_map, map, position};
-ghost use Rattle.std.specs.Borrow.{Bor};
+ghost use Rattle.std.specs.Prelude.{◌≡◌, ◌++◌, [], ◌∷◌, IfOk, None, OnOk, codes, flat_map, map, position};
 ghost use Rattle.std.specs.Str.{bytes_eq};
-ghost use Rattle.slicc_ast.specs.declared.tree.declaration.State.{State as StateRecord};
-ghost use Rattle.slicc_ast.specs.declared.tree.declaration.Symbol.{Symbol as SymbolRecord};
 ghost use Rattle.slicc_ast.specs.declared.tree.machine.Machine.{Machine as MachineRecord};
 ghost use Rattle.slicc_plan.specs.BuiltIn.{members_of};
 ghost use Rattle.slicc_plan.specs.Declarations.{machine_names, machines_of};
 ghost use Rattle.slicc_plan.specs.SymbolsOfTypes.{built_in_symbols, enumeration_symbol, enumeration_symbols, owner};
-ghost use Rattle.built_ins.specs.Types.{texts_of};
 ghost use Rattle.declared_types.specs.Lent.{scope_of};
 ghost use Rattle.type_numbers.specs.Numbered.{AreNumbered, scoped_of, trees_of};
 
+use crate::names::{place_named, texts_of};
 use built_ins::fixed_members;
 use declared_types::{Declared, Scope};
 use ruby_base::{NoMemory, Seq, Text};
 use ruby_symbols::EnumerationSymbol;
-use slicc_ast::tree::{Enumeration, Machine, State, States, Symbol};
+use slicc_ast::tree::Machine;
 use slicc_plan::BuiltInType;
 use std::alloc::Global;
-use type_numbers::{Scoped, TypeNumbers, kept, own_default};
-
-fn machine_place(machines: &[&Machine], name: &[u8]) -> Option<usize>
-    ensures { result ≡ position (λ (m : Bor MachineRecord). bytes_eq m.now.name.text name.now) machines.now }
-{
-    machines.iter().position(|m| m.name.text.as_slice() == name)
-}
+use type_numbers::{Named, Scoped, TypeNumbers, kept, own_default};
 
 // The number of the first machine of this name.
 fn machine_number(types: &TypeNumbers<'_>, name: &[u8]) -> Option<usize>
     requires { AreNumbered types.now }
     ensures { result ≡ position (λ (m : MachineRecord). bytes_eq m.name.text name.now) (machines_of (trees_of types.now)) }
 {
-    machine_place(&types.machines, name)
+    place_named(&types.machines, name)
 }
 
 fn owner_within(types: &TypeNumbers<'_>, m: &Machine) -> Result<Option<u16>, NoMemory>
@@ -53,46 +44,6 @@ pub fn owner(types: &TypeNumbers<'_>, scope: Scope<'_>) -> Result<Option<u16>, N
     }
 }
 
-fn machine_texts(alloc: Global, machines: &[&Machine]) -> Result<Seq<Text>, NoMemory>
-    ensures { IfOk result (λ list. list ≡ map (λ (m : MachineRecord). m.name.text) (map (λ m. m.now) machines.now)) }
-{
-    let mut list = Seq::new(alloc);
-    for m in machines {
-        list.push(Text::copied(alloc, &m.name.text)?)?;
-    }
-    Ok(list)
-}
-
-fn fixed_texts(alloc: Global, members: &[&str]) -> Result<Seq<Text>, NoMemory>
-    ensures { IfOk result (λ list. list ≡ texts_of members.now) }
-{
-    let mut list = Seq::new(alloc);
-    for member in members {
-        list.push(Text::copied(alloc, member.as_bytes())?)?;
-    }
-    Ok(list)
-}
-
-fn symbol_texts(alloc: Global, members: &[Symbol]) -> Result<Seq<Text>, NoMemory>
-    ensures { IfOk result (λ list. list ≡ map (λ (s : SymbolRecord). s.name.text) members.now) }
-{
-    let mut list = Seq::new(alloc);
-    for s in members {
-        list.push(Text::copied(alloc, &s.name.text)?)?;
-    }
-    Ok(list)
-}
-
-fn state_texts(alloc: Global, members: &[State]) -> Result<Seq<Text>, NoMemory>
-    ensures { IfOk result (λ list. list ≡ map (λ (s : StateRecord). s.name.text) members.now) }
-{
-    let mut list = Seq::new(alloc);
-    for s in members {
-        list.push(Text::copied(alloc, &s.name.text)?)?;
-    }
-    Ok(list)
-}
-
 fn with_members(
     alloc: Global,
     name: &[u8],
@@ -110,30 +61,42 @@ fn with_members(
     })
 }
 
-fn fixed_enumeration(
+// Adds an enumeration with these members.
+fn add_members<T: Named>(
     alloc: Global,
+    list: &mut Seq<EnumerationSymbol>,
+    name: &[u8],
+    machine: Option<u16>,
+    default: u16,
+    members: &[T],
+) -> Result<(), NoMemory>
+    ensures { OnOk result (list.new ≡ list.old ++ record { name = name.now; machine = machine; members = map T.text members.now; default = default } ∷ []) }
+{
+    let members = texts_of(alloc, members)?;
+    list.push(with_members(alloc, name, machine, members, default)?)
+}
+
+fn add_fixed(
+    alloc: Global,
+    list: &mut Seq<EnumerationSymbol>,
     name: &[u8],
     b: BuiltInType,
-) -> Result<EnumerationSymbol, NoMemory>
-    ensures { IfOk result (λ e. e ≡ record { name = name.now; machine = None; members = members_of [] b; default = 0 }) }
+) -> Result<(), NoMemory>
+    ensures { OnOk result (list.new ≡ list.old ++ record { name = name.now; machine = None; members = members_of [] b; default = 0 } ∷ []) }
 {
-    let members = fixed_texts(alloc, fixed_members(b))?;
-    with_members(alloc, name, None, members, 0)
+    add_members(alloc, list, name, None, 0, fixed_members(b))
 }
 
-fn machine_texts_of(alloc: Global, types: &TypeNumbers<'_>) -> Result<Seq<Text>, NoMemory>
+// Adds the enumeration of the machines.
+fn add_machine_type(
+    alloc: Global,
+    list: &mut Seq<EnumerationSymbol>,
+    types: &TypeNumbers<'_>,
+) -> Result<(), NoMemory>
     requires { AreNumbered types.now }
-    ensures { IfOk result (λ list. list ≡ machine_names (trees_of types.now)) }
+    ensures { OnOk result (list.new ≡ list.old ++ record { name = codes "MachineType"; machine = None; members = machine_names (trees_of types.now); default = 0 } ∷ []) }
 {
-    machine_texts(alloc, &types.machines)
-}
-
-fn machine_type(alloc: Global, types: &TypeNumbers<'_>) -> Result<EnumerationSymbol, NoMemory>
-    requires { AreNumbered types.now }
-    ensures { IfOk result (λ e. e ≡ record { name = codes "MachineType"; machine = None; members = machine_names (trees_of types.now); default = 0 }) }
-{
-    let members = machine_texts_of(alloc, types)?;
-    with_members(alloc, b"MachineType", None, members, 0)
+    add_members(alloc, list, b"MachineType", None, 0, &types.machines)
 }
 
 fn built_ins(alloc: Global, types: &TypeNumbers<'_>) -> Result<Seq<EnumerationSymbol>, NoMemory>
@@ -141,35 +104,26 @@ fn built_ins(alloc: Global, types: &TypeNumbers<'_>) -> Result<Seq<EnumerationSy
     ensures { IfOk result (λ list. list ≡ built_in_symbols (trees_of types.now)) }
 {
     let mut list = Seq::new(alloc);
-    list.push(machine_type(alloc, types)?)?;
-    list.push(fixed_enumeration(alloc, b"AccessPermission", BuiltInType::AccessPermission)?)?;
-    list.push(fixed_enumeration(alloc, b"RubyRequestType", BuiltInType::RequestType)?)?;
-    list.push(fixed_enumeration(alloc, b"MessageSizeType", BuiltInType::MessageSize)?)?;
+    add_machine_type(alloc, &mut list, types)?;
+    add_fixed(
+        alloc,
+        &mut list,
+        b"AccessPermission",
+        BuiltInType::AccessPermission,
+    )?;
+    add_fixed(
+        alloc,
+        &mut list,
+        b"RubyRequestType",
+        BuiltInType::RequestType,
+    )?;
+    add_fixed(
+        alloc,
+        &mut list,
+        b"MessageSizeType",
+        BuiltInType::MessageSize,
+    )?;
     Ok(list)
-}
-
-fn of_symbols(
-    alloc: Global,
-    machine: Option<u16>,
-    default: u16,
-    e: &Enumeration,
-) -> Result<EnumerationSymbol, NoMemory>
-    ensures { IfOk result (λ s. s ≡ record { name = e.now.name.text; machine = machine; members = map (λ (s : SymbolRecord). s.name.text) e.now.members; default = default }) }
-{
-    let members = symbol_texts(alloc, &e.members)?;
-    with_members(alloc, &e.name.text, machine, members, default)
-}
-
-fn of_states(
-    alloc: Global,
-    machine: Option<u16>,
-    default: u16,
-    d: &States,
-) -> Result<EnumerationSymbol, NoMemory>
-    ensures { IfOk result (λ s. s ≡ record { name = d.now.name.text; machine = machine; members = map (λ (s : StateRecord). s.name.text) d.now.members; default = default }) }
-{
-    let members = state_texts(alloc, &d.members)?;
-    with_members(alloc, &d.name.text, machine, members, default)
 }
 
 fn add_enumeration<'a>(
@@ -184,8 +138,12 @@ fn add_enumeration<'a>(
     let machine = owner(types, d.scope)?;
     let default = own_default(d.scope, d.declaration)?;
     match d.declaration {
-        Declared::Enumeration(e) => list.push(of_symbols(alloc, machine, default, e)?),
-        Declared::States(s) => list.push(of_states(alloc, machine, default, s)?),
+        Declared::Enumeration(e) => {
+            add_members(alloc, list, &e.name.text, machine, default, &e.members)
+        },
+        Declared::States(s) => {
+            add_members(alloc, list, &s.name.text, machine, default, &s.members)
+        },
         Declared::Machine(_)
         | Declared::Structure(_)
         | Declared::Parameter(_)

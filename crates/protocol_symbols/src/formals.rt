@@ -23,10 +23,10 @@ pub fn kind_in<'a>(
     m: &'a Machine,
     declarations: &[Declared<'a>],
     kind: &TypeName,
-) -> Result<Option<Kind>, NoMemory>
+) -> Option<Kind>
     requires types { AreNumbered types.now }
     requires declarations { declarations_of declarations.now ≡ machine_declarations m.now }
-    ensures { IfOk result (λ k. k ≡ kind_in (trees_of types.now) m.now kind.now) }
+    ensures { result ≡ kind_in (trees_of types.now) m.now kind.now }
 {
     let t = type_in(&types.scopes, Scope::Within(m), &kind.text);
     value_kind(types, m, declarations, t)
@@ -61,7 +61,7 @@ fn formal_symbol<'a>(
     requires declarations { declarations_of declarations.now ≡ machine_declarations m.now }
     ensures { IfOk result (λ s. s ≡ formal_symbol (trees_of types.now) m.now f.now) }
 {
-    let kind = kind_in(types, m, declarations, &f.kind)?;
+    let kind = kind_in(types, m, declarations, &f.kind);
     Ok(FormalSymbol {
         name: name_of(alloc, &f.name)?,
         kind: kind_or_bool(kind),

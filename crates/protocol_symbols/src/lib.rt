@@ -1,12 +1,15 @@
 //! The symbols of a protocol, made once from its trees: what it declares, as plain names and numbers.
 #![tactic(auto)]
 
+mod bodies;
 mod buffers;
 mod enumerations;
 mod formals;
 mod functions;
 mod lines;
 mod machine;
+mod names;
+mod objects;
 mod ports;
 mod protocol;
 mod references;
@@ -19,5 +22,3 @@ mod values;
 
 pub use protocol::protocol_symbols;
 pub use ruby_base::NoMemory;
-pub use tables::table_in;
-pub use values::values_of;

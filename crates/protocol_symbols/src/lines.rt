@@ -1,5 +1,5 @@
 //! The structures of a machine's lines, and references to lines.
-ghost use Rattle.std.specs.Prelude.{◌≡◌, IfOk, option_and_then, unwrap_or};
+ghost use Rattle.std.specs.Prelude.{◌≡◌, option_and_then, unwrap_or};
 ghost use Rattle.std.specs.Option.{option_copied, option_map};
 ghost use Rattle.slicc_plan.specs.Declarations.{machine_declarations, within};
 ghost use Rattle.slicc_plan.specs.MachineValues.{line_kind};
@@ -12,7 +12,6 @@ ghost use Rattle.type_numbers.specs.Numbered.{AreNumbered, trees_of};
 
 use body_types::same_type;
 use declared_types::{Declared, KnownType, LineSort, Scope, first_line};
-use ruby_base::NoMemory;
 use ruby_value::Kind;
 use slicc_ast::tree::{Machine, Structure};
 use type_numbers::{TypeNumbers, plain_kind, structure_number};
@@ -34,12 +33,12 @@ pub fn line_number<'a>(
     types: &TypeNumbers<'a>,
     m: &'a Machine,
     s: Option<&'a Structure>,
-) -> Result<Option<u16>, NoMemory>
+) -> Option<u16>
     requires { AreNumbered types.now }
-    ensures { IfOk result (λ number. number ≡ line_number (trees_of types.now) m.now (option_copied s.entry)) }
+    ensures { result ≡ line_number (trees_of types.now) m.now (option_copied s.entry) }
 {
     match s {
-        None => Ok(None),
+        None => None,
         Some(s) => structure_number(types, Scope::Within(m), s),
     }
 }
@@ -101,14 +100,14 @@ fn structure_kind<'a>(
     declarations: &[Declared<'a>],
     scope: Scope<'a>,
     s: &'a Structure,
-) -> Result<Option<Kind>, NoMemory>
+) -> Option<Kind>
     requires types { AreNumbered types.now }
     requires declarations { declarations_of declarations.now ≡ machine_declarations m.now }
-    ensures { IfOk result (λ k. k ≡ value_kind (trees_of types.now) m.now (structured (scope_of scope.entry) s.now)) }
+    ensures { result ≡ value_kind (trees_of types.now) m.now (structured (scope_of scope.entry) s.now) }
 {
-    match structure_number(types, scope, s)? {
-        None => Ok(None),
-        Some(number) => Ok(reference_kind(m, declarations, scope, s, number)),
+    match structure_number(types, scope, s) {
+        None => None,
+        Some(number) => reference_kind(m, declarations, scope, s, number),
     }
 }
 
@@ -118,14 +117,14 @@ pub fn line_kind<'a>(
     m: &Machine,
     declarations: &[Declared<'a>],
     t: Option<KnownType<'a>>,
-) -> Result<Option<Kind>, NoMemory>
+) -> Option<Kind>
     requires types { AreNumbered types.now }
     requires declarations { declarations_of declarations.now ≡ machine_declarations m.now }
-    ensures { IfOk result (λ k. k ≡ option_and_then (line_kind (trees_of types.now) m.now) (option_map type_of t.entry)) }
+    ensures { result ≡ option_and_then (line_kind (trees_of types.now) m.now) (option_map type_of t.entry) }
 {
     match t {
         Some(KnownType::Structure(scope, s)) => structure_kind(types, m, declarations, scope, s),
-        _ => Ok(None),
+        _ => None,
     }
 }
 
@@ -134,10 +133,10 @@ fn known_kind<'a>(
     m: &Machine,
     declarations: &[Declared<'a>],
     t: KnownType<'a>,
-) -> Result<Option<Kind>, NoMemory>
+) -> Option<Kind>
     requires types { AreNumbered types.now }
     requires declarations { declarations_of declarations.now ≡ machine_declarations m.now }
-    ensures { IfOk result (λ k. k ≡ value_kind (trees_of types.now) m.now (type_of t.entry)) }
+    ensures { result ≡ value_kind (trees_of types.now) m.now (type_of t.entry) }
 {
     match t {
         KnownType::Structure(scope, s) => structure_kind(types, m, declarations, scope, s),
@@ -153,13 +152,13 @@ pub fn value_kind<'a>(
     m: &Machine,
     declarations: &[Declared<'a>],
     t: Option<KnownType<'a>>,
-) -> Result<Option<Kind>, NoMemory>
+) -> Option<Kind>
     requires types { AreNumbered types.now }
     requires declarations { declarations_of declarations.now ≡ machine_declarations m.now }
-    ensures { IfOk result (λ k. k ≡ option_and_then (value_kind (trees_of types.now) m.now) (option_map type_of t.entry)) }
+    ensures { result ≡ option_and_then (value_kind (trees_of types.now) m.now) (option_map type_of t.entry) }
 {
     match t {
-        None => Ok(None),
+        None => None,
         Some(t) => known_kind(types, m, declarations, t),
     }
 }

@@ -10,30 +10,22 @@ ghost use Rattle.slicc_plan.specs.Machines.{directory_structure, entry_structure
 ghost use Rattle.slicc_plan.specs.Networks.{all_ports};
 ghost use Rattle.slicc_plan.specs.SymbolsOfMachines.{action_symbols, buffer_symbols, function_symbols, in_port_symbol, line_number, machine_symbols, number_of_found, numbered_from, out_port_symbol, permissions_found, sequencer_name, table_symbol, transition_symbol};
 ghost use Rattle.declared_types.specs.Lent.{declarations_of};
-ghost use Rattle.buffer_setup.specs.Ports.{port_seen};
+ghost use Rattle.type_numbers.specs.Ports.{port_seen};
 ghost use Rattle.protocol_symbols.specs.Parts.{AreBodies, AreNumbers, AreObjects, AreRest};
 ghost use Rattle.type_numbers.specs.Numbered.{AreNumbered, trees_of};
 
-use crate::buffers::buffers_of;
-use crate::functions::{action_symbols, function_symbols};
+use crate::bodies::{Bodies, bodies_of};
 use crate::lines::{line_number, line_structure};
-use crate::ports::{in_ports, out_ports};
-use crate::references::references_of;
+use crate::objects::{Objects, objects_of};
 use crate::sequencers::sequencer;
 use crate::states::{events_number, permissions, states_number};
-use crate::tables::tables_of;
 use crate::transitions::transitions;
-use crate::values::values_of;
-use buffer_setup::PortOn;
 use declared_types::{Declared, LineSort};
 use ruby_base::{NoMemory, Seq, Text};
-use ruby_symbols::{
-    ActionSymbol, BufferSymbol, FieldSymbol, FunctionSymbol, MachineSymbols, PortSymbol,
-    TableSymbol, TransitionSymbol, action_among, function_among,
-};
+use ruby_symbols::{MachineSymbols, TransitionSymbol, action_among, function_among};
 use slicc_ast::tree::Machine;
 use std::alloc::Global;
-use type_numbers::{TypeNumbers, machine_list};
+use type_numbers::{PortOn, TypeNumbers, machine_list};
 
 // The numbers of a machine's types.
 #[derive(Clone, Copy)]
@@ -45,24 +37,6 @@ struct Numbers {
     tbe: Option<u16>,
 }
 
-// The parameters and objects of a machine.
-#[derive(Drop)]
-struct Objects {
-    tables: Seq<TableSymbol>,
-    values: Seq<FieldSymbol>,
-    references: Seq<FieldSymbol>,
-    buffers: Seq<BufferSymbol>,
-}
-
-// Its ports, and what has a body.
-#[derive(Drop)]
-struct Bodies {
-    in_ports: Seq<PortSymbol>,
-    out_ports: Seq<PortSymbol>,
-    functions: Seq<FunctionSymbol>,
-    actions: Seq<ActionSymbol>,
-}
-
 // Its names and its transitions.
 #[derive(Drop)]
 struct Rest {
@@ -72,73 +46,21 @@ struct Rest {
     transitions: Seq<TransitionSymbol>,
 }
 
-fn numbers_of<'a>(
-    types: &TypeNumbers<'a>,
-    m: &'a Machine,
-    declarations: &[Declared<'a>],
-) -> Result<Numbers, NoMemory>
+fn numbers_of<'a>(types: &TypeNumbers<'a>, m: &'a Machine, declarations: &[Declared<'a>]) -> Numbers
     requires types { AreNumbered types.now }
     requires declarations { declarations_of declarations.now ≡ machine_declarations m.now }
-    ensures { IfOk result (AreNumbers (trees_of types.now) m.now) }
+    ensures { AreNumbers (trees_of types.now) m.now result }
 {
     let entry = line_structure(m, declarations, LineSort::Entry);
     let directory = line_structure(m, declarations, LineSort::Directory);
     let tbe = line_structure(m, declarations, LineSort::Tbe);
-    Ok(Numbers {
-        states: states_number(types, m)?,
-        events: events_number(types, m)?,
-        entry: line_number(types, m, entry)?,
-        directory: line_number(types, m, directory)?,
-        tbe: line_number(types, m, tbe)?,
-    })
-}
-
-fn objects_of<'a>(
-    alloc: Global,
-    types: &TypeNumbers<'a>,
-    ports: &[PortOn<'a>],
-    number: u16,
-    m: &'a Machine,
-    declarations: &[Declared<'a>],
-) -> Result<Objects, NoMemory>
-    requires types { AreNumbered types.now }
-    requires ports { map port_seen ports.now ≡ all_ports (trees_of types.now) }
-    requires declarations { declarations_of declarations.now ≡ machine_declarations m.now }
-    ensures { IfOk result (AreObjects (trees_of types.now) number m.now) }
-{
-    let tables = tables_of(alloc, types, m, declarations)?;
-    let values = values_of(alloc, types, m, declarations)?;
-    let references = references_of(alloc, types, m, declarations)?;
-    let buffers = buffers_of(alloc, types, ports, number, m, declarations)?;
-    Ok(Objects {
-        tables,
-        values,
-        references,
-        buffers,
-    })
-}
-
-fn bodies_of<'a>(
-    alloc: Global,
-    types: &TypeNumbers<'a>,
-    m: &'a Machine,
-    declarations: &[Declared<'a>],
-    buffers: &[BufferSymbol],
-) -> Result<Bodies, NoMemory>
-    requires types { AreNumbered types.now }
-    requires declarations { declarations_of declarations.now ≡ machine_declarations m.now }
-    ensures { IfOk result (AreBodies (trees_of types.now) m.now buffers.now) }
-{
-    let in_ports = in_ports(alloc, buffers, &m.declarations)?;
-    let out_ports = out_ports(alloc, buffers, &m.declarations)?;
-    let functions = function_symbols(alloc, types, m, declarations)?;
-    let actions = action_symbols(alloc, m)?;
-    Ok(Bodies {
-        in_ports,
-        out_ports,
-        functions,
-        actions,
-    })
+    Numbers {
+        states: states_number(types, m),
+        events: events_number(types, m),
+        entry: line_number(types, m, entry),
+        directory: line_number(types, m, directory),
+        tbe: line_number(types, m, tbe),
+    }
 }
 
 fn sequencer_name<'a>(
@@ -224,7 +146,7 @@ fn machine_with<'a>(
     requires declarations { declarations_of declarations.now ≡ machine_declarations m.now }
     ensures { IfOk result (λ s. s ≡ machine_symbols (trees_of types.now) number m.now) }
 {
-    let numbers = numbers_of(types, m, declarations)?;
+    let numbers = numbers_of(types, m, declarations);
     let objects = objects_of(alloc, types, ports, number, m, declarations)?;
     let bodies = bodies_of(alloc, types, m, declarations, &objects.buffers)?;
     let rest = rest_of(alloc, types, m, declarations)?;

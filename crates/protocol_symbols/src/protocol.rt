@@ -3,20 +3,19 @@ ghost use Rattle.std.specs.Prelude.{◌≡◌, IfOk, map};
 ghost use Rattle.slicc_plan.specs.Declarations.{machines_of};
 ghost use Rattle.slicc_plan.specs.Networks.{all_ports};
 ghost use Rattle.slicc_plan.specs.SymbolsOf.{machines_from, symbols_of};
-ghost use Rattle.buffer_setup.specs.Ports.{port_seen};
+ghost use Rattle.type_numbers.specs.Ports.{port_seen};
 ghost use Rattle.type_numbers.specs.Numbered.{AreNumbered, trees_of};
 
 use crate::enumerations::enumeration_symbols;
 use crate::machine::machine_symbols;
 use crate::structures::structure_symbols;
-use buffer_setup::{PortOn, all_ports};
 use declared_types::Scopes;
 use machine_table::kept_number;
 use ruby_base::{NoMemory, Seq};
 use ruby_symbols::{MachineSymbols, Symbols};
 use slicc_ast::tree::Machine;
 use std::alloc::Global;
-use type_numbers::{TypeNumbers, number_types};
+use type_numbers::{PortOn, TypeNumbers, all_ports, number_types};
 
 fn machines_of<'a>(
     alloc: Global,

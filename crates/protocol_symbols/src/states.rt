@@ -1,6 +1,5 @@
 //! The states and events of a machine.
-ghost use Rattle.std.specs.Prelude.{◌≡◌, ℕ, IfOk, List, find, map, position};
-ghost use Rattle.std.specs.Borrow.{Bor};
+ghost use Rattle.std.specs.Prelude.{◌≡◌, IfOk, find, map, position};
 ghost use Rattle.std.specs.Option.{option_copied, option_map};
 ghost use Rattle.std.specs.Str.{bytes_eq};
 ghost use Rattle.slicc_ast.specs.declared.tree.declaration.State.{State as StateRecord};
@@ -12,6 +11,7 @@ ghost use Rattle.built_ins.specs.Types.{texts_of};
 ghost use Rattle.type_numbers.specs.Numbered.{AreNumbered, trees_of};
 
 use crate::lines::number_or_none;
+use crate::names::place_named;
 use built_ins::fixed_members;
 use declared_types::{KnownType, Scope};
 use machine_table::{events, states};
@@ -21,66 +21,49 @@ use slicc_plan::BuiltInType;
 use std::alloc::Global;
 use type_numbers::{TypeNumbers, declared_number, kept_or};
 
-fn states_found<'a>(
-    types: &TypeNumbers<'a>,
-    m: &'a Machine,
-    s: Option<&'a States>,
-) -> Result<u16, NoMemory>
+fn states_found<'a>(types: &TypeNumbers<'a>, m: &'a Machine, s: Option<&'a States>) -> u16
     requires { AreNumbered types.now }
-    ensures { IfOk result (λ number. number ≡ number_of_found (trees_of types.now) m.now (option_map states_declaration (option_copied s.entry))) }
+    ensures { result ≡ number_of_found (trees_of types.now) m.now (option_map states_declaration (option_copied s.entry)) }
 {
     match s {
-        None => Ok(65535),
-        Some(s) => Ok(number_or_none(declared_number(
-            types,
-            KnownType::States(Scope::Within(m), s),
-        )?)),
+        None => 65535,
+        Some(s) => number_or_none(declared_number(types, KnownType::States(Scope::Within(m), s))),
     }
 }
 
 /// The number of a machine's states among the enumerations.
-pub fn states_number<'a>(types: &TypeNumbers<'a>, m: &'a Machine) -> Result<u16, NoMemory>
+pub fn states_number<'a>(types: &TypeNumbers<'a>, m: &'a Machine) -> u16
     requires { AreNumbered types.now }
-    ensures { IfOk result (λ number. number ≡ number_of_found (trees_of types.now) m.now (find is_states (machine_declarations m.now))) }
+    ensures { result ≡ number_of_found (trees_of types.now) m.now (find is_states (machine_declarations m.now)) }
 {
     states_found(types, m, states(m))
 }
 
-fn events_found<'a>(
-    types: &TypeNumbers<'a>,
-    m: &'a Machine,
-    e: Option<&'a Enumeration>,
-) -> Result<u16, NoMemory>
+fn events_found<'a>(types: &TypeNumbers<'a>, m: &'a Machine, e: Option<&'a Enumeration>) -> u16
     requires { AreNumbered types.now }
-    ensures { IfOk result (λ number. number ≡ number_of_found (trees_of types.now) m.now (option_map enumeration (option_copied e.entry))) }
+    ensures { result ≡ number_of_found (trees_of types.now) m.now (option_map enumeration (option_copied e.entry)) }
 {
     match e {
-        None => Ok(65535),
-        Some(e) => Ok(number_or_none(declared_number(
+        None => 65535,
+        Some(e) => number_or_none(declared_number(
             types,
             KnownType::Enumeration(Scope::Within(m), e),
-        )?)),
+        )),
     }
 }
 
 /// The number of a machine's events among the enumerations.
-pub fn events_number<'a>(types: &TypeNumbers<'a>, m: &'a Machine) -> Result<u16, NoMemory>
+pub fn events_number<'a>(types: &TypeNumbers<'a>, m: &'a Machine) -> u16
     requires { AreNumbered types.now }
-    ensures { IfOk result (λ number. number ≡ number_of_found (trees_of types.now) m.now (find is_events (machine_declarations m.now))) }
+    ensures { result ≡ number_of_found (trees_of types.now) m.now (find is_events (machine_declarations m.now)) }
 {
     events_found(types, m, events(m))
-}
-
-fn place_among(names: &[&str], text: &[u8]) -> Option<usize>
-    ensures { result ≡ position (λ (name : Bor (List ℕ)). bytes_eq name.now text.now) names.now }
-{
-    names.iter().position(|name| name.as_bytes() == text)
 }
 
 fn number_among(names: &[&str], text: &[u8]) -> Option<usize>
     ensures { result ≡ position (λ name. bytes_eq name text.now) (texts_of names.now) }
 {
-    place_among(names, text)
+    place_named(names, text)
 }
 
 fn permission_number(text: &[u8]) -> Result<u16, NoMemory>

@@ -1,9 +1,8 @@
 //! The structures of a protocol.
-ghost use Rattle.std.specs.Prelude.{◌≡◌, ◌++◌, IfOk, OnOk, flat_map, map};
+ghost use Rattle.std.specs.Prelude.{◌≡◌, ◌++◌, [], ◌∷◌, IfOk, OnOk, flat_map, map};
 ghost use Rattle.ruby_value.specs.DefaultValue.{default_value};
-ghost use Rattle.slicc_plan.specs.SymbolsOfTypes.{field_of_type, field_symbol, field_symbols, owner, request_symbol, structure_symbol, structure_symbols};
+ghost use Rattle.slicc_plan.specs.SymbolsOfTypes.{field_symbols, owner, request_symbol, structure_symbol, structure_symbols};
 ghost use Rattle.declared_types.specs.Lent.{scope_of};
-ghost use Rattle.type_numbers.specs.Fields.{field_seen};
 ghost use Rattle.type_numbers.specs.Numbered.{AreNumbered, scoped_of, trees_of};
 
 use crate::enumerations::owner;
@@ -11,9 +10,9 @@ use declared_types::{Declared, Scope};
 use ruby_base::{NoMemory, Seq, Text};
 use ruby_symbols::{FieldSymbol, StructureSymbol};
 use ruby_value::{Kind, Value, default_of};
-use slicc_ast::tree::{Member, Structure};
+use slicc_ast::tree::Structure;
 use std::alloc::Global;
-use type_numbers::{Field, Scoped, TypeNumbers, field_kind, initial_value};
+use type_numbers::{Scoped, TypeNumbers, structure_fields};
 
 /// A field of this name, with a kind and a value.
 pub fn field_with(
@@ -29,71 +28,6 @@ pub fn field_with(
         kind,
         initial,
     })
-}
-
-fn field_of_type<'a>(
-    alloc: Global,
-    types: &TypeNumbers<'a>,
-    name: &[u8],
-    f: Field<'a>,
-) -> Result<FieldSymbol, NoMemory>
-    requires { AreNumbered types.now }
-    ensures { IfOk result (λ s. s ≡ field_of_type (trees_of types.now) name.now (field_seen f.entry)) }
-{
-    let kind = field_kind(types, f)?;
-    let initial = initial_value(alloc, types, f)?;
-    field_with(alloc, name, kind, initial)
-}
-
-fn add_field<'a>(
-    alloc: Global,
-    list: &mut Seq<FieldSymbol>,
-    types: &TypeNumbers<'a>,
-    scope: Scope<'a>,
-    member: &'a Member,
-) -> Result<(), NoMemory>
-    requires { AreNumbered types.now }
-    ensures { OnOk result (list.new ≡ list.old ++ field_symbol (trees_of types.now) (scope_of scope.entry) member.now) }
-{
-    match member {
-        Member::Field {
-            kind,
-            name,
-            pairs,
-            ..
-        } => list.push(field_of_type(alloc, types, &name.text, Field { scope, kind, pairs })?),
-        Member::Method { .. } | Member::Skipped(_) => Ok(()),
-    }
-}
-
-fn add_fields<'a>(
-    alloc: Global,
-    list: &mut Seq<FieldSymbol>,
-    types: &TypeNumbers<'a>,
-    scope: Scope<'a>,
-    members: &'a [Member],
-) -> Result<(), NoMemory>
-    requires { AreNumbered types.now }
-    ensures { OnOk result (list.new ≡ list.old ++ flat_map (field_symbol (trees_of types.now) (scope_of scope.entry)) members.now) }
-{
-    for member in members {
-        add_field(alloc, list, types, scope, member)?;
-    }
-    Ok(())
-}
-
-fn fields_of<'a>(
-    alloc: Global,
-    types: &TypeNumbers<'a>,
-    scope: Scope<'a>,
-    s: &'a Structure,
-) -> Result<Seq<FieldSymbol>, NoMemory>
-    requires { AreNumbered types.now }
-    ensures { IfOk result (λ list. list ≡ field_symbols (trees_of types.now) (scope_of scope.entry) s.now) }
-{
-    let mut list = Seq::new(alloc);
-    add_fields(alloc, &mut list, types, scope, &s.members)?;
-    Ok(list)
 }
 
 fn with_fields(
@@ -121,7 +55,7 @@ fn structure_of<'a>(
     ensures { IfOk result (λ r. r ≡ record { name = s.now.name.text; machine = owner (trees_of types.now) (scope_of scope.entry); fields = field_symbols (trees_of types.now) (scope_of scope.entry) s.now }) }
 {
     let machine = owner(types, scope)?;
-    let fields = fields_of(alloc, types, scope, s)?;
+    let fields = structure_fields(alloc, types, scope, s)?;
     with_fields(alloc, &s.name.text, machine, fields)
 }
 
@@ -163,21 +97,27 @@ fn add_structures<'a>(
     Ok(())
 }
 
-fn request_field(alloc: Global, name: &[u8], kind: Kind) -> Result<FieldSymbol, NoMemory>
-    ensures { IfOk result (λ f. f ≡ record { name = name.now; kind = kind; initial = default_value kind }) }
+/// Adds a field of this name and kind, which begins as the default of its kind.
+pub fn add_default_field(
+    alloc: Global,
+    fields: &mut Seq<FieldSymbol>,
+    name: &[u8],
+    kind: Kind,
+) -> Result<(), NoMemory>
+    ensures { OnOk result (fields.new ≡ fields.old ++ record { name = name.now; kind = kind; initial = default_value kind } ∷ []) }
 {
     let initial = default_of(alloc, &kind)?;
-    field_with(alloc, name, kind, initial)
+    fields.push(field_with(alloc, name, kind, initial)?)
 }
 
 fn request_fields(alloc: Global) -> Result<Seq<FieldSymbol>, NoMemory>
     ensures { IfOk result (λ fields. fields ≡ request_symbol.fields) }
 {
     let mut fields = Seq::new(alloc);
-    fields.push(request_field(alloc, b"LineAddress", Kind::Addr)?)?;
-    fields.push(request_field(alloc, b"PhysicalAddress", Kind::Addr)?)?;
-    fields.push(request_field(alloc, b"Type", Kind::Enum(2, 0))?)?;
-    fields.push(request_field(alloc, b"Size", Kind::Int)?)?;
+    add_default_field(alloc, &mut fields, b"LineAddress", Kind::Addr)?;
+    add_default_field(alloc, &mut fields, b"PhysicalAddress", Kind::Addr)?;
+    add_default_field(alloc, &mut fields, b"Type", Kind::Enum(2, 0))?;
+    add_default_field(alloc, &mut fields, b"Size", Kind::Int)?;
     Ok(fields)
 }
 

@@ -1,22 +1,22 @@
 //! The tables of lines of a machine.
-ghost use Rattle.std.specs.Prelude.{◌≡◌, ◌++◌, IfOk, OnOk, flat_map, unwrap_or};
+ghost use Rattle.std.specs.Prelude.{◌≡◌, ◌++◌, IfOk, OnOk, unwrap_or};
 ghost use Rattle.std.specs.Option.{option_map};
 ghost use Rattle.slicc_plan.specs.Declarations.{machine_declarations};
-ghost use Rattle.slicc_plan.specs.SymbolsOfMachines.{line_number, table_of_sort, table_symbol};
-ghost use Rattle.slicc_plan.specs.Tables.{line_structure, table_in, table_sort, written_entries};
+ghost use Rattle.slicc_plan.specs.SymbolsOfMachines.{line_number, table_of_sort};
+ghost use Rattle.slicc_plan.specs.Tables.{line_structure, table_sort, written_entries};
 ghost use Rattle.slicc_plan.specs.TypeNumbers.{no_structure};
-ghost use Rattle.declared_types.specs.Lent.{declaration_of, declarations_of, type_of};
+ghost use Rattle.declared_types.specs.Lent.{declarations_of, type_of};
 ghost use Rattle.type_numbers.specs.Numbered.{AreNumbered, trees_of};
 
 use crate::lines::{line_number, line_structure, number_or_none};
 use declaration_rules::{is_built_in, number_value};
-use declared_types::{Declared, KnownType, LineSort, Scope, first_attribute};
+use declared_types::{Declared, KnownType, LineSort, first_attribute};
 use ruby_base::{NoMemory, Seq, Text};
 use ruby_symbols::{TableSort, TableSymbol};
 use slicc_ast::tree::{Machine, Pairs};
 use slicc_plan::BuiltInType;
 use std::alloc::Global;
-use type_numbers::{TypeNumbers, type_in};
+use type_numbers::TypeNumbers;
 
 fn written_entries(pairs: &Pairs) -> u64
     ensures { result ≡ written_entries pairs.now }
@@ -57,44 +57,23 @@ fn table_sort(t: Option<KnownType<'_>>, pairs: &Pairs) -> Result<Option<TableSor
     Ok(None)
 }
 
-/// What sort of table a declaration of a machine declares, where it declares one.
-pub fn table_in<'a>(
-    types: &TypeNumbers<'a>,
-    m: &'a Machine,
-    d: Declared<'a>,
-) -> Result<Option<TableSort>, NoMemory>
-    ensures { IfOk result (λ sort. sort ≡ table_in (trees_of types.now) m.now (declaration_of d.entry)) }
-{
-    match d {
-        Declared::Parameter(p) => table_sort(
-            type_in(&types.scopes, Scope::Within(m), &p.kind.text),
-            &p.pairs,
-        ),
-        Declared::Object(o) => table_sort(
-            type_in(&types.scopes, Scope::Within(m), &o.kind.text),
-            &o.pairs,
-        ),
-        _ => Ok(None),
-    }
-}
-
 // The number of the structure of the lines of tables of a sort, of a machine that declares this.
 fn structure_of<'a>(
     types: &TypeNumbers<'a>,
     m: &'a Machine,
     declarations: &[Declared<'a>],
     sort: TableSort,
-) -> Result<u16, NoMemory>
+) -> u16
     requires types { AreNumbered types.now }
     requires declarations { declarations_of declarations.now ≡ machine_declarations m.now }
-    ensures { IfOk result (λ number. number ≡ unwrap_or (line_number (trees_of types.now) m.now (line_structure m.now sort)) no_structure) }
+    ensures { result ≡ unwrap_or (line_number (trees_of types.now) m.now (line_structure m.now sort)) no_structure }
 {
     let lines = match sort {
         TableSort::Cache => line_structure(m, declarations, LineSort::Entry),
         TableSort::Directory => line_structure(m, declarations, LineSort::Directory),
         TableSort::Tbe { .. } => line_structure(m, declarations, LineSort::Tbe),
     };
-    Ok(number_or_none(line_number(types, m, lines)?))
+    number_or_none(line_number(types, m, lines))
 }
 
 fn add_of_sort<'a>(
@@ -113,7 +92,7 @@ fn add_of_sort<'a>(
     let Some(sort) = sort else {
         return Ok(());
     };
-    let structure = structure_of(types, m, declarations, sort)?;
+    let structure = structure_of(types, m, declarations, sort);
     list.push(TableSymbol {
         name: Text::copied(alloc, name)?,
         sort,
@@ -121,60 +100,21 @@ fn add_of_sort<'a>(
     })
 }
 
-fn add_table<'a>(
+/// Adds a parameter or an object of this name and type, if it is a table, of a machine that declares this.
+pub fn add_table<'a>(
     alloc: Global,
     list: &mut Seq<TableSymbol>,
     types: &TypeNumbers<'a>,
     m: &'a Machine,
     declarations: &[Declared<'a>],
-    d: Declared<'a>,
+    name: &[u8],
+    t: Option<KnownType<'a>>,
+    pairs: &Pairs,
 ) -> Result<(), NoMemory>
     requires types { AreNumbered types.now }
     requires declarations { declarations_of declarations.now ≡ machine_declarations m.now }
-    ensures { OnOk result (list.new ≡ list.old ++ table_symbol (trees_of types.now) m.now (declaration_of d.entry)) }
+    ensures { OnOk result (list.new ≡ list.old ++ table_of_sort (trees_of types.now) m.now name.now (table_sort (option_map type_of t.entry) pairs.now)) }
 {
-    let sort = table_in(types, m, d)?;
-    match d {
-        Declared::Parameter(p) => {
-            add_of_sort(alloc, list, types, m, declarations, &p.name.text, sort)
-        }
-        Declared::Object(o) => {
-            add_of_sort(alloc, list, types, m, declarations, &o.name.text, sort)
-        }
-        _ => Ok(()),
-    }
-}
-
-// Adds the tables of lines of a machine, which are among these of what it declares.
-fn add_tables<'a>(
-    alloc: Global,
-    list: &mut Seq<TableSymbol>,
-    types: &TypeNumbers<'a>,
-    m: &'a Machine,
-    declarations: &[Declared<'a>],
-) -> Result<(), NoMemory>
-    requires types { AreNumbered types.now }
-    requires declarations { declarations_of declarations.now ≡ machine_declarations m.now }
-    ensures { OnOk result (list.new ≡ list.old ++ flat_map (table_symbol (trees_of types.now) m.now) (declarations_of declarations.now)) }
-{
-    for d in declarations {
-        add_table(alloc, list, types, m, declarations, *d)?;
-    }
-    Ok(())
-}
-
-/// The tables of lines of a machine that declares this, by the tables' numbers.
-pub fn tables_of<'a>(
-    alloc: Global,
-    types: &TypeNumbers<'a>,
-    m: &'a Machine,
-    declarations: &[Declared<'a>],
-) -> Result<Seq<TableSymbol>, NoMemory>
-    requires types { AreNumbered types.now }
-    requires declarations { declarations_of declarations.now ≡ machine_declarations m.now }
-    ensures { IfOk result (λ list. list ≡ flat_map (table_symbol (trees_of types.now) m.now) (machine_declarations m.now)) }
-{
-    let mut list = Seq::new(alloc);
-    add_tables(alloc, &mut list, types, m, declarations)?;
-    Ok(list)
+    let sort = table_sort(t, pairs)?;
+    add_of_sort(alloc, list, types, m, declarations, name, sort)
 }

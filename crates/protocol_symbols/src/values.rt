@@ -1,23 +1,22 @@
 //! The parameters and objects of a machine that are values.
-ghost use Rattle.std.specs.Prelude.{◌≡◌, ◌++◌, IfOk, None, OnOk, flat_map, neg_ℤ, option_and_then};
+ghost use Rattle.std.specs.Prelude.{◌≡◌, ◌++◌, IfOk, None, OnOk, neg_ℤ, option_and_then};
 ghost use Rattle.std.specs.Option.{option_copied, option_map};
 ghost use Rattle.ruby_value.specs.declared.value.Value.TheVariants as value;
-ghost use Rattle.slicc_plan.specs.Declarations.{machine_declarations};
-ghost use Rattle.slicc_plan.specs.MachineValues.{literal_value, value_in, value_of_kind, value_of_type, values_of, written_value};
+ghost use Rattle.slicc_plan.specs.MachineValues.{literal_value, value_of_kind, value_of_type, written_value};
 ghost use Rattle.slicc_plan.specs.TypeNumbers.{plain_kind};
-ghost use Rattle.declared_types.specs.Lent.{declaration_of, declarations_of, type_of};
+ghost use Rattle.declared_types.specs.Lent.{type_of};
 ghost use Rattle.type_numbers.specs.Numbered.{AreNumbered, trees_of};
 
 use crate::structures::field_with;
 use declaration_rules::is_built_in;
-use declared_types::{Declared, KnownType, Scope};
+use declared_types::KnownType;
 use ruby_base::{NoMemory, Seq};
 use ruby_symbols::FieldSymbol;
 use ruby_value::{Kind, Value, default_of};
-use slicc_ast::tree::{Literal, Machine};
+use slicc_ast::tree::Literal;
 use slicc_plan::BuiltInType;
 use std::alloc::Global;
-use type_numbers::{TypeNumbers, plain_kind, type_in};
+use type_numbers::{TypeNumbers, plain_kind};
 
 fn negated(n: i64) -> Result<Value, NoMemory>
     ensures { IfOk result (λ v. v ≡ value.Int (neg_ℤ n)) }
@@ -107,17 +106,18 @@ fn add_of_kind(
     list.push(field_with(alloc, name, kind, initial)?)
 }
 
-fn kind_of<'a>(types: &TypeNumbers<'a>, t: Option<KnownType<'a>>) -> Result<Option<Kind>, NoMemory>
+fn kind_of(types: &TypeNumbers<'_>, t: Option<KnownType<'_>>) -> Option<Kind>
     requires { AreNumbered types.now }
-    ensures { IfOk result (λ k. k ≡ option_and_then (plain_kind (trees_of types.now)) (option_map type_of t.entry)) }
+    ensures { result ≡ option_and_then (plain_kind (trees_of types.now)) (option_map type_of t.entry) }
 {
     match t {
-        None => Ok(None),
+        None => None,
         Some(t) => plain_kind(types, t),
     }
 }
 
-fn add_of_type<'a>(
+/// Adds a parameter or an object of this name and type, if it is a value.
+pub fn add_value<'a>(
     alloc: Global,
     list: &mut Seq<FieldSymbol>,
     types: &TypeNumbers<'a>,
@@ -128,70 +128,6 @@ fn add_of_type<'a>(
     requires { AreNumbered types.now }
     ensures { OnOk result (list.new ≡ list.old ++ value_of_type (trees_of types.now) name.now (option_map type_of t.entry) (option_copied literal.entry)) }
 {
-    let kind = kind_of(types, t)?;
+    let kind = kind_of(types, t);
     add_of_kind(alloc, list, name, t, literal, kind)
-}
-
-fn add_value<'a>(
-    alloc: Global,
-    list: &mut Seq<FieldSymbol>,
-    types: &TypeNumbers<'a>,
-    m: &'a Machine,
-    d: Declared<'a>,
-) -> Result<(), NoMemory>
-    requires { AreNumbered types.now }
-    ensures { OnOk result (list.new ≡ list.old ++ value_in (trees_of types.now) m.now (declaration_of d.entry)) }
-{
-    match d {
-        Declared::Parameter(p) => add_of_type(
-            alloc,
-            list,
-            types,
-            &p.name.text,
-            type_in(&types.scopes, Scope::Within(m), &p.kind.text),
-            p.literal.as_ref(),
-        ),
-        Declared::Object(o) => add_of_type(
-            alloc,
-            list,
-            types,
-            &o.name.text,
-            type_in(&types.scopes, Scope::Within(m), &o.kind.text),
-            None,
-        ),
-        _ => Ok(()),
-    }
-}
-
-// Adds the values among what a machine declares.
-fn add_values<'a>(
-    alloc: Global,
-    list: &mut Seq<FieldSymbol>,
-    types: &TypeNumbers<'a>,
-    m: &'a Machine,
-    declarations: &[Declared<'a>],
-) -> Result<(), NoMemory>
-    requires { AreNumbered types.now }
-    ensures { OnOk result (list.new ≡ list.old ++ flat_map (value_in (trees_of types.now) m.now) (declarations_of declarations.now)) }
-{
-    for d in declarations {
-        add_value(alloc, list, types, m, *d)?;
-    }
-    Ok(())
-}
-
-/// The values of a machine that declares this, by the numbers of their fields.
-pub fn values_of<'a>(
-    alloc: Global,
-    types: &TypeNumbers<'a>,
-    m: &'a Machine,
-    declarations: &[Declared<'a>],
-) -> Result<Seq<FieldSymbol>, NoMemory>
-    requires types { AreNumbered types.now }
-    requires declarations { declarations_of declarations.now ≡ machine_declarations m.now }
-    ensures { IfOk result (λ list. list ≡ values_of (trees_of types.now) m.now) }
-{
-    let mut list = Seq::new(alloc);
-    add_values(alloc, &mut list, types, m, declarations)?;
-    Ok(list)
 }

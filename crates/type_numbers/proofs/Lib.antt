@@ -1,2 +1,5 @@
 pub mod DefaultWords
 pub mod Lists
+mod DefaultMembers
+pub mod FieldKinds
+pub mod AllPorts

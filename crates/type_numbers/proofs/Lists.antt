@@ -1,11 +1,12 @@
 -- Lists of what is seen, and the parts of what a machine declares.
-use Rattle.std.proofs.Common.{◌≡◌, ◌++◌, ◌+◌, Bool, not, cond, Option, List, [], ◌∷◌, filter, flat_map, map, refl, sym, ◌∙◌, ap}
-use Rattle.std.specs.Prelude.{find, position}
+use Rattle.std.proofs.Common.{◌≡◌, ◌++◌, ◌+◌, ◌<◌, ℕ, Bool, Bor, not, cond, length, Option, None, Some, List, [], ◌∷◌, filter, flat_map, map, refl, sym, ◌∙◌, ap}
+use Rattle.std.specs.Prelude.{IfSome, find, position}
 use Rattle.std.specs.Option.{option_or}
 use Rattle.std.proofs.lemmas.List.Folds.{find-append}
 use Rattle.std.specs.List.{prefix_len}
 use Rattle.std.proofs.lemmas.List.Elements.{filter-append}
 use Rattle.std.proofs.lemmas.List.{length-map, map-append}
+use Rattle.std.proofs.lemmas.List.Quantifiers.{position-Some}
 use Rattle.slicc_ast.specs.declared.tree.machine.Machine.{Machine}
 use Rattle.slicc_ast.specs.declared.tree.machine.Parameter.{Parameter}
 use Rattle.slicc_plan.specs.Declarations.{machine, named_declarations, parameter, within}
@@ -55,3 +56,13 @@ from_nothing f new old more e g = g ∙ ap (λ xs. map f xs ++ more) e
 
 pub found_first : {X : Type 0} (p : X → Bool) (xs ys : List X) (o : Option X) → o ≡ find p xs → option_or o (find p ys) ≡ find p (xs ++ ys)
 found_first p xs ys o e = ap (λ q. option_or q (find p ys)) e ∙ sym (find-append p xs ys)
+
+-- a place that is found is one of the list
+pub position_within : {X : Type 0} (p : X → Bool) (xs : List X) (o : Option ℕ) → o ≡ position p xs → IfSome o (λ n. n < length xs)
+position_within p xs None e = tt
+position_within p [] (Some n) e = absurd (cc e)
+position_within p (x ∷ xs) (Some n) e = (position-Some p (x ∷ xs) n x (sym e)).0
+
+pub machine_texts : (ms : List (Bor Machine)) → map (λ (m : Bor Machine). m.now.name.text) ms ≡ map (λ (m : Machine). m.name.text) (map (λ (m : Bor Machine). m.now) ms)
+machine_texts [] = refl
+machine_texts (m ∷ ms) = ap (λ (texts : List (List ℕ)). m.now.name.text ∷ texts) (machine_texts ms)

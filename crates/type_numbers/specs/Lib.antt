@@ -1,2 +1,4 @@
 pub mod Fields
+pub mod MessageTypes
 pub mod Numbered
+pub mod Ports

@@ -1,8 +1,8 @@
 //! What is declared right in a machine, and what the names of types stand for there.
-ghost use Rattle.std.specs.Prelude.{◌≡◌, ◌++◌, IfOk, OnOk, find, flat_map, map};
+ghost use Rattle.std.specs.Prelude.{◌≡◌, ◌++◌, IfOk, OnOk, Some, find, flat_map, map};
 ghost use Rattle.std.specs.Option.{option_map};
 ghost use Rattle.slicc_plan.specs.Buffers.{listed};
-ghost use Rattle.slicc_plan.specs.Declarations.{first_named, function_name, is_named, machine_declarations, named_declarations, parameter};
+ghost use Rattle.slicc_plan.specs.Declarations.{first_named, function_name, is_named, machine_declarations, name_of, named_declarations, parameter};
 ghost use Rattle.slicc_plan.specs.Types.{type_in};
 ghost use Rattle.declared_types.specs.Lent.{declaration_of, declarations_of, scope_of, type_of};
 
@@ -37,21 +37,27 @@ fn function_name(f: &Function) -> &Name
     }
 }
 
+fn name_of<'a>(d: Declared<'a>) -> &'a Name
+    ensures { Some result.now ≡ name_of (declaration_of d.entry) }
+{
+    match d {
+        Declared::Machine(m) => &m.name,
+        Declared::Enumeration(e) => &e.name,
+        Declared::Structure(s) => &s.name,
+        Declared::States(s) => &s.name,
+        Declared::Parameter(p) => &p.name,
+        Declared::Object(o) => &o.name,
+        Declared::OutPort(p) => &p.name,
+        Declared::InPort(p) => &p.name,
+        Declared::Action(a) => &a.name,
+        Declared::Function(f) => function_name(f),
+    }
+}
+
 fn bears(d: Declared<'_>, name: &[u8]) -> bool
     ensures { result ≡ is_named name.now (declaration_of d.entry) }
 {
-    match d {
-        Declared::Machine(m) => m.name.text.as_slice() == name,
-        Declared::Enumeration(e) => e.name.text.as_slice() == name,
-        Declared::Structure(s) => s.name.text.as_slice() == name,
-        Declared::States(s) => s.name.text.as_slice() == name,
-        Declared::Parameter(p) => p.name.text.as_slice() == name,
-        Declared::Object(o) => o.name.text.as_slice() == name,
-        Declared::OutPort(p) => p.name.text.as_slice() == name,
-        Declared::InPort(p) => p.name.text.as_slice() == name,
-        Declared::Action(a) => a.name.text.as_slice() == name,
-        Declared::Function(f) => function_name(f).text.as_slice() == name,
-    }
+    name_of(d).text.as_slice() == name
 }
 
 fn first_parameter<'a>(parameters: &'a [Parameter], name: &[u8]) -> Option<&'a Parameter>

@@ -1,19 +1,19 @@
 //! The default members of enumerations.
-ghost use Rattle.std.specs.Prelude.{◌≡◌, IfOk, codes, map, unwrap_or};
+ghost use Rattle.std.specs.Prelude.{◌≡◌, IfOk, codes, map, slice_get, unwrap_or};
 ghost use Rattle.slicc_ast.specs.declared.tree.declaration.State.{State as StateRecord};
 ghost use Rattle.slicc_ast.specs.declared.tree.declaration.Symbol.{Symbol as SymbolRecord};
 ghost use Rattle.slicc_plan.specs.Attributes.{first_attribute};
-ghost use Rattle.slicc_plan.specs.TypeNumbers.{default_member, default_number, own_default};
-ghost use Rattle.declared_types.specs.Lent.{declaration_of, scope_of, type_of};
-ghost use Rattle.type_numbers.specs.Numbered.{AreNumbered, trees_of};
+ghost use Rattle.slicc_plan.specs.TypeNumbers.{declared_enumerations, default_number, own_default};
+ghost use Rattle.declared_types.specs.Lent.{declaration_of, scope_of};
+ghost use Rattle.type_numbers.specs.Numbered.{AreNumbered, default_of, scoped_of, trees_of};
 
 use crate::members::{state_number, symbol_number};
-use crate::numbering::TypeNumbers;
-use crate::numbers::found_among;
-use declared_types::{Declared, KnownType, Scope, first_attribute};
+use crate::numbering::{Scoped, TypeNumbers};
+use declared_types::{Declared, Scope, first_attribute};
 use machine_table::kept_number;
-use ruby_base::NoMemory;
+use ruby_base::{NoMemory, Seq};
 use slicc_ast::tree::{Enumeration, States};
+use std::alloc::Global;
 
 /// The number, or another where there is none.
 pub fn kept_or(place: Option<usize>, other: u16) -> Result<u16, NoMemory>
@@ -61,13 +61,24 @@ pub fn own_default(scope: Scope<'_>, d: Declared<'_>) -> Result<u16, NoMemory>
     }
 }
 
-/// The number of the default member of a type that a protocol declares.
-pub fn default_member(types: &TypeNumbers<'_>, t: KnownType<'_>) -> Result<u16, NoMemory>
-    requires { AreNumbered types.now }
-    ensures { IfOk result (λ number. number ≡ default_member (trees_of types.now) (type_of t.entry)) }
+/// The numbers of the default members of enumerations.
+pub fn defaults_of(alloc: Global, enumerations: &[Scoped<'_>]) -> Result<Seq<u16>, NoMemory>
+    ensures { IfOk result (λ list. list ≡ map default_of (map scoped_of enumerations.now)) }
 {
-    match found_among(&types.enumerations, t) {
-        None => Ok(0),
-        Some(d) => own_default(d.scope, d.declaration),
+    let mut list = Seq::new(alloc);
+    for d in enumerations {
+        list.push(own_default(d.scope, d.declaration)?)?;
+    }
+    Ok(list)
+}
+
+/// The number of the default member of the enumeration at a place.
+pub fn default_at(types: &TypeNumbers<'_>, place: usize) -> u16
+    requires { AreNumbered types.now }
+    ensures { result ≡ unwrap_or (slice_get (map default_of (declared_enumerations (trees_of types.now))) place) 0 }
+{
+    match types.defaults.get(place) {
+        None => 0,
+        Some(number) => *number,
     }
 }

@@ -1,22 +1,22 @@
 //! The values that fields have before anything is written to them.
-ghost use Rattle.std.specs.Prelude.{◌≡◌, IfOk, map, pos, unwrap_or};
+ghost use Rattle.std.specs.Prelude.{◌≡◌, IfOk, pos, unwrap_or};
 ghost use Rattle.std.specs.Option.{option_map};
 ghost use Rattle.ruby_value.specs.DefaultValue.{default_value};
 ghost use Rattle.slicc_plan.specs.Attributes.{number_value};
-ghost use Rattle.slicc_plan.specs.InitialFields.{initial_value, value_by, value_written};
+ghost use Rattle.slicc_plan.specs.InitialFields.{field_kind, initial_of, value_by, value_written};
 ghost use Rattle.declared_types.specs.Attributes.{attribute_of};
 ghost use Rattle.declared_types.specs.Lent.{type_of};
 ghost use Rattle.type_numbers.specs.Fields.{field_seen};
 ghost use Rattle.type_numbers.specs.Numbered.{AreNumbered, trees_of};
 
 use crate::defaults::kept_or;
-use crate::fields::{Field, field_kind, field_type};
+use crate::fields::Field;
 use crate::members::member_written;
 use crate::numbering::TypeNumbers;
 use declaration_rules::number_value;
 use declared_types::{Attribute, KnownType, first_attribute, is_word};
 use ruby_base::NoMemory;
-use ruby_value::{Fields, Kind, Value, default_of};
+use ruby_value::{Kind, Value, default_of};
 use slicc_ast::tree::PairValue;
 use std::alloc::Global;
 
@@ -82,17 +82,19 @@ fn value_by(
     }
 }
 
-/// The value that a field has before anything is written to it.
+/// The value that a field has before anything is written to it, where this is its type and its kind.
 pub fn initial_value<'a>(
     alloc: Global,
     types: &TypeNumbers<'a>,
     f: Field<'a>,
+    t: Option<KnownType<'a>>,
+    k: Kind,
 ) -> Result<Value, NoMemory>
-    requires { AreNumbered types.now }
-    ensures { IfOk result (λ v. v ≡ initial_value (trees_of types.now) (field_seen f.entry)) }
+    requires types { AreNumbered types.now }
+    requires kind { k ≡ field_kind (trees_of types.now) (field_seen f) }
+    ensures { IfOk result (λ v. v ≡ initial_of (trees_of types.now) (field_seen f.entry) (option_map type_of t.entry)) }
 {
-    let k = field_kind(types, f)?;
-    match field_type(types, f) {
+    match t {
         None => default_of(alloc, &k),
         Some(t) => value_by(
             alloc,
@@ -103,20 +105,4 @@ pub fn initial_value<'a>(
             first_attribute(f.pairs, b"default"),
         ),
     }
-}
-
-/// The values that fields have before anything is written to them.
-pub fn initial_fields<'a>(
-    alloc: Global,
-    types: &TypeNumbers<'a>,
-    fields: &[Field<'a>],
-) -> Result<Fields, NoMemory>
-    requires { AreNumbered types.now }
-    ensures { IfOk result (λ values. values ≡ map (initial_value (trees_of types.now)) (map field_seen fields.now)) }
-{
-    let mut values = Vec::new(alloc);
-    for f in fields {
-        values.push(initial_value(alloc, types, *f)?)?;
-    }
-    Ok(Fields::of(values))
 }

@@ -1,16 +1,15 @@
 //! The kinds of values that are no references.
-ghost use Rattle.std.specs.Prelude.{◌≡◌, IfOk, codes};
+ghost use Rattle.std.specs.Prelude.{◌≡◌, option_and_then};
 ghost use Rattle.std.specs.Option.{option_map};
 ghost use Rattle.ruby_value.specs.declared.kind.Kind.TheVariants as kind;
-ghost use Rattle.slicc_plan.specs.TypeNumbers.{built_in_kind, declared_number, default_member, plain_kind};
+ghost use Rattle.slicc_plan.specs.TypeNumbers.{built_in_kind, declared_number, default_member, kind_or_bool, plain_kind};
 ghost use Rattle.declared_types.specs.Lent.{type_of};
 ghost use Rattle.type_numbers.specs.Numbered.{AreNumbered, trees_of};
 
-use crate::defaults::default_member;
+use crate::defaults::default_at;
 use crate::numbering::TypeNumbers;
-use crate::numbers::declared_number;
+use crate::numbers::place_among;
 use declared_types::KnownType;
-use ruby_base::NoMemory;
 use ruby_value::Kind;
 use slicc_plan::BuiltInType;
 
@@ -39,25 +38,39 @@ fn built_in_kind(b: BuiltInType) -> Option<Kind>
     }
 }
 
-fn declared_kind(types: &TypeNumbers<'_>, t: KnownType<'_>) -> Result<Option<Kind>, NoMemory>
+#[tactic(auto, using(crate::proofs::DefaultMembers::default_there))]
+fn declared_kind(types: &TypeNumbers<'_>, t: KnownType<'_>) -> Option<Kind>
     requires { AreNumbered types.now }
-    ensures { IfOk result (λ k. k ≡ option_map (λ number. kind.Enum number (default_member (trees_of types.now) (type_of t.entry))) (declared_number (trees_of types.now) (type_of t.entry))) }
+    ensures { result ≡ option_map (λ number. kind.Enum number (default_member (trees_of types.now) (type_of t.entry))) (declared_number (trees_of types.now) (type_of t.entry)) }
 {
-    let member = default_member(types, t)?;
-    match declared_number(types, t)? {
-        None => Ok(None),
-        Some(number) => Ok(Some(Kind::Enum(number, member))),
+    match place_among(&types.enumerations, t) {
+        None => None,
+        Some(place) => Some(Kind::Enum((place + 4) as u16, default_at(types, place))),
     }
 }
 
 /// The kind of a type's values, where they are no references.
-pub fn plain_kind(types: &TypeNumbers<'_>, t: KnownType<'_>) -> Result<Option<Kind>, NoMemory>
+pub fn plain_kind(types: &TypeNumbers<'_>, t: KnownType<'_>) -> Option<Kind>
     requires { AreNumbered types.now }
-    ensures { IfOk result (λ k. k ≡ plain_kind (trees_of types.now) (type_of t.entry)) }
+    ensures { result ≡ plain_kind (trees_of types.now) (type_of t.entry) }
 {
     match t {
-        KnownType::BuiltIn(b) => Ok(built_in_kind(b)),
+        KnownType::BuiltIn(b) => built_in_kind(b),
         KnownType::Enumeration(..) | KnownType::States(..) => declared_kind(types, t),
-        KnownType::Structure(..) => Ok(None),
+        KnownType::Structure(..) => None,
+    }
+}
+
+/// The kind of the values of what may be a type; that of booleans where there is none, as for no field of an accepted protocol.
+pub fn kind_or_bool(types: &TypeNumbers<'_>, t: Option<KnownType<'_>>) -> Kind
+    requires { AreNumbered types.now }
+    ensures { result ≡ kind_or_bool (option_and_then (plain_kind (trees_of types.now)) (option_map type_of t.entry)) }
+{
+    let Some(t) = t else {
+        return Kind::Bool;
+    };
+    match plain_kind(types, t) {
+        None => Kind::Bool,
+        Some(k) => k,
     }
 }

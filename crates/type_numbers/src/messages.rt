@@ -6,7 +6,7 @@ ghost use Rattle.slicc_plan.specs.InitialFields.{field_kinds, message_kinds, req
 ghost use Rattle.declared_types.specs.Lent.{scope_of, type_of};
 ghost use Rattle.type_numbers.specs.Numbered.{AreNumbered, trees_of};
 
-use crate::fields::{field_kinds, structure_fields};
+use crate::fields::{kinds_of, structure_fields};
 use crate::numbering::TypeNumbers;
 use declared_types::{KnownType, Scope};
 use ruby_base::{NoMemory, Seq};
@@ -15,8 +15,8 @@ use slicc_ast::tree::Structure;
 use slicc_plan::BuiltInType;
 use std::alloc::Global;
 
-/// The kinds of the fields of a structure that is declared in a scope.
-pub fn structure_kinds<'a>(
+// The kinds of the fields of a structure that is declared in a scope.
+fn structure_kinds<'a>(
     alloc: Global,
     types: &TypeNumbers<'a>,
     scope: Scope<'a>,
@@ -25,8 +25,8 @@ pub fn structure_kinds<'a>(
     requires { AreNumbered types.now }
     ensures { IfOk result (λ kinds. kinds ≡ field_kinds (trees_of types.now) (scope_of scope.entry) s.now) }
 {
-    let fields = structure_fields(alloc, scope, s)?;
-    field_kinds(alloc, types, &fields)
+    let fields = structure_fields(alloc, types, scope, s)?;
+    kinds_of(alloc, &fields)
 }
 
 // The kinds of the fields of `RubyRequest`.

@@ -1,11 +1,12 @@
 //! The enumerations and structures of a protocol, in the order of their numbers.
-ghost use Rattle.std.specs.Prelude.{◌≡◌, ◌++◌, [], ◌∷◌, IfOk, OnOk, filter, flat_map, map};
+ghost use Rattle.std.specs.Prelude.{◌≡◌, ◌≤◌, ◌++◌, [], ◌∷◌, IfOk, OnOk, filter, flat_map, length, map};
 ghost use Rattle.slicc_plan.specs.Declarations.{machine, named_declarations, within};
 ghost use Rattle.slicc_plan.specs.TypeNumbers.{made_in, made_with_its_own, scoped_declarations};
 ghost use Rattle.declared_types.specs.Lent.{declaration_of, declarations_of, scope_of};
-ghost use Rattle.type_numbers.specs.Numbered.{AreNumbered, has_sort, is_of_sort, scoped_of, trees_of};
+ghost use Rattle.type_numbers.specs.Numbered.{AreLists, AreNumbered, has_sort, is_of_sort, scoped_of, trees_of};
 
 use crate::declarations::declared;
+use crate::defaults::defaults_of;
 use declared_types::{Declared, Scope, Scopes, is_external};
 use machine_table::machines;
 use ruby_base::{NoMemory, Seq};
@@ -36,6 +37,17 @@ pub struct TypeNumbers<'a> {
     pub enumerations: Seq<Scoped<'a>>,
     /// The structures that aren't external.
     pub structures: Seq<Scoped<'a>>,
+    /// The number of each enumeration's default member.
+    pub defaults: Seq<u16>,
+}
+
+// The lists of these types, before they are put beside their scopes.
+#[derive(Drop)]
+struct Lists<'a> {
+    machines: Seq<&'a Machine>,
+    enumerations: Seq<Scoped<'a>>,
+    structures: Seq<Scoped<'a>>,
+    defaults: Seq<u16>,
 }
 
 fn is_of_sort(sort: TypeSort, d: Declared<'_>) -> bool
@@ -149,18 +161,50 @@ fn types_of_sort<'a>(
     Ok(list)
 }
 
+// The same, where there are no more than numbers of 16 bits hold. A protocol has fewer.
+fn few_of_sort<'a>(
+    alloc: Global,
+    scopes: &Scopes<'a>,
+    sort: TypeSort,
+) -> Result<Seq<Scoped<'a>>, NoMemory>
+    ensures types { IfOk result (λ list. map scoped_of list ≡ filter (has_sort sort) (scoped_declarations scopes.now.trees.now)) }
+    ensures few { IfOk result (λ list. length list ≤ 65000) }
+{
+    let list = types_of_sort(alloc, scopes, sort)?;
+    if list.len() > 65_000 {
+        return Err(NoMemory);
+    }
+    Ok(list)
+}
+
+fn lists_of<'a>(alloc: Global, scopes: &Scopes<'a>) -> Result<Lists<'a>, NoMemory>
+    ensures { IfOk result (AreLists scopes.now.trees.now) }
+{
+    let structures = few_of_sort(alloc, scopes, TypeSort::Structure)?;
+    let machines = machines(alloc, scopes.trees)?;
+    let enumerations = few_of_sort(alloc, scopes, TypeSort::Enumeration)?;
+    let defaults = defaults_of(alloc, &enumerations)?;
+    Ok(Lists {
+        machines,
+        enumerations,
+        structures,
+        defaults,
+    })
+}
+
 /// The types of the protocol of these scopes.
 pub fn number_types<'a>(alloc: Global, scopes: Scopes<'a>) -> Result<TypeNumbers<'a>, NoMemory>
     ensures trees { IfOk result (λ types. trees_of types ≡ scopes.entry.trees.now) }
     ensures numbered { IfOk result (λ types. AreNumbered types) }
 {
-    let enumerations = types_of_sort(alloc, &scopes, TypeSort::Enumeration)?;
-    let structures = types_of_sort(alloc, &scopes, TypeSort::Structure)?;
-    let machines = machines(alloc, scopes.trees)?;
-    Ok(TypeNumbers {
-        scopes,
-        machines,
-        enumerations,
-        structures,
-    })
+    match lists_of(alloc, &scopes) {
+        Err(e) => Err(e),
+        Ok(lists) => Ok(TypeNumbers {
+            scopes,
+            machines: lists.machines,
+            enumerations: lists.enumerations,
+            structures: lists.structures,
+            defaults: lists.defaults,
+        }),
+    }
 }

@@ -1,7 +1,6 @@
 //! The numbers of declared types.
-ghost use Rattle.std.specs.Prelude.{◌≡◌, IfOk, find, map, position};
-ghost use Rattle.std.specs.Option.{option_map};
-ghost use Rattle.slicc_plan.specs.TypeNumbers.{declared_number, declares, parameters_number, request_number, structure_number};
+ghost use Rattle.std.specs.Prelude.{◌≡◌, ◌<◌, ◌≤◌, IfOk, IfSome, length, map, position};
+ghost use Rattle.slicc_plan.specs.TypeNumbers.{declared_number, declared_structures, declares, parameters_number, request_number, structure_number};
 ghost use Rattle.slicc_plan.specs.Types.{structured};
 ghost use Rattle.declared_types.specs.Lent.{scope_of, type_of};
 ghost use Rattle.type_numbers.specs.declared.numbering.Scoped.{Scoped as ScopedLent};
@@ -30,23 +29,12 @@ fn first_declaring(list: &[Scoped<'_>], t: KnownType<'_>) -> Option<usize>
     list.iter().position(|d| declares(t, d))
 }
 
-// The place of the first of these declarations that declares a type.
-fn place_among(list: &[Scoped<'_>], t: KnownType<'_>) -> Option<usize>
-    ensures { result ≡ position (declares (type_of t.entry)) (map scoped_of list.now) }
+/// The place of the first of these declarations that declares a type.
+pub fn place_among(list: &[Scoped<'_>], t: KnownType<'_>) -> Option<usize>
+    ensures place { result ≡ position (declares (type_of t.entry)) (map scoped_of list.now) }
+    ensures within { IfSome result (λ n. n < length list.now) }
 {
     first_declaring(list, t)
-}
-
-/// The first of these declarations that declares a type.
-pub fn found_among<'a>(list: &[Scoped<'a>], t: KnownType<'_>) -> Option<Scoped<'a>>
-    ensures { option_map scoped_of result ≡ find (declares (type_of t.entry)) (map scoped_of list.now) }
-{
-    for d in list {
-        if declares(t, d) {
-            return Some(*d);
-        }
-    }
-    None
 }
 
 /// A number, where there is one, as one that setups keep. A protocol has fewer of all that is numbered than they have numbers.
@@ -60,49 +48,54 @@ pub fn kept(place: Option<usize>) -> Result<Option<u16>, NoMemory>
 }
 
 /// The number of an enumeration or of a state declaration.
-pub fn declared_number(types: &TypeNumbers<'_>, t: KnownType<'_>) -> Result<Option<u16>, NoMemory>
+pub fn declared_number(types: &TypeNumbers<'_>, t: KnownType<'_>) -> Option<u16>
     requires { AreNumbered types.now }
-    ensures { IfOk result (λ number. number ≡ declared_number (trees_of types.now) (type_of t.entry)) }
+    ensures { result ≡ declared_number (trees_of types.now) (type_of t.entry) }
 {
     match place_among(&types.enumerations, t) {
-        None => Ok(None),
-        Some(n) => {
-            let place = kept_number(n)?;
-            Ok(Some(kept_number(place as usize + 4)?))
-        }
+        None => None,
+        Some(n) => Some((n + 4) as u16),
     }
 }
 
 /// The number of a structure.
-pub fn structure_number(
-    types: &TypeNumbers<'_>,
-    scope: Scope<'_>,
-    s: &Structure,
-) -> Result<Option<u16>, NoMemory>
+pub fn structure_number(types: &TypeNumbers<'_>, scope: Scope<'_>, s: &Structure) -> Option<u16>
     requires { AreNumbered types.now }
-    ensures { IfOk result (λ number. number ≡ structure_number (trees_of types.now) (structured (scope_of scope.entry) s.now)) }
+    ensures { result ≡ structure_number (trees_of types.now) (structured (scope_of scope.entry) s.now) }
 {
-    kept(place_among(&types.structures, KnownType::Structure(scope, s)))
+    match place_among(&types.structures, KnownType::Structure(scope, s)) {
+        None => None,
+        Some(n) => Some(n as u16),
+    }
 }
 
-fn request_number(types: &TypeNumbers<'_>, b: BuiltInType) -> Result<Option<u16>, NoMemory>
+// The number of the built-in structure, which comes after those that are declared.
+fn last_number(types: &TypeNumbers<'_>) -> u16
     requires { AreNumbered types.now }
-    ensures { IfOk result (λ number. number ≡ request_number (trees_of types.now) b) }
+    ensures value { result ≡ length (declared_structures (trees_of types.now)) }
+    ensures bound { result ≤ 65000 }
+{
+    types.structures.len() as u16
+}
+
+fn request_number(types: &TypeNumbers<'_>, b: BuiltInType) -> Option<u16>
+    requires { AreNumbered types.now }
+    ensures { result ≡ request_number (trees_of types.now) b }
 {
     match b {
-        BuiltInType::Request => kept(Some(types.structures.len())),
-        _ => Ok(None),
+        BuiltInType::Request => Some(last_number(types)),
+        _ => None,
     }
 }
 
 /// The number of the structure that a type is, where it is one.
-pub fn type_number<'a>(types: &TypeNumbers<'a>, t: KnownType<'a>) -> Result<Option<u16>, NoMemory>
+pub fn type_number<'a>(types: &TypeNumbers<'a>, t: KnownType<'a>) -> Option<u16>
     requires { AreNumbered types.now }
-    ensures { IfOk result (λ number. number ≡ structure_number (trees_of types.now) (type_of t.entry)) }
+    ensures { result ≡ structure_number (trees_of types.now) (type_of t.entry) }
 {
     match t {
         KnownType::BuiltIn(b) => request_number(types, b),
-        KnownType::Enumeration(..) | KnownType::States(..) => Ok(None),
+        KnownType::Enumeration(..) | KnownType::States(..) => None,
         KnownType::Structure(scope, s) => structure_number(types, scope, s),
     }
 }
@@ -112,6 +105,5 @@ pub fn parameters_number(types: &TypeNumbers<'_>, machine: u16) -> Result<u16, N
     requires { AreNumbered types.now }
     ensures { IfOk result (λ number. number ≡ parameters_number (trees_of types.now) machine) }
 {
-    let structures = kept_number(types.structures.len())?;
-    kept_number(structures as usize + 1 + machine as usize)
+    kept_number(last_number(types) as usize + 1 + machine as usize)
 }

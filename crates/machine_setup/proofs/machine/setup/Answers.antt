@@ -1,8 +1,14 @@
-use Rattle.std.proofs.Common.{List, Some, ap, ◌∙◌}
+use Rattle.std.proofs.Common.{List, Some, ap, subst, sym, ◌∙◌}
 use Rattle.std.specs.Option.{option_map}
 use Rattle.slicc_ast.specs.declared.tree.item.Tree.{Tree}
 use Rattle.slicc_plan.specs.Setups.{setup_in}
+use Rattle.machine_setup.specs.Seen.{IsOwn}
 use Rattle.machine_setup.proofs.machine.setup.Goals as goal
+
+pub setup_in-requires-clause-own : goal.setup_in-requires-clause-own
+setup_in-requires-clause-own c =
+    subst (λ (trees : List Tree). IsOwn trees c.in-Some.m.now c.in-Some-own_symbols.own.now)
+    (sym (c.in_ok-types.ensures.trees ∙ c.in_ok-scopes.ensures ∙ c.trees.ensures.trees)) c.in-Some-own_symbols.ensures
 
 pub returns : goal.returns
 returns c =

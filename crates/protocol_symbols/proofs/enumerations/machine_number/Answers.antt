@@ -7,7 +7,7 @@ use Rattle.protocol_symbols.proofs.enumerations.machine_number.Goals as goal
 
 pub returns : goal.returns
 returns c =
-    c.machine_place.ensures
+    c.place_named.ensures
     ∙ ap (position (λ (m : Bor Machine). bytes_eq m.now.name.text c.args.name.now)) c.deref.ensures
     ∙ sym (position_map (λ (m : Machine). bytes_eq m.name.text c.args.name.now) (λ (m : Bor Machine). m.now) c.args.types.now.machines)
     ∙ ap (position (λ (m : Machine). bytes_eq m.name.text c.args.name.now)) c.requires.machines

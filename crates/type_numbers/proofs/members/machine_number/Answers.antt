@@ -1,13 +1,13 @@
-use Rattle.std.proofs.Common.{Bor, map, sym, ◌∙◌}
+use Rattle.std.proofs.Common.{Bor, List, ap, map, ◌∙◌}
 use Rattle.slicc_ast.specs.declared.tree.machine.Machine.{Machine}
 use Rattle.slicc_plan.specs.Declarations.{everywhere}
-use Rattle.slicc_plan.specs.TypeNumbers.{is_default_of}
-use Rattle.type_numbers.proofs.Lists.{position_map}
+use Rattle.slicc_plan.specs.TypeNumbers.{member_number}
+use Rattle.type_numbers.proofs.Lists.{machine_texts}
 use Rattle.type_numbers.proofs.members.machine_number.Goals as goal
 
 pub returns : goal.returns
 returns c =
-    let p = is_default_of everywhere c.args.own.now c.args.value.now in
-    c.machine_place.ensures
-    ∙ sym (position_map (λ (m : Machine). p m.name.text) (λ (m : Bor Machine). m.now) c.args.machines.now)
-    ∙ sym (position_map p (λ (m : Machine). m.name.text) (map (λ (m : Bor Machine). m.now) c.args.machines.now))
+    c.member_number.ensures
+    ∙ ap (λ (ms : List (Bor Machine)). member_number everywhere c.args.own.now (map (λ (m : Bor Machine). m.now.name.text) ms) c.args.value.now) c.deref.ensures
+    ∙ ap (λ names. member_number everywhere c.args.own.now names c.args.value.now) (machine_texts c.args.types.now.machines)
+    ∙ ap (λ (ms : List Machine). member_number everywhere c.args.own.now (map (λ (m : Machine). m.name.text) ms) c.args.value.now) c.requires.machines

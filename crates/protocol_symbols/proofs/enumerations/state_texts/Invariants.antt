@@ -1,7 +1,0 @@
-use Rattle.std.proofs.Common.{◌≡◌, map, take}
-use Rattle.slicc_ast.specs.declared.tree.declaration.State.{State}
-use Rattle.protocol_symbols.proofs.enumerations.state_texts.Given as goal
-
-abbrev pub invariant-loop-s : goal.invariant-loop-s
-invariant-loop-s l =
-    l.list ≡ map (λ (s : State). s.name.text) (take l.s-index l.members)

@@ -1,0 +1,133 @@
+//! What a machine declares between its braces that has a body, and its ports.
+ghost use Rattle.std.specs.Prelude.{◌≡◌, ◌++◌, [], ◌∷◌, IfOk, OnOk};
+ghost use Rattle.slicc_plan.specs.Declarations.{machine_declarations};
+ghost use Rattle.declared_types.specs.Lent.{declarations_of};
+ghost use Rattle.protocol_symbols.specs.Parts.{AddBody, AreBodies, AreBodiesOf};
+ghost use Rattle.type_numbers.specs.Numbered.{AreNumbered, trees_of};
+
+use crate::functions::add_function;
+use crate::ports::{add_on_buffer, kept_declaration};
+use declared_types::Declared;
+use ruby_base::{NoMemory, Seq, Text};
+use ruby_symbols::{ActionSymbol, BufferSymbol, FunctionSymbol, PortSymbol, buffer_among};
+use slicc_ast::tree::{Decl, Machine};
+use std::alloc::Global;
+use type_numbers::TypeNumbers;
+
+/// The ports of a machine, and what has a body.
+#[derive(Drop)]
+pub struct Bodies {
+    pub in_ports: Seq<PortSymbol>,
+    pub out_ports: Seq<PortSymbol>,
+    pub functions: Seq<FunctionSymbol>,
+    pub actions: Seq<ActionSymbol>,
+}
+
+fn add_action(
+    alloc: Global,
+    list: &mut Seq<ActionSymbol>,
+    name: &[u8],
+    number: usize,
+) -> Result<(), NoMemory>
+    ensures { OnOk result (list.new ≡ list.old ++ record { name = name.now; declaration = number } ∷ []) }
+{
+    let declaration = kept_declaration(number)?;
+    list.push(ActionSymbol {
+        name: Text::copied(alloc, name)?,
+        declaration,
+    })
+}
+
+// Adds the declaration of this number of a machine that declares this and has these buffers.
+fn add_body<'a>(
+    alloc: Global,
+    bodies: &mut Bodies,
+    types: &TypeNumbers<'a>,
+    m: &'a Machine,
+    declarations: &[Declared<'a>],
+    buffers: &[BufferSymbol],
+    number: usize,
+    d: &Decl,
+) -> Result<(), NoMemory>
+    requires types { AreNumbered types.now }
+    requires declarations { declarations_of declarations.now ≡ machine_declarations m.now }
+    ensures { OnOk result (AddBody (trees_of types.now) m.now buffers.now number d.now bodies.old bodies.new) }
+{
+    match d {
+        Decl::InPort(p) => {
+            let buffer = buffer_among(buffers, &p.buffer.text);
+            add_on_buffer(alloc, &mut bodies.in_ports, &p.name.text, number, buffer)?;
+            Ok(())
+        }
+        Decl::OutPort(p) => {
+            let buffer = buffer_among(buffers, &p.buffer.text);
+            add_on_buffer(alloc, &mut bodies.out_ports, &p.name.text, number, buffer)?;
+            Ok(())
+        }
+        Decl::Function(f) => {
+            add_function(
+                alloc,
+                &mut bodies.functions,
+                types,
+                m,
+                declarations,
+                number,
+                f,
+            )?;
+            Ok(())
+        }
+        Decl::Action(a) => {
+            add_action(alloc, &mut bodies.actions, &a.name.text, number)?;
+            Ok(())
+        }
+        _ => Ok(()),
+    }
+}
+
+fn bodies_among<'a>(
+    alloc: Global,
+    types: &TypeNumbers<'a>,
+    m: &'a Machine,
+    declarations: &[Declared<'a>],
+    buffers: &[BufferSymbol],
+    written: &[Decl],
+) -> Result<Bodies, NoMemory>
+    requires types { AreNumbered types.now }
+    requires declarations { declarations_of declarations.now ≡ machine_declarations m.now }
+    ensures { IfOk result (AreBodiesOf (trees_of types.now) m.now buffers.now written.now) }
+{
+    let mut bodies = Bodies {
+        in_ports: Seq::new(alloc),
+        out_ports: Seq::new(alloc),
+        functions: Seq::new(alloc),
+        actions: Seq::new(alloc),
+    };
+    for (number, d) in written.iter().enumerate() {
+        add_body(
+            alloc,
+            &mut bodies,
+            types,
+            m,
+            declarations,
+            buffers,
+            number,
+            d,
+        )?;
+    }
+    Ok(bodies)
+}
+
+/// The ports, functions and actions of a machine that declares this and has these buffers.
+pub fn bodies_of<'a>(
+    alloc: Global,
+    types: &TypeNumbers<'a>,
+    m: &'a Machine,
+    declarations: &[Declared<'a>],
+    buffers: &[BufferSymbol],
+) -> Result<Bodies, NoMemory>
+    requires types { AreNumbered types.now }
+    requires declarations { declarations_of declarations.now ≡ machine_declarations m.now }
+    ensures { IfOk result (AreBodies (trees_of types.now) m.now buffers.now) }
+{
+    bodies_among(alloc, types, m, declarations, buffers, &m.declarations)
+}

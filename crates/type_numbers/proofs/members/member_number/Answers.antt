@@ -1,0 +1,9 @@
+use Rattle.std.proofs.Common.{sym, ◌∙◌}
+use Rattle.slicc_plan.specs.TypeNumbers.{is_default_of}
+use Rattle.declared_types.specs.Lent.{scope_of}
+use Rattle.type_numbers.proofs.Lists.{position_map}
+use Rattle.type_numbers.proofs.members.member_number.Goals as goal
+
+pub returns : goal.returns
+returns g c =
+    c.member_place.ensures ∙ sym (position_map (is_default_of (scope_of c.args.scope) c.args.own.now c.args.value.now) g.T.Named.text c.args.members.now)
