@@ -5,15 +5,20 @@ use Rattle.std.proofs.Math.Seq.{take-suc}
 use Rattle.std.proofs.lemmas.Grind.{flat_map-append}
 use Rattle.std.specs.List.{flat_map}
 use Rattle.slicc_ast.specs.declared.tree.expression.Suffix.{Suffix}
+use Rattle.slicc_ast.specs.declared.tree.declaration.Pairs.{Pairs}
+use Rattle.slicc_ast.specs.declared.tree.name.Name.{Name}
+use Rattle.slicc_ast.specs.declared.tree.name.TypeName.{TypeName}
 use Rattle.slicc_ast.specs.declared.tree.span.Span.{Span}
 use Rattle.slicc_ast.specs.declared.tree.expression.Expr.{Expr, Row_of-Expr, end_of-Expr, more_of-Expr, items-the_row-Expr, Row_of-Operand, end_of-Operand, more_of-Operand, items-the_row-Operand, Row_of-Suffix, end_of-Suffix, more_of-Suffix, items-the_row-Suffix}
 use Rattle.slicc_ast.specs.declared.tree.statement.Block.{Block}
 use Rattle.slicc_ast.specs.declared.tree.statement.Stmt.{Stmt, Row_of-Stmt, end_of-Stmt, more_of-Stmt, items-the_row-Stmt}
+use Rattle.slicc_ast.specs.declared.tree.statement.Stmt.TheBlock as block
+use Rattle.slicc_ast.specs.declared.tree.statement.Stmt.TheViews as views
 use Rattle.slicc_ast.specs.declared.tree.statement.Stmt.TheViews.{the_lemmas}
 use Rattle.slicc_ast.specs.declared.tree.statement.If.{If, If', None', Some', Row_of-ElseIf, end_of-ElseIf, more_of-ElseIf, items-the_row-ElseIf, out-If}
 use Rattle.slicc_plan.specs.declared.part.Part.{Part}
 use Rattle.slicc_plan.specs.declared.part.Part.TheVariants.{Plain}
-use Rattle.slicc_plan.specs.BodyParts.{Names, arguments_parts, block_parts, expr_parts, if_parts, operands_parts, others_parts, row_parts, stmt_parts, suffix_parts, suffixes_parts}
+use Rattle.slicc_plan.specs.BodyParts.{Names, arguments_parts, block_parts, expr_parts, if_parts, operands_parts, optional_parts, others_parts, row_parts, stmt_parts, suffix_parts, suffixes_parts}
 use Rattle.body_parts.specs.Lists.{else_if_parts, operand_parts, receiver_at, suffix_list_parts}
 
 pub argument_rows : (names : Names) (n : _) (row : Row_of-Expr n) → arguments_parts names row ≡ flat_map (expr_parts names) (items-the_row-Expr n row)
@@ -35,6 +40,20 @@ suffix_rows names receiver place n (more_of-Suffix first row) = ap (λ parts. su
 pub stmt_rows : (names : Names) (n : _) (row : Row_of-Stmt n) → row_parts names row ≡ flat_map (stmt_parts names) (items-the_row-Stmt n row)
 stmt_rows names n end_of-Stmt = refl
 stmt_rows names n (more_of-Stmt first row) = ap (λ parts. stmt_parts names first ++ parts) (stmt_rows names _ row)
+
+statements_held : (statements : List Stmt) → items-the_row-Stmt _ (block.hidden-the_row-Stmt-0 statements) ≡ statements
+statements_held statements = search (rules, the_lemmas)
+
+held_parts : (names : Names) (statements : List Stmt) → row_parts names (block.hidden-the_row-Stmt-0 statements) ≡ flat_map (stmt_parts names) statements
+held_parts names statements =
+    stmt_rows names _ (block.hidden-the_row-Stmt-0 statements) ∙ ap (flat_map (stmt_parts names)) (statements_held statements)
+
+pub stmt_parts_of_Peek : (names : Names) (port : Name) (message : TypeName) (pairs : Pairs) (body : Block) (span : Span) → stmt_parts names (views.Peek port message pairs body span) ≡ Plain ∷ block_parts names body
+stmt_parts_of_Peek names port message pairs body span = ap (λ (parts : List Part). Plain ∷ parts) (held_parts names body.statements)
+
+pub stmt_parts_of_Enqueue : (names : Names) (port : Name) (message : TypeName) (latency : Option Expr) (body : Block) (span : Span) → stmt_parts names (views.Enqueue port message latency body span) ≡ Plain ∷ (optional_parts names latency ++ block_parts names body)
+stmt_parts_of_Enqueue names port message latency body span =
+    ap (λ (parts : List Part). Plain ∷ (optional_parts names latency ++ parts)) (held_parts names body.statements)
 
 pub others_rows : (names : Names) (n : _) (row : Row_of-ElseIf n) → others_parts names row ≡ flat_map (else_if_parts names) (items-the_row-ElseIf n row)
 others_rows names n end_of-ElseIf = refl

@@ -1,12 +1,10 @@
-use Rattle.std.proofs.Common.{rules, ◌≡◌, ◌∷◌, ◌++◌, ◌∙◌, [], sym, ap, append-nil}
+use Rattle.std.proofs.Common.{◌≡◌, ◌∷◌, ◌++◌, ◌∙◌, [], sym, ap, append-nil}
 use Rattle.std.specs.List.{flat_map}
 use Rattle.std.proofs.lemmas.Result.{on_ok_weaker}
-use Rattle.slicc_ast.specs.declared.tree.statement.If.{out-If}
-use Rattle.slicc_ast.specs.declared.tree.statement.Stmt.TheViews.{the_lemmas}
 use Rattle.slicc_plan.specs.declared.part.Part.TheVariants.{Plain}
 use Rattle.slicc_plan.specs.BodyParts.{block_parts, optional_parts, stmt_parts}
 use Rattle.body_parts.specs.Lists.{else_if_parts}
-use Rattle.body_parts.proofs.PartLists.{added_both, added_four, added_three, if_none, if_some, stmt_rows}
+use Rattle.body_parts.proofs.PartLists.{added_both, added_four, added_three, if_none, if_some, stmt_parts_of_Enqueue, stmt_parts_of_Peek}
 use Rattle.body_parts.proofs.statement.+statement_parts.Goals as goal
 
 pub add_if-returns-in-Some : goal.add_if-returns-in-Some
@@ -25,7 +23,8 @@ add_if-returns-in-None t c =
 
 pub add_stmt-returns-in_ok-push-in-Peek : goal.add_stmt-returns-in_ok-push-in-Peek
 add_stmt-returns-in_ok-push-in-Peek t c =
-    let same : stmt_parts c.args.names.now c.args.s.now ≡ (Plain ∷ []) ++ block_parts c.args.names.now c.in-Peek.body = search (rules, the_lemmas, stmt_rows c.args.names.now) in
+    let same : stmt_parts c.args.names.now c.args.s.now ≡ (Plain ∷ []) ++ block_parts c.args.names.now c.in-Peek.body =
+    ap (stmt_parts c.args.names.now) c.in-Peek.is ∙ stmt_parts_of_Peek c.args.names.now c.in-Peek.port c.in-Peek.message c.in-Peek.pairs c.in-Peek.body c.in-Peek.span in
     on_ok_weaker c.add_block.result
     (λ after. added_both c.args.parts.now (Plain ∷ []) _ _ _ c.in_ok-push-in-Peek.ensures.ok after ∙ ap (λ xs. c.args.parts.now ++ xs) (sym same))
     c.add_block.ensures
@@ -33,7 +32,7 @@ add_stmt-returns-in_ok-push-in-Peek t c =
 pub add_stmt-returns-in_ok-add_optional-in-Enqueue : goal.add_stmt-returns-in_ok-add_optional-in-Enqueue
 add_stmt-returns-in_ok-add_optional-in-Enqueue t c =
     let same : stmt_parts c.args.names.now c.args.s.now ≡ (Plain ∷ []) ++ (optional_parts c.args.names.now c.in-Enqueue.latency ++ block_parts c.args.names.now c.in-Enqueue.body) =
-    search (rules, the_lemmas, stmt_rows c.args.names.now) in
+    ap (stmt_parts c.args.names.now) c.in-Enqueue.is ∙ stmt_parts_of_Enqueue c.args.names.now c.in-Enqueue.port c.in-Enqueue.message c.in-Enqueue.latency c.in-Enqueue.body c.in-Enqueue.span in
     on_ok_weaker c.add_block-in-Enqueue.result
     (λ after. added_three c.args.parts.now (Plain ∷ []) _ _ _ _ _ _ c.in_ok-push-in-Enqueue.ensures.ok c.in_ok-add_optional-in-Enqueue.ensures after same)
     c.add_block-in-Enqueue.ensures
