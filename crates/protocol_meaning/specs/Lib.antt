@@ -3,3 +3,4 @@ pub mod Meaning
 pub mod Setting
 pub mod Kept
 pub mod Rounds
+pub mod Adding
