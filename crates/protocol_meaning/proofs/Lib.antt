@@ -4,3 +4,5 @@ pub mod Settings
 pub mod Kept
 pub mod Rounds
 pub mod Fired
+pub mod Left
+pub mod Later

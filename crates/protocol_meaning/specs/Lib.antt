@@ -4,3 +4,4 @@ pub mod Setting
 pub mod Kept
 pub mod Rounds
 pub mod Records
+pub mod Adding

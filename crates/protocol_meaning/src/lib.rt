@@ -1,10 +1,13 @@
 //! What a protocol means, and what a run of it begins with, by its trees and a topology: the instance of which runs and their laws are
-//! said. And what serves protocols: code that does a scan as these definitions have it.
+//! said. Laws of all scans, for each machine and each local: what acts keep, scans keep, and what comes later changes nothing. And what
+//! serves protocols: code that does a scan as these definitions have it.
 #![tactic(auto)]
 
+mod every_scan;
 mod laws;
 mod protocol;
 
+pub use every_scan::{scans_keep_what_holds, what_comes_later_changes_no_scan};
 pub use laws::{
     calls_find_the_machines, fired_rounds_stay, meanings_are_lawful, rounds_are_scans,
     settings_are_lawful,

@@ -1,7 +1,7 @@
 use Rattle.act_laws.proofs.Left.{left_copies, left_counts, left_lawful, left_mailed, left_marked, left_marks, left_scan}
 use Rattle.scan_meaning.specs.Scan.{scan}
-use Rattle.scan_laws.proofs.Left.{left_by_scan}
-use Rattle.scan_laws.proofs.laws.scans_keep_what_holds.Goals as goal
+use Rattle.protocol_meaning.proofs.Left.{left_by_scan}
+use Rattle.protocol_meaning.proofs.every_scan.scans_keep_what_holds.Goals as goal
 
 pub returns-clause-left : goal.returns-clause-left
 returns-clause-left c = λ s limit fired v. left_by_scan s limit fired v

@@ -12,7 +12,7 @@ ghost use Rattle.act_laws.specs.Left.{IsLeft};
 ghost use Rattle.act_laws.specs.Mailed.{HasMailed};
 ghost use Rattle.body_meaning.specs.Reading.{Reading};
 ghost use Rattle.scan_meaning.specs.Scan.{pairs_tried, scan};
-ghost use Rattle.scan_laws.specs.Adding.{scanned_with};
+ghost use Rattle.protocol_meaning.specs.Adding.{scanned_with};
 
 /// However a scan ends, it leaves a local that acts leave of the one in which it began. So it stays lawful and in the same scan, counts
 /// no transition and doesn't stop the controller; no mark is taken away or set for this cycle, and no message that is to come is

@@ -20,8 +20,8 @@ use Rattle.scan_meaning.specs.declared.tried.Tried.{Tried}
 use Rattle.scan_meaning.specs.declared.tried.Tried.TheVariants.{Waits, Fires}
 use Rattle.scan_meaning.specs.Scan.{Scanned, by_outcome, by_try, left_idle, pairs_tried, ports_tried, scan}
 use Rattle.scan_meaning.specs.Trying.{Pair, Trying, ends, stops, acts, looks_up, follow_pairs, follow_scan, pairs_of, run_scan}
-use Rattle.scan_laws.specs.Adding.{scanned_with}
-use Rattle.scan_laws.proofs.Left.{does_again}
+use Rattle.protocol_meaning.specs.Adding.{scanned_with}
+use Rattle.protocol_meaning.proofs.Left.{does_again}
 
 -- One act, as a body.
 
