@@ -26,9 +26,11 @@ enum Form {
     Transition,
 }
 
-/// Texts of forms, how many nestings more are allowed, and how many tokens are left behind the form, or the fault. The end token
-/// counts.
-const FORMS: &[(Form, &[u8], u32, Result<usize, Fault>)] = &[
+/// The text of a form, how many nestings more are allowed, and how many tokens are left behind the form, or the fault. The end token counts.
+type Row = (Form, &'static [u8], u32, Result<usize, Fault>);
+
+/// Out ports, literals and enumerations.
+const FORMS: &[Row] = &[
     (Form::OutPort, b"out_port(p, M, b);", 64, Ok(1)),
     (
         Form::OutPort,
@@ -69,6 +71,10 @@ const FORMS: &[(Form, &[u8], u32, Result<usize, Fault>)] = &[
         64,
         Err(Syntax(1)),
     ),
+];
+
+/// Formals, include lines, heads of machines and lists of names.
+const HEADS: &[Row] = &[
     (Form::Formals, b"()", 64, Ok(1)),
     (Form::Formals, b"(A, B * c, D * , e f) {", 64, Ok(2)),
     (Form::Formals, b"(A, )", 64, Err(Syntax(2))),
@@ -106,6 +112,10 @@ const FORMS: &[(Form, &[u8], u32, Result<usize, Fault>)] = &[
     (Form::Names, b"{a, b}", 64, Ok(1)),
     (Form::Names, b"{}", 64, Err(Syntax(2))),
     (Form::Names, b"{a, b}", 0, Err(Deep(6))),
+];
+
+/// Parameters, states and structures.
+const PARTS: &[Row] = &[
     (Form::Parameter, b"Cycles latency := 2;", 64, Ok(1)),
     (
         Form::Parameter,
@@ -154,6 +164,9 @@ const FORMS: &[(Form, &[u8], u32, Result<usize, Fault>)] = &[
         Err(Syntax(3)),
     ),
     (Form::Structure, b"structure(S) { A a(); }", 1, Err(Deep(5))),
+];
+
+const TRANSITIONS: &[Row] = &[
     (
         Form::Transition,
         b"transition(I, Load, M) { a; b; }",
@@ -230,17 +243,28 @@ fn form_left(alloc: Global, form: Form, room: u32, from: &[Token]) -> Result<usi
 }
 
 /// Whether the form is read or refused as the row says.
-fn is_so(alloc: Global, row: &(Form, &[u8], u32, Result<usize, Fault>)) -> bool {
+fn is_so(alloc: Global, row: &Row) -> bool {
     match &tokens_of(alloc, row.1) {
         Some(tokens) => form_left(alloc, row.0, row.2, tokens.as_slice()) == row.3,
         None => false,
     }
 }
 
+/// The first row whose form is read or refused otherwise, or none.
+fn wrong_row(alloc: Global, rows: &[Row]) -> Option<usize> {
+    for (place, row) in rows.iter().enumerate() {
+        if !is_so(alloc, row) {
+            return Some(place);
+        }
+    }
+    None
+}
+
 #[test]
 fn declarations_are_read_or_refused_at_the_first_fault(rt: HostRuntime) -> Result<(), Fail> {
-    for (place, row) in FORMS.iter().enumerate() {
-        assert!(rt; is_so(rt.alloc(), row), "row {place}");
-    }
+    assert_eq!(rt; wrong_row(rt.alloc(), FORMS), None);
+    assert_eq!(rt; wrong_row(rt.alloc(), HEADS), None);
+    assert_eq!(rt; wrong_row(rt.alloc(), PARTS), None);
+    assert_eq!(rt; wrong_row(rt.alloc(), TRANSITIONS), None);
     Ok(())
 }

@@ -9,9 +9,11 @@ use slicc_lex::Token;
 use std::alloc::Global;
 use std::test::Fail;
 
-/// Texts, how many tokens the expression at the front of each has, what it is, by its last operator or suffix where it has
-/// any, and where the last expression or name in it begins.
-const READ: &[(&[u8], u32, &str, u32)] = &[
+/// A text, how many tokens the expression at its front has, what it is, by its last operator or suffix where it has any, and where the last
+/// expression or name in it begins.
+type Row = (&'static [u8], u32, &'static str, u32);
+
+const OPERATORS: &[Row] = &[
     // operators of one level are one node
     (b"a - b - c", 5, "-", 8),
     (b"a + b - c + d", 7, "+", 12),
@@ -40,7 +42,10 @@ const READ: &[(&[u8], u32, &str, u32)] = &[
     (b"! - a", 3, "!", 2),
     (b"- a.b", 4, "negate", 2),
     (b"a - - b", 4, "-", 4),
-    // primary expressions and suffixes
+];
+
+/// Primary expressions and suffixes.
+const PRIMARIES: &[Row] = &[
     (b"12", 1, "number", 0),
     (b"true", 1, "true", 0),
     (b"false", 1, "false", 0),
@@ -61,6 +66,9 @@ const READ: &[(&[u8], u32, &str, u32)] = &[
     (b"a[b][c]", 7, "[]", 5),
     (b"f(a)[b].g()", 11, ".()", 0),
     (b"(a)", 3, "()", 1),
+];
+
+const LONGEST: &[Row] = &[
     // the longest front
     (b"a b", 1, "name", 0),
     (b"a := b", 1, "name", 0),
@@ -160,7 +168,7 @@ fn root(e: &Expr) -> (&'static str, u32) {
 }
 
 /// Whether the tokens are read as the row says.
-fn are_read(alloc: Global, tokens: &Seq<Token>, row: &(&[u8], u32, &'static str, u32)) -> bool
+fn are_read(alloc: Global, tokens: &Seq<Token>, row: &Row) -> bool
     requires ended { AreEnded tokens.now }
     requires size { length tokens.now ≤ 1048577 }
 {
@@ -178,17 +186,27 @@ fn are_read(alloc: Global, tokens: &Seq<Token>, row: &(&[u8], u32, &'static str,
 }
 
 /// Whether the text is read as the row says.
-fn is_read(alloc: Global, row: &(&[u8], u32, &'static str, u32)) -> bool {
+fn is_read(alloc: Global, row: &Row) -> bool {
     match &tokens_of(alloc, row.0) {
         Some(tokens) => are_read(alloc, tokens, row),
         None => false,
     }
 }
 
+/// The first row whose text is read otherwise, or none.
+fn wrong_row(alloc: Global, rows: &[Row]) -> Option<usize> {
+    for (place, row) in rows.iter().enumerate() {
+        if !is_read(alloc, row) {
+            return Some(place);
+        }
+    }
+    None
+}
+
 #[test]
 fn expressions_are_read_to_their_ends(rt: HostRuntime) -> Result<(), Fail> {
-    for (place, row) in READ.iter().enumerate() {
-        assert!(rt; is_read(rt.alloc(), row), "row {place}");
-    }
+    assert_eq!(rt; wrong_row(rt.alloc(), OPERATORS), None);
+    assert_eq!(rt; wrong_row(rt.alloc(), PRIMARIES), None);
+    assert_eq!(rt; wrong_row(rt.alloc(), LONGEST), None);
     Ok(())
 }

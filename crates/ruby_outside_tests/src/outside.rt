@@ -163,12 +163,12 @@ fn is_told(
 }
 
 /// Whether files are told apart: one as long as it may be, one byte longer, shorter and empty, a name below a file, a folder, and no file.
-fn are_told(
+fn are_told<'x>(
     rt: &HostRuntime,
     path: &PathBuf,
-    name: &str,
-    below: &str,
-    long: &[u8],
+    name: &'x str,
+    below: &'x str,
+    long: &'x [u8],
 ) -> Result<bool, Fail> {
     let full = long.get(..LIMIT).unwrap_or(long);
     let mut are_so = true;
