@@ -16,8 +16,9 @@ use Rattle.slicc_plan.specs.BodySizes.{large_bodies}
 use Rattle.slicc_plan.specs.CallsBetween.{call_circles}
 use Rattle.slicc_plan.specs.Types.{is_built_in, type_in}
 use Rattle.declared_types.specs.Scopes.{scope_at}
-use Rattle.call_graph.proofs.FirstOf.{first_of_three}
-use Rattle.slicc_flow.specs.Tables.{is_directory_name, is_table_name}
+use Rattle.slicc_flow.proofs.FirstOf.{first_of_three}
+use Rattle.slicc_flow.specs.Tables.{is_sort_name}
+use Rattle.slicc_flow.specs.declared.tables.TableSort.TheVariants.{Any, Directory as OfDirectory}
 use Rattle.slicc_flow.specs.declared.machine.MachineBodies.{MachineBodies}
 use Rattle.slicc_flow.specs.Flows.{broken_flow}
 use Rattle.slicc_flow.specs.Machines.{all_bodies, bodies_at, bodies_in, bodies_of_scope, bodies_with, changes_of, circles_of, each_from, found_in, large_of}
@@ -51,7 +52,7 @@ abbrev named_by : List (List ℕ) → List (List ℕ) → List (List ℕ) → Na
 named_by fs ts ds = record { functions = fs; tables = ts; directories = ds }
 
 -- what names stand for in the machine of a scope
-pub named : (trees : List Tree) (scope : ℕ) (m : Machine) (n : Names) (fs ts ds : List (List ℕ)) → scope_at trees scope ≡ within m → n.functions ≡ fs → n.tables ≡ ts → n.directories ≡ ds → fs ≡ names_of_written (written_functions m) → ts ≡ fold with_name [] (flat_map (name_of_type (is_table_name trees scope)) (declared_in trees (scope_at trees scope))) → ds ≡ fold with_name [] (flat_map (name_of_type (is_directory_name trees scope)) (declared_in trees (scope_at trees scope))) → n ≡ names_in trees m
+pub named : (trees : List Tree) (scope : ℕ) (m : Machine) (n : Names) (fs ts ds : List (List ℕ)) → scope_at trees scope ≡ within m → n.functions ≡ fs → n.tables ≡ ts → n.directories ≡ ds → fs ≡ names_of_written (written_functions m) → ts ≡ fold with_name [] (flat_map (name_of_type (is_sort_name Any trees scope)) (declared_in trees (scope_at trees scope))) → ds ≡ fold with_name [] (flat_map (name_of_type (is_sort_name OfDirectory trees scope)) (declared_in trees (scope_at trees scope))) → n ≡ names_in trees m
 named trees scope m n fs ts ds at f t d fi ti di =
     let tables : n.tables ≡ table_names trees m = t ∙ ti ∙ ap (λ s. fold with_name [] (flat_map (name_of_type (λ kind. is_table_type (type_in trees s kind))) (declared_in trees s))) at in
     let directories : n.directories ≡ directory_names trees m = d ∙ di ∙ ap (λ s. fold with_name [] (flat_map (name_of_type (λ kind. is_built_in Directory (type_in trees s kind))) (declared_in trees s))) at in

@@ -1,3 +1,8 @@
+pub mod Caps
 pub mod Checked
+pub mod FirstOf
 pub mod Flowed
 pub mod Judged
+pub mod Marking
+pub mod Reaching
+pub mod Ways

@@ -1,4 +1,6 @@
 pub mod Checks
 pub mod Flows
 pub mod Machines
+pub mod Marks
+pub mod Sizes
 pub mod Tables

@@ -4,8 +4,10 @@ ghost use Rattle.slicc_plan.specs.Order.{first_after};
 ghost use Rattle.slicc_flow.specs.Flows.{broken_flow};
 ghost use Rattle.slicc_flow.specs.Machines.{all_bodies, bodies_at, changes_of, circles_of, each_from, found_in, large_of};
 
+use crate::changes::reading_changes;
+use crate::circle::circles;
+use crate::large::large_bodies;
 use crate::machine::{MachineBodies, machine_bodies};
-use call_graph::{circles, large_bodies, reading_changes};
 use declared_types::{Scope, Scopes};
 use ruby_base::{NoMemory, Seq};
 use slicc_plan::Broken;

@@ -2,14 +2,21 @@
 //! need of tables.
 #![tactic(auto)]
 
+mod changes;
 mod checks;
+mod circle;
 mod judge;
+mod large;
+mod laws;
 mod machine;
 mod needs;
 mod protocol;
+mod reach;
+mod sizes;
 mod tables;
 
 pub use judge::flow_broken;
+pub use laws::reaching_is_decided;
 pub use machine::MachineBodies;
 pub use needs::Flow;
 pub use protocol::{flow, flow_of_trees};

@@ -8,7 +8,7 @@ ghost use Rattle.slicc_flow.specs.Checks.{checks_with};
 ghost use Rattle.slicc_flow.specs.Machines.{bodies_in, bodies_with};
 
 use crate::checks::machine_checks;
-use crate::tables::{directories, tables};
+use crate::tables::{TableSort, table_names};
 use body_parts::{Lent, Names, actions, bodies, functions, ports};
 use declared_types::Scopes;
 use ruby_base::{NoMemory, Seq};
@@ -39,8 +39,8 @@ fn names_of<'a>(
     ensures names { IfOk result (λ r. r.0 ≡ names_in scopes.now.trees.now m.now) }
     ensures functions { IfOk result (λ r. written_list r.1 ≡ written_functions m.now) }
 {
-    let tables = tables(alloc, scopes, scope)?;
-    let directories = directories(alloc, scopes, scope)?;
+    let tables = table_names(alloc, scopes, scope, TableSort::Any)?;
+    let directories = table_names(alloc, scopes, scope, TableSort::Directory)?;
     let (functions, written) = functions(alloc, m)?;
     Ok((Names::new(functions, tables, directories), written))
 }

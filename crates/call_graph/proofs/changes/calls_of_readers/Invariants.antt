@@ -1,6 +1,0 @@
-use Rattle.std.proofs.Common.{◌≡◌, take}
-use Rattle.slicc_plan.specs.ReadOnly.{reading_calls}
-use Rattle.call_graph.proofs.changes.calls_of_readers.Given as goal
-
-abbrev pub invariant-loop-b : goal.invariant-loop-b
-invariant-loop-b l = l.calls ≡ reading_calls (take l.b-index l.ports) l.fn.state

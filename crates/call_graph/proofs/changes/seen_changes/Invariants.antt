@@ -1,9 +1,0 @@
-use Rattle.std.proofs.Common.{◌≡◌, drop}
-use Rattle.slicc_plan.specs.ReadOnly.{reached_changes}
-use Rattle.slicc_plan.specs.Order.{first_after}
-use Rattle.call_graph.proofs.changes.seen_changes.Given as goal
-
-abbrev pub invariant-loop-number : goal.invariant-loop-number
-invariant-loop-number l =
-    first_after l.initial.first (reached_changes l.machine l.functions l.calls 0 l.functions)
-    ≡ first_after l.first (reached_changes l.machine l.functions l.calls l.number (drop l.number l.functions))

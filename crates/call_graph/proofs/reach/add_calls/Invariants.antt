@@ -1,6 +1,0 @@
-use Rattle.std.proofs.Common.{◌≡◌, take}
-use Rattle.call_graph.specs.Marks.{with_calls}
-use Rattle.call_graph.proofs.reach.add_calls.Given as goal
-
-abbrev pub invariant-loop-call : goal.invariant-loop-call
-invariant-loop-call l = l.found ≡ with_calls l.initial.found (take l.call-index l.calls)

@@ -1,6 +1,0 @@
-use Rattle.std.proofs.Common.{◌≡◌, take}
-use Rattle.call_graph.specs.Sizes.{next_sizes}
-use Rattle.call_graph.proofs.sizes.deeper_sizes.Given as goal
-
-abbrev pub invariant-loop-b : goal.invariant-loop-b
-invariant-loop-b l = l.deeper ≡ next_sizes (take l.b-index l.functions) l.sizes

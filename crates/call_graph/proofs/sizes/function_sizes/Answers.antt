@@ -1,9 +1,0 @@
-use Rattle.std.proofs.Common.{add-one, ◌∙◌, ap}
-use Rattle.call_graph.specs.Sizes.{next_sizes}
-use Rattle.call_graph.proofs.Caps.{deeper}
-use Rattle.call_graph.proofs.sizes.function_sizes.Goals as goal
-
-pub loop-depth-preserved : goal.loop-depth-preserved
-loop-depth-preserved c =
-    rw (add-one) (deeper c.args.functions.now c.loop-depth.depth c.loop-depth.sizes c.in_ok-sizes.sizes c.loop-depth.invariant
-    (c.in_ok-sizes.ensures ∙ ap (next_sizes c.args.functions.now) c.deref.ensures))

@@ -1,5 +1,0 @@
-use Rattle.call_graph.specs.Sizes.{AreSizes}
-use Rattle.call_graph.proofs.sizes.function_sizes.Given as goal
-
-abbrev pub invariant-loop-depth : goal.invariant-loop-depth
-invariant-loop-depth l = AreSizes l.functions l.depth l.sizes
