@@ -34,6 +34,10 @@ abbrev pub remade_by : Reading → List ℕ → Frame → Place → Value → Li
 remade_by s text frame p v values =
     found own.Reference (value_call v text) >>= (λ n. remade s n frame p (v ∷ values))
 
+-- the place with what a `writeCallback` of this address makes of this block
+abbrev pub rewritten : Reading → Frame → Place → Value → Value → List Value → Acting Ended
+rewritten s frame p address block others = remade s (write_callback (2 + length others)) frame p (address ∷ block ∷ others)
+
 module _ (s : Reading) (calls : Calls) where
   -- `kind name := value;`
   abbrev pub declared : List ℕ → Expr → Frame → Acting Ended
@@ -60,7 +64,7 @@ module _ (s : Reading) (calls : Calls) where
   stored address others frame p =
       at_place frame p
       >>= (λ v. values_of s calls frame others
-      >>= (λ vs. remade s (write_callback (2 + length vs)) frame p (value_in address ∷ v ∷ vs)))
+      >>= (λ vs. rewritten s frame p (value_in address) v vs))
 
   -- a call of this name
   abbrev pub call_alone : List ℕ → List Expr → Frame → Acting Ended

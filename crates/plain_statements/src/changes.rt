@@ -1,15 +1,14 @@
 // Statements that change what is at a place.
-ghost use Rattle.std.specs.Prelude.{length};
 ghost use Rattle.acts.specs.DoesAs.{DoesAs};
 ghost use Rattle.body_calls.specs.CallsDo.{CallsDo};
 ghost use Rattle.body_meaning.specs.Bodies.{calls_within};
-ghost use Rattle.body_meaning.specs.CallNumbers.{write_callback};
 ghost use Rattle.body_meaning.specs.Frames.{ended};
 ghost use Rattle.body_meaning.specs.Reading.{reading};
 ghost use Rattle.body_meaning.specs.Statements.{assigned, changed, written_back};
-ghost use Rattle.plain_statements.specs.Parts.{changed_at, put_back, remade, remade_by, stored};
+ghost use Rattle.body_meaning.specs.Things.{value_in};
+ghost use Rattle.plain_statements.specs.Parts.{changed_at, put_back, remade, remade_by, rewritten, stored};
 
-use crate::ends::with_first;
+use crate::ends::{with_first, with_two};
 use crate::named::{call_on, found};
 use acts::{BodyFault, Local, Trouble, Value};
 use body_meaning::{Flow, Frame, Place, Scope, Thing, value_in, write_callback};
@@ -146,28 +145,24 @@ pub(crate) fn changed<T: Local, F: Fn(u16, Seq<Value>, &mut T) -> Result<Thing, 
     changed_at(alloc, s, depth, calls, name, arguments, &p, frame, local)
 }
 
-// The place with what a `writeCallback` of these values makes of its block.
+// The place with what a `writeCallback` of an address makes of this block.
 fn rewritten<T: Local>(
     alloc: Global,
     s: Scope<'_>,
     p: &Place,
-    values: &[Value],
+    address: Thing,
+    block: Value,
+    others: Seq<Value>,
     frame: &mut Frame,
     local: &mut T,
 ) -> Result<Flow, Trouble>
     ensures { DoesAs (ended frame.new)
-        (remade (reading s.entry) (write_callback (length values.now)) frame.old p.now values.now)
+        (rewritten (reading s.entry) frame.old p.now (value_in address) block others)
         result (T.view local.old) (T.view local.new) }
 {
-    remade(
-        alloc,
-        s,
-        write_callback(values.len()),
-        p,
-        values,
-        frame,
-        local,
-    )
+    let values = with_two(address, block, others)?;
+    let n = write_callback(values.len());
+    remade(alloc, s, n, p, &values, frame, local)
 }
 
 // A `writeCallback` of an address with the block at a place.
@@ -190,8 +185,7 @@ fn stored<T: Local, F: Fn(u16, Seq<Value>, &mut T) -> Result<Thing, Trouble>>(
 {
     let block = at_place(frame, p, local)?;
     let others = values_of(alloc, s, depth, calls, frame, others, local)?;
-    let values = with_first(value_in(address), with_first(block, others)?)?;
-    rewritten(alloc, s, p, &values, frame, local)
+    rewritten(alloc, s, p, address, block, others, frame, local)
 }
 
 // `writeCallback` with these arguments, of which the second one is the block that the byte is stored in.

@@ -33,3 +33,15 @@ pub(crate) fn with_first(v: Value, mut values: Seq<Value>) -> Result<Seq<Value>,
     values.insert(0, v)?;
     Ok(values)
 }
+
+// The value of a thing and another one before others.
+pub(crate) fn with_two(
+    first: Thing,
+    second: Value,
+    mut values: Seq<Value>,
+) -> Result<Seq<Value>, NoMemory>
+    ensures { IfOk result (λ all. all ≡ value_in first ∷ second ∷ values) }
+{
+    values.insert(0, second)?;
+    with_first(value_in(first), values)
+}
