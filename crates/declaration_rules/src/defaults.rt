@@ -1,10 +1,9 @@
 //! The defaults of enumerations, of state declarations and of fields.
-ghost use Rattle.std.specs.Prelude.{◌≡◌, flat_map, codes};
+ghost use Rattle.std.specs.Prelude.{◌≡◌, codes};
 ghost use Rattle.slicc_plan.specs.Declarations.{machine_names};
 ghost use Rattle.slicc_plan.specs.Order.{first_after};
 ghost use Rattle.slicc_plan.specs.Values.{bad_attributes, is_built_in_default, is_member_word, is_right_default};
 ghost use Rattle.built_ins.specs.Types.{as_nature};
-ghost use Rattle.slicc_plan.specs.BuiltIn.{nature_of};
 ghost use Rattle.declared_types.specs.Lent.{scope_of, type_of};
 ghost use Rattle.declaration_rules.specs.Members.{members_in};
 ghost use Rattle.declaration_rules.specs.PairValues.{bad_pair};
@@ -52,17 +51,11 @@ fn is_default_by_nature(
     }
 }
 
-fn is_built_in_default(scopes: &Scopes<'_>, b: BuiltInType, own: &[u8], value: &PairValue) -> bool
-    ensures { result ≡ is_built_in_default (machine_names scopes.now.trees.now) b own.now (nature_of b) value.now }
-{
-    is_default_by_nature(scopes, b, nature_of(b), own, value)
-}
-
 fn is_right_default(scopes: &Scopes<'_>, own: &[u8], t: KnownType<'_>, value: &PairValue) -> bool
     ensures { result ≡ is_right_default (machine_names scopes.now.trees.now) own.now (type_of t.entry) value.now }
 {
     match t {
-        KnownType::BuiltIn(b) => is_built_in_default(scopes, b, own, value),
+        KnownType::BuiltIn(b) => is_default_by_nature(scopes, b, nature_of(b), own, value),
         KnownType::Enumeration(scope, e) => is_member_word(scopes, scope, t, &e.name.text, value),
         KnownType::States(scope, s) => is_member_word(scopes, scope, t, &s.name.text, value),
         KnownType::Structure(..) => false,
@@ -84,22 +77,6 @@ fn judge_pair(
     }
 }
 
-fn judge_pairs(
-    first: Option<Broken>,
-    scopes: &Scopes<'_>,
-    own: &[u8],
-    t: KnownType<'_>,
-    pairs: &[Pair],
-) -> Option<Broken>
-    ensures { result ≡ first_after first (flat_map (bad_pair (codes "default") (is_right_default (machine_names scopes.now.trees.now) own.now (type_of t.entry))) pairs.now) }
-{
-    let mut first = first;
-    for p in pairs {
-        first = judge_pair(first, scopes, own, t, p);
-    }
-    first
-}
-
 /// The first broken rule, after the defaults of a field of this type, whose name this is.
 pub fn judge_defaults(
     first: Option<Broken>,
@@ -110,5 +87,10 @@ pub fn judge_defaults(
 ) -> Option<Broken>
     ensures { result ≡ first_after first (bad_attributes (codes "default") (is_right_default (machine_names scopes.now.trees.now) own.now (type_of t.entry)) pairs.now) }
 {
-    judge_pairs(first, scopes, own, t, &pairs.items)
+    let mut first = first;
+    let items = pairs.items.as_slice();
+    for p in items {
+        first = judge_pair(first, scopes, own, t, p);
+    }
+    first
 }

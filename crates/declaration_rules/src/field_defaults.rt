@@ -1,7 +1,4 @@
 //! The defaults that fields give.
-ghost use Rattle.std.specs.Prelude.{◌≡◌};
-ghost use Rattle.slicc_plan.specs.Order.{first_after};
-ghost use Rattle.declared_types.specs.Scopes.{scope_at};
 ghost use Rattle.declaration_rules.specs.Judging.{field_default, field_defaults_of};
 
 use crate::defaults::judge_defaults;
@@ -10,21 +7,6 @@ use crate::rule::DeclarationRule;
 use declared_types::{Declared, Scopes};
 use slicc_ast::tree::{Pairs, TypeName};
 use slicc_plan::Broken;
-
-fn judge_default(
-    first: Option<Broken>,
-    scopes: &Scopes<'_>,
-    number: usize,
-    kind: &TypeName,
-    attributes: &Pairs,
-) -> Option<Broken>
-    ensures { result ≡ first_after first (field_default scopes.now.trees.now (record { scope = scope_at scopes.now.trees.now number; kind = kind.now; attributes = attributes.now })) }
-{
-    match scopes.type_in(number, &kind.text) {
-        None => first,
-        Some(t) => judge_defaults(first, scopes, &kind.text, t, attributes),
-    }
-}
 
 /// The default of each field is a value of its type.
 pub struct FieldDefaults;
@@ -39,7 +21,10 @@ impl FieldRule for FieldDefaults {
         kind: &TypeName,
         attributes: &Pairs,
     ) -> Option<Broken> {
-        judge_default(first, scopes, number, kind, attributes)
+        match scopes.type_in(number, &kind.text) {
+            None => first,
+            Some(t) => judge_defaults(first, scopes, &kind.text, t, attributes),
+        }
     }
 }
 

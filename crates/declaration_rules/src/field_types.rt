@@ -39,12 +39,6 @@ fn may_be_field(n: Nature) -> bool
     }
 }
 
-fn is_field_type(t: KnownType<'_>) -> bool
-    ensures { result ≡ may_be_field (nature_in (type_of t.entry)) }
-{
-    may_be_field(nature_in(t))
-}
-
 // The first broken rule, after a field that has this type at this place.
 fn judge_known(first: Option<Broken>, t: Option<KnownType<'_>>, place: Span) -> Option<Broken>
     ensures { result ≡ first_after first (refused_for place (option_map type_of t.entry)) }
@@ -52,7 +46,7 @@ fn judge_known(first: Option<Broken>, t: Option<KnownType<'_>>, place: Span) -> 
     let Some(t) = t else {
         return first;
     };
-    if is_field_type(t) {
+    if may_be_field(nature_in(t)) {
         return first;
     }
     earlier_broken(

@@ -1,5 +1,5 @@
 //! The values of attributes, and the literals of parameters.
-ghost use Rattle.std.specs.Prelude.{◌≡◌, [], cond, flat_map};
+ghost use Rattle.std.specs.Prelude.{◌≡◌, [], cond};
 ghost use Rattle.std.specs.Option.{option_map};
 ghost use Rattle.slicc_plan.specs.BuiltIn.{type_number};
 ghost use Rattle.slicc_plan.specs.Order.{first_after};
@@ -64,22 +64,6 @@ fn judge_word_pair(
     }
 }
 
-fn judge_words(
-    first: Option<Broken>,
-    pairs: &[Pair],
-    key: &[u8],
-    one: &[u8],
-    other: &[u8],
-) -> Option<Broken>
-    ensures { result ≡ first_after first (flat_map (bad_pair key.now (is_either one.now other.now)) pairs.now) }
-{
-    let mut first = first;
-    for p in pairs {
-        first = judge_word_pair(first, p, key, one, other);
-    }
-    first
-}
-
 fn judge_number_pair(
     first: Option<Broken>,
     p: &Pair,
@@ -95,22 +79,6 @@ fn judge_number_pair(
     }
 }
 
-fn judge_numbers(
-    first: Option<Broken>,
-    pairs: &[Pair],
-    key: &[u8],
-    low: u64,
-    high: u64,
-) -> Option<Broken>
-    ensures { result ≡ first_after first (flat_map (bad_pair key.now (is_number_within low high)) pairs.now) }
-{
-    let mut first = first;
-    for p in pairs {
-        first = judge_number_pair(first, p, key, low, high);
-    }
-    first
-}
-
 fn word_attributes(
     first: Option<Broken>,
     pairs: &Pairs,
@@ -120,7 +88,12 @@ fn word_attributes(
 ) -> Option<Broken>
     ensures { result ≡ first_after first (bad_attributes key.now (is_either one.now other.now) pairs.now) }
 {
-    judge_words(first, &pairs.items, key, one, other)
+    let mut first = first;
+    let items = pairs.items.as_slice();
+    for p in items {
+        first = judge_word_pair(first, p, key, one, other);
+    }
+    first
 }
 
 fn number_attributes(
@@ -132,7 +105,12 @@ fn number_attributes(
 ) -> Option<Broken>
     ensures { result ≡ first_after first (bad_attributes key.now (is_number_within low high) pairs.now) }
 {
-    judge_numbers(first, &pairs.items, key, low, high)
+    let mut first = first;
+    let items = pairs.items.as_slice();
+    for p in items {
+        first = judge_number_pair(first, p, key, low, high);
+    }
+    first
 }
 
 fn judge_buffer(first: Option<Broken>, pairs: &Pairs) -> Option<Broken>

@@ -2,7 +2,7 @@ use Rattle.std.proofs.Common.{◌≡◌, take, flat_map}
 use Rattle.slicc_plan.specs.Order.{first_after}
 use Rattle.slicc_plan.specs.Values.{is_number_within}
 use Rattle.declaration_rules.specs.PairValues.{bad_pair}
-use Rattle.declaration_rules.proofs.values.judge_numbers.Given as goal
+use Rattle.declaration_rules.proofs.values.number_attributes.Given as goal
 
 abbrev pub invariant-loop-p : goal.invariant-loop-p
-invariant-loop-p l = l.first ≡ first_after l.initial.first (flat_map (bad_pair l.key (is_number_within l.low l.high)) (take l.p-index l.pairs))
+invariant-loop-p l = l.first ≡ first_after l.initial.first (flat_map (bad_pair l.key (is_number_within l.low l.high)) (take l.p-index l.items))

@@ -6,7 +6,7 @@ use Rattle.slicc_plan.specs.Types.{type_in}
 use Rattle.slicc_plan.specs.Values.{bad_attributes, bad_field_default, is_right_default}
 use Rattle.declared_types.specs.Lent.{type_of}
 use Rattle.declared_types.specs.Scopes.{scope_at}
-use Rattle.declaration_rules.proofs.field_defaults.judge_default.Goals as goal
+use Rattle.declaration_rules.proofs.field_defaults.FieldDefaultsFieldRule.judge_field.Goals as goal
 
 pub returns-in-Some : goal.returns-in-Some
 returns-in-Some c =

@@ -1,9 +1,0 @@
-use Rattle.slicc_plan.specs.Values.{is_either}
-use Rattle.declaration_rules.specs.PairValues.{bad_pair}
-use Rattle.declaration_rules.proofs.Steps.{one_step}
-use Rattle.declaration_rules.proofs.values.judge_words.Goals as goal
-
-pub loop-p-preserved : goal.loop-p-preserved
-loop-p-preserved c =
-    one_step (bad_pair c.args.key.now (is_either c.args.one.now c.args.other.now))
-    c.args.pairs.now c.loop-p.p-index c.p-item.result c.args.first c.loop-p.first c.judge_word_pair-first.result c.loop-p-test.true c.p-item.is c.judge_word_pair-first.ensures c.loop-p.invariant
