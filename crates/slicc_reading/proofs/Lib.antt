@@ -10,4 +10,3 @@ pub mod Endless
 pub mod Border
 pub mod FirstTokens
 pub mod BalancedParts
-pub mod GoingOn
