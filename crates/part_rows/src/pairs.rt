@@ -19,7 +19,7 @@ const INCLUDING: File = ("pairs", "including.sm");
 
 const MSI: File = ("symbols", "msi.sm");
 
-const PAIRS: [(File, File); 7] = [
+const PAIRS: &[(File, File)] = &[
     (TICK, TICK),
     (MSI, MSI),
     (TICK, SPACED),
@@ -67,6 +67,6 @@ fn add_pair<L: Library>(rows: &mut RowText, library: &mut L, first: File, second
 /// Adds which of the pairs are the same.
 pub(crate) fn add<L: Library>(rows: &mut RowText, library: &mut L) {
     for (first, second) in PAIRS {
-        add_pair(rows, library, first, second);
+        add_pair(rows, library, *first, *second);
     }
 }

@@ -12,7 +12,7 @@ use sample_stores::let_go;
 use types::add_types;
 
 // The protocols, in the folder `symbols`.
-const FILES: [&str; 5] = ["tick.sm", "msi.sm", "tables.sm", "values.sm", "shared.sm"];
+const FILES: &[&str] = &["tick.sm", "msi.sm", "tables.sm", "values.sm", "shared.sm"];
 
 fn add_file<L: Library>(rows: &mut RowText, library: &mut L, file: &str) {
     rows.show("== ", &file);

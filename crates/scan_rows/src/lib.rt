@@ -24,20 +24,30 @@ mod times;
 
 use calls::CALLS;
 use expressions::EXPRESSIONS;
+use row::Row;
 use row_text::RowText;
 use scans::{add_row, add_tick};
 use statements::STATEMENTS;
-use ticker::TICKS;
+use ticker::{TICKS, TickerRow};
 pub use times::{time_drafts, time_scans};
+
+// The tables are handed over, since a loop that has a long one in it is dear to prove.
+fn add_ticks(rows: &mut RowText, table: &[TickerRow]) {
+    for row in table {
+        add_tick(rows, row);
+    }
+}
+
+fn add_table(rows: &mut RowText, table: &[Row]) {
+    for row in table {
+        add_row(rows, row);
+    }
+}
 
 /// Adds the rows.
 pub fn add_scans(rows: &mut RowText) {
-    for row in TICKS {
-        add_tick(rows, row);
-    }
-    for table in [STATEMENTS, EXPRESSIONS, CALLS] {
-        for row in table {
-            add_row(rows, row);
-        }
-    }
+    add_ticks(rows, TICKS);
+    add_table(rows, STATEMENTS);
+    add_table(rows, EXPRESSIONS);
+    add_table(rows, CALLS);
 }

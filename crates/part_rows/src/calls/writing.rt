@@ -59,11 +59,17 @@ fn add_group<L: Local>(rows: &mut RowText, local: &mut L, setting: &CallSetting,
     }
 }
 
-// The groups, each on a draft of its own, which is dropped.
-fn add_groups(rows: &mut RowText, node: &Store, routes: &Routes, setting: &CallSetting)
+// The groups, each on a draft of its own, which is dropped. They are handed over, since a loop that has a long table in it is dear to prove.
+fn add_groups(
+    rows: &mut RowText,
+    node: &Store,
+    routes: &Routes,
+    setting: &CallSetting,
+    groups: &[&[Row]],
+)
     requires { GoesOn node.now routes.now NOW }
 {
-    for group in GROUPS {
+    for group in groups {
         let mut draft = Draft::on(rows.alloc(), node, routes, 42, NOW);
         add_group(rows, &mut draft, setting, group);
     }
@@ -93,7 +99,7 @@ fn add_on(rows: &mut RowText, node: &mut Store, routes: &Routes)
         return rows.lose();
     }
     match setting(rows.alloc()) {
-        Ok(setting) => add_groups(rows, node, routes, &setting),
+        Ok(setting) => add_groups(rows, node, routes, &setting, GROUPS),
         Err(NoMemory) => rows.lose(),
     }
 }
