@@ -14,7 +14,7 @@ use Rattle.slicc_plan.specs.BuiltInCalls.{Call, Change, no_change, of_receiver, 
 use Rattle.slicc_plan.specs.CallTypes.{Given, Typed, answer_of, broken_in, built_in_call, built_in_named, call_named, call_unless, declared_call, formal_wanted, found_index, found_method, function_call, index_call, is_told, method_call, named_call, no_field, not_called, plain, plain_call, wanted_by, wrong_argument, wrong_arguments, wrong_change, wrong_count, wrong_line_type, wrong_new_line}
 use Rattle.slicc_plan.specs.Declarations.{Declaration, machine, enumeration, structure, states, parameter, object, out_port as out_port_declaration, in_port as in_port_declaration, action, function, symbol, state, member, formal, local, first_named, machine_declarations, within}
 use Rattle.slicc_plan.specs.Environment.{Bound, Environment, is_allowed, type_named, value_named}
-use Rattle.slicc_plan.specs.Meanings.{Meaning, value, no_line, bare_line, new_line, incoming, outgoing, table, in_port, out_port, nothing, unknown, Wanted, anything, any_value, one_of, any_line, only_no_line, comparable, new_line_of, table_of, any_in_port, any_out_port, answer_of_type, told, unfit, unless}
+use Rattle.slicc_plan.specs.Meanings.{Meaning, value, no_line, bare_line, new_line, incoming, outgoing, table, in_port, out_port, nothing, unknown, Wanted, anything, any_value, one_of, any_line, only_no_line, comparable, new_line_of, address_or_line_of, table_of, any_in_port, any_out_port, answer_of_type, told, unfit, unless}
 use Rattle.slicc_plan.specs.Order.{first_of}
 use Rattle.slicc_plan.specs.Types.{KnownType, type_in}
 use Rattle.body_types.specs.Found.{found_of}
@@ -46,6 +46,7 @@ argument_known env (new_line_of t) g = new_line_known env t g g.typed.meaning
 argument_known env anything g = front_known g.typed.broken (unfit env.machine anything g.place g.typed.meaning)
 argument_known env any_value g = front_known g.typed.broken (unfit env.machine any_value g.place g.typed.meaning)
 argument_known env (one_of ts) g = front_known g.typed.broken (unfit env.machine (one_of ts) g.place g.typed.meaning)
+argument_known env (address_or_line_of t) g = front_known g.typed.broken (unfit env.machine (address_or_line_of t) g.place g.typed.meaning)
 argument_known env any_line g = front_known g.typed.broken (unfit env.machine any_line g.place g.typed.meaning)
 argument_known env only_no_line g = front_known g.typed.broken (unfit env.machine only_no_line g.place g.typed.meaning)
 argument_known env comparable g = front_known g.typed.broken (unfit env.machine comparable g.place g.typed.meaning)
@@ -178,12 +179,12 @@ method_known_on env at n gs on =
 index_found_known : (env : Environment) (at : Span) (on : Typed) (o : Option Call) (g : Given) → found_of (found_index env at on o (g ∷ [])) ≡ found_of (found_index env at on o (known_given g ∷ []))
 index_found_known env at on None g =
     plain_same unknown _ _
-    (back_same on.broken (told WrongType at ∷ broken_in (g ∷ [])) (told WrongType at ∷ broken_in (known_given g ∷ []))
-    (back_same (told WrongType at ∷ []) (broken_in (g ∷ [])) (broken_in (known_given g ∷ [])) (broken_in_known (g ∷ []))))
+    (back_same on.broken (told NotThere at ∷ broken_in (g ∷ [])) (told NotThere at ∷ broken_in (known_given g ∷ []))
+    (back_same (told NotThere at ∷ []) (broken_in (g ∷ [])) (broken_in (known_given g ∷ [])) (broken_in_known (g ∷ []))))
 index_found_known env at on (Some c) g = built_in_known env at on c (g ∷ [])
 
 index_found_known_on : (env : Environment) (at : Span) (o : Option Call) (gs : List Given) (on : Typed) → found_of (found_index env at on o gs) ≡ found_of (found_index env at (known on) o gs)
-index_found_known_on env at None gs on = plain_same unknown _ _ (front_known on.broken (told WrongType at ∷ broken_in gs))
+index_found_known_on env at None gs on = plain_same unknown _ _ (front_known on.broken (told NotThere at ∷ broken_in gs))
 index_found_known_on env at (Some c) gs on = built_in_known_on env at c gs on
 
 pub index_known : (env : Environment) (at : Span) (on : Typed) (g : Given) → found_of (index_call env at on g) ≡ found_of (index_call env at on (known_given g))
