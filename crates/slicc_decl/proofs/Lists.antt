@@ -1,5 +1,6 @@
 -- What lists of members are spelled by, member by member.
-use Rattle.std.proofs.Common.{◌≡◌, List, [], ◌∷◌, refl, ap, subst, sym}
+use Rattle.std.proofs.Common.{◌≡◌, ◌==◌, ℕ, Bool, not, IsTrue, List, [], ◌∷◌, length, refl, ap, subst, sym, Bor, Result, Ok, Err, IfOk}
+use Rattle.std.specs.Result.{MatchResult}
 use Rattle.slicc_ast.specs.declared.tree.declaration.Pair.{Pair}
 use Rattle.slicc_ast.specs.declared.tree.declaration.State.{State}
 use Rattle.slicc_ast.specs.declared.tree.declaration.Symbol.{Symbol}
@@ -11,10 +12,12 @@ use Rattle.slicc_ast.specs.declared.tree.token.Sign.TheVariants.{Comma}
 use Rattle.slicc_ast.specs.Declarations.{formal, formal_list, member, member_list, more_formals, pair_list, state_list, symbol_list}
 use Rattle.slicc_ast.specs.Machines.{action_list, more_names, name_list, parameter, parameter_list}
 use Rattle.slicc_ast.specs.Names.{name, sign}
-use Rattle.slicc_ast.specs.Outline.{Parts, none, part}
-use Rattle.slicc_reading.specs.Reading.{AreParts}
-use Rattle.slicc_reading.specs.Reading.AreParts.{nothing}
+use Rattle.slicc_ast.specs.Outline.{Parts, none, part, provided}
+use Rattle.slicc_grammar.specs.Parts.{Part}
 use Rattle.slicc_lex.specs.declared.token.Token.{Token}
+use Rattle.slicc_reading.specs.declared.fault.Fault.{Fault}
+use Rattle.slicc_reading.specs.Reading.{AreParts, AreRead, Refuses}
+use Rattle.slicc_reading.specs.Reading.AreParts.{allowed, nothing}
 use Rattle.slicc_decl.specs.Members.{action_parts, pair_parts, state_parts, symbol_parts}
 use Rattle.slicc_reading.proofs.Repeats.{each}
 
@@ -61,6 +64,16 @@ each_further_name (first ∷ items) others = ap (λ p. further_name first p) (ea
 
 pub each_name : (first : Name) (items : List Name) (others : Parts) → name_list (first ∷ items) others ≡ name first (each further_name items others)
 each_name first items others = ap (λ p. name first p) (each_further_name items others)
+
+is_allowed : {condition : Bool} {parts : Parts} {tokens left : List Token} → AreParts (provided condition parts) tokens left → IsTrue condition
+is_allowed (allowed holds m) = holds
+
+-- what was read on the condition that there are some is not empty
+pub some_names : (room : ℕ) (g : Part) (tokens : List Token) (q : List Name → Parts → Parts) (r : Result (List Name × Bor (List Token)) Fault)
+    → MatchResult r (λ x. AreRead room g (λ others. provided (not (length x.0 == 0)) (q x.0 others)) tokens x.1.now) (Refuses room g tokens)
+    → IfOk r (λ x. IsTrue (not (length x.0 == 0)))
+some_names room g tokens q (Ok x) m = is_allowed (m.spells none _ nothing)
+some_names room g tokens q (Err e) m = tt
 
 -- attributes, and a transition's actions
 pub each_pair : (items : List Pair) → pair_list items ≡ each pair_parts items none

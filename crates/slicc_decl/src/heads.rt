@@ -11,7 +11,7 @@ ghost use Rattle.slicc_reading.specs.Reading.{AreRead, Refuses};
 
 use slicc_ast::tree::{Name, Pairs, Sign};
 use slicc_lex::Token;
-use slicc_reading::{Fault, is_sign, name, open, pairs, sign};
+use slicc_reading::{Fault, ended, is_sign, name, open, pairs};
 use std::alloc::Global;
 
 /// Whether attributes and `;` begin with the first token.
@@ -33,13 +33,7 @@ pub fn ended_pairs(
         (Refuses room (pairs_part ▸ sign_part end) tokens.now) }
     ensures shorter { IfOk result (λ read. length read.1.now < length tokens.now) }
 {
-    match pairs(alloc, room, tokens) {
-        Ok((attributes, behind)) => match sign(room, end, behind) {
-            Ok(left) => Ok((attributes, left)),
-            Err(fault) => Err(fault),
-        },
-        Err(fault) => Err(fault),
-    }
+    ended(room, pairs(alloc, room, tokens), end)
 }
 
 /// A name and the sign that ends it.
@@ -54,13 +48,7 @@ pub fn ended_by(
         (Refuses room (name_part ▸ sign_part end) tokens.now) }
     ensures shorter { IfOk result (λ read. length read.1.now < length tokens.now) }
 {
-    match name(alloc, room, tokens) {
-        Ok((called, behind)) => match sign(room, end, behind) {
-            Ok(left) => Ok((called, left)),
-            Err(fault) => Err(fault),
-        },
-        Err(fault) => Err(fault),
-    }
+    ended(room, name(alloc, room, tokens), end)
 }
 
 /// A name, attributes and the sign that ends them.
@@ -78,7 +66,10 @@ pub fn ended_name(
     match name(alloc, room, tokens) {
         Ok((called, behind)) => match ended_pairs(alloc, room, end, behind) {
             Ok((attributes, left)) => Ok((called, attributes, left)),
-            Err(fault) => Err(fault),
+            Err(fault) => {
+                drop(called);
+                Err(fault)
+            }
         },
         Err(fault) => Err(fault),
     }

@@ -19,7 +19,9 @@ use crate::parameters::parameter;
 use slicc_ast::Text;
 use slicc_ast::tree::{Name, Pairs, Parameter, Sign, TokenKind};
 use slicc_lex::Token;
-use slicc_reading::{Fault, is_name, is_sign, name, open, refuse, sign, split_first, string};
+use slicc_reading::{
+    Fault, is_name, is_sign, name, name_after, open, refuse, sign, split_first, string,
+};
 use std::alloc::Global;
 
 fn is_machine_type_text(text: &[u8]) -> bool
@@ -47,18 +49,6 @@ fn is_machine_type(tokens: &[Token]) -> bool
     }
 }
 
-/// A colon and a name.
-fn colon_name(alloc: Global, room: u32, tokens: &[Token]) -> Result<(Name, &[Token]), Fault>
-    ensures { MatchResult result
-        (λ read. AreRead room (colon ▸ name_part) (λ others. sign_of Colon (name_of read.0 others)) tokens.now read.1.now)
-        (Refuses room (colon ▸ name_part) tokens.now) }
-{
-    match sign(room, Sign::Colon, tokens) {
-        Ok(behind) => name(alloc, room, behind),
-        Err(fault) => Err(fault),
-    }
-}
-
 /// The name of a machine, and whether `MachineType:` is before it.
 fn machine_name(alloc: Global, room: u32, tokens: &[Token]) -> Result<(bool, Name, &[Token]), Fault>
     ensures { MatchResult result
@@ -76,7 +66,8 @@ fn machine_name(alloc: Global, room: u32, tokens: &[Token]) -> Result<(bool, Nam
             if !is_sign(Sign::Colon, behind) {
                 return Ok((false, first, behind));
             }
-            match colon_name(alloc, room, behind) {
+            drop(first);
+            match name_after(alloc, room, Sign::Colon, behind) {
                 Ok((called, left)) => Ok((true, called, left)),
                 Err(fault) => Err(fault),
             }

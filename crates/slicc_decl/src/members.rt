@@ -12,33 +12,27 @@ use crate::heads::{ended_by, ended_name, head};
 use slicc_ast::Seq;
 use slicc_ast::tree::{Enumeration, Sign, State, States, Symbol, Word};
 use slicc_lex::Token;
-use slicc_reading::{Fault, is_name, is_word, open, refuse, sign, span, word};
+use slicc_reading::{Fault, added, ended, is_name, is_word, open, refuse, span, word};
 use std::alloc::Global;
 
 /// Members of an enumeration and `}`.
-fn symbols(alloc: Global, room: u32, tokens: &[Token]) -> Result<(Vec<Symbol>, &[Token]), Fault>
+fn symbols(alloc: Global, room: u32, tokens: &[Token]) -> Result<(Seq<Symbol>, &[Token]), Fault>
     ensures { MatchResult result
-        (λ read. AreRead room (repeated symbol_row ▸ sign_part CloseBrace) (λ others. symbol_list read.0.items (sign_of CloseBrace others)) tokens.now read.1.now)
+        (λ read. AreRead room (repeated symbol_row ▸ sign_part CloseBrace) (λ others. symbol_list read.0 (sign_of CloseBrace others)) tokens.now read.1.now)
         (Refuses room (repeated symbol_row ▸ sign_part CloseBrace) tokens.now) }
 {
-    let mut items = Vec::new(alloc);
+    let mut items = Seq::new(alloc);
     let mut left = tokens;
     'members: while is_name(left) {
         match ended_name(alloc, room, Sign::Semicolon, left) {
             Ok((name, pairs, after)) => match items.push(Symbol { name, pairs }) {
                 Ok(()) => left = after,
-                Err(failed) => {
-                    drop(failed);
-                    return Err(Fault::NoMemory);
-                }
+                Err(_) => return Err(Fault::NoMemory),
             },
             Err(fault) => return Err(fault),
         }
     }
-    match sign(room, Sign::CloseBrace, left) {
-        Ok(behind) => Ok((items, behind)),
-        Err(fault) => Err(fault),
-    }
+    ended(room, Ok((items, left)), Sign::CloseBrace)
 }
 
 /// Members of an enumeration in braces.
@@ -46,9 +40,9 @@ fn symbol_block(
     alloc: Global,
     room: u32,
     tokens: &[Token],
-) -> Result<(Vec<Symbol>, &[Token]), Fault>
+) -> Result<(Seq<Symbol>, &[Token]), Fault>
     ensures { MatchResult result
-        (λ read. AreRead room (braces (repeated symbol_row)) (λ others. sign_of OpenBrace (symbol_list read.0.items (sign_of CloseBrace others))) tokens.now read.1.now)
+        (λ read. AreRead room (braces (repeated symbol_row)) (λ others. sign_of OpenBrace (symbol_list read.0 (sign_of CloseBrace others))) tokens.now read.1.now)
         (Refuses room (braces (repeated symbol_row)) tokens.now) }
 {
     match open(room, Sign::OpenBrace, tokens) {
@@ -75,7 +69,6 @@ pub fn enumeration(
             Ok((name, pairs, behind)) => match symbol_block(alloc, room, behind) {
                 Ok((members, left)) => {
                     let span = span(tokens, left);
-                    let members = Seq::of(members);
                     Ok((
                         Enumeration {
                             name,
@@ -86,7 +79,11 @@ pub fn enumeration(
                         left,
                     ))
                 }
-                Err(fault) => Err(fault),
+                Err(fault) => {
+                    drop(name);
+                    drop(pairs);
+                    Err(fault)
+                }
             },
             Err(fault) => Err(fault),
         },
@@ -126,35 +123,29 @@ fn state_members(
     alloc: Global,
     room: u32,
     tokens: &[Token],
-) -> Result<(Vec<State>, &[Token]), Fault>
+) -> Result<(Seq<State>, &[Token]), Fault>
     ensures { MatchResult result
-        (λ read. AreRead room (repeated state_row ▸ sign_part CloseBrace) (λ others. state_list read.0.items (sign_of CloseBrace others)) tokens.now read.1.now)
+        (λ read. AreRead room (repeated state_row ▸ sign_part CloseBrace) (λ others. state_list read.0 (sign_of CloseBrace others)) tokens.now read.1.now)
         (Refuses room (repeated state_row ▸ sign_part CloseBrace) tokens.now) }
 {
-    let mut items = Vec::new(alloc);
+    let mut items = Seq::new(alloc);
     let mut left = tokens;
     'members: while is_name(left) {
-        match state(alloc, room, left) {
-            Ok((next, after)) => match items.push(next) {
-                Ok(()) => left = after,
-                Err(failed) => {
-                    drop(failed);
-                    return Err(Fault::NoMemory);
-                }
-            },
-            Err(fault) => return Err(fault),
+        match added(&mut items, state(alloc, room, left)) {
+            Ok(after) => left = after,
+            Err(fault) => {
+                drop(items);
+                return Err(fault);
+            }
         }
     }
-    match sign(room, Sign::CloseBrace, left) {
-        Ok(behind) => Ok((items, behind)),
-        Err(fault) => Err(fault),
-    }
+    ended(room, Ok((items, left)), Sign::CloseBrace)
 }
 
 /// States in braces.
-fn state_block(alloc: Global, room: u32, tokens: &[Token]) -> Result<(Vec<State>, &[Token]), Fault>
+fn state_block(alloc: Global, room: u32, tokens: &[Token]) -> Result<(Seq<State>, &[Token]), Fault>
     ensures { MatchResult result
-        (λ read. AreRead room (braces (repeated state_row)) (λ others. sign_of OpenBrace (state_list read.0.items (sign_of CloseBrace others))) tokens.now read.1.now)
+        (λ read. AreRead room (braces (repeated state_row)) (λ others. sign_of OpenBrace (state_list read.0 (sign_of CloseBrace others))) tokens.now read.1.now)
         (Refuses room (braces (repeated state_row)) tokens.now) }
 {
     match open(room, Sign::OpenBrace, tokens) {
@@ -177,7 +168,6 @@ pub fn states(alloc: Global, room: u32, tokens: &[Token]) -> Result<(States, &[T
             Ok((name, pairs, behind)) => match state_block(alloc, room, behind) {
                 Ok((members, left)) => {
                     let span = span(tokens, left);
-                    let members = Seq::of(members);
                     Ok((
                         States {
                             name,
@@ -188,7 +178,11 @@ pub fn states(alloc: Global, room: u32, tokens: &[Token]) -> Result<(States, &[T
                         left,
                     ))
                 }
-                Err(fault) => Err(fault),
+                Err(fault) => {
+                    drop(name);
+                    drop(pairs);
+                    Err(fault)
+                }
             },
             Err(fault) => Err(fault),
         },

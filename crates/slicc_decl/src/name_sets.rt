@@ -10,64 +10,42 @@ ghost use Rattle.slicc_reading.specs.Reading.{AreRead, Refuses};
 use slicc_ast::Seq;
 use slicc_ast::tree::{Name, Names, Sign};
 use slicc_lex::Token;
-use slicc_reading::{Fault, is_name, is_sign, name, open, refuse, sign, span};
+use slicc_reading::{Fault, added, ended, is_name, is_sign, name, name_after, open, refuse, span};
 use std::alloc::Global;
 
-/// A comma and a name.
-fn next_name(alloc: Global, room: u32, tokens: &[Token]) -> Result<(Name, &[Token]), Fault>
-    ensures read { MatchResult result
-        (λ read. AreRead room (comma ▸ name_part) (λ others. sign_of Comma (name_of read.0 others)) tokens.now read.1.now)
-        (Refuses room (comma ▸ name_part) tokens.now) }
-    ensures shorter { IfOk result (λ read. length read.1.now < length tokens.now) }
-{
-    match sign(room, Sign::Comma, tokens) {
-        Ok(behind) => name(alloc, room, behind),
-        Err(fault) => Err(fault),
-    }
-}
-
 /// Names, separated by commas, and `}`.
-fn closed_names(alloc: Global, room: u32, tokens: &[Token]) -> Result<(Vec<Name>, &[Token]), Fault>
+fn closed_names(alloc: Global, room: u32, tokens: &[Token]) -> Result<(Seq<Name>, &[Token]), Fault>
     ensures read { MatchResult result
-        (λ read. AreRead room ((name_part ▸ repeated (comma ▸ name_part)) ▸ sign_part CloseBrace) (λ others. name_list read.0.items (sign_of CloseBrace others)) tokens.now read.1.now)
+        (λ read. AreRead room ((name_part ▸ repeated (comma ▸ name_part)) ▸ sign_part CloseBrace) (λ others. name_list read.0 (sign_of CloseBrace others)) tokens.now read.1.now)
         (Refuses room ((name_part ▸ repeated (comma ▸ name_part)) ▸ sign_part CloseBrace) tokens.now) }
-    ensures some { IfOk result (λ read. IsTrue (not (length read.0.items == 0))) }
+    ensures some { IfOk result (λ read. IsTrue (not (length read.0 == 0))) }
 {
-    let mut items = Vec::new(alloc);
+    let mut items = Seq::new(alloc);
     let mut left = match name(alloc, room, tokens) {
         Ok((first, behind)) => match items.push(first) {
             Ok(()) => behind,
-            Err(failed) => {
-                drop(failed);
-                return Err(Fault::NoMemory);
-            }
+            Err(_) => return Err(Fault::NoMemory),
         },
         Err(fault) => return Err(fault),
     };
     'commas: while is_sign(Sign::Comma, left) {
-        match next_name(alloc, room, left) {
-            Ok((next, after)) => match items.push(next) {
-                Ok(()) => left = after,
-                Err(failed) => {
-                    drop(failed);
-                    return Err(Fault::NoMemory);
-                }
-            },
-            Err(fault) => return Err(fault),
+        match added(&mut items, name_after(alloc, room, Sign::Comma, left)) {
+            Ok(after) => left = after,
+            Err(fault) => {
+                drop(items);
+                return Err(fault);
+            }
         }
     }
-    match sign(room, Sign::CloseBrace, left) {
-        Ok(behind) => Ok((items, behind)),
-        Err(fault) => Err(fault),
-    }
+    ended(room, Ok((items, left)), Sign::CloseBrace)
 }
 
 /// Names in braces.
-fn name_block(alloc: Global, room: u32, tokens: &[Token]) -> Result<(Vec<Name>, &[Token]), Fault>
+fn name_block(alloc: Global, room: u32, tokens: &[Token]) -> Result<(Seq<Name>, &[Token]), Fault>
     ensures read { MatchResult result
-        (λ read. AreRead room (braces (name_part ▸ repeated (comma ▸ name_part))) (λ others. sign_of OpenBrace (name_list read.0.items (sign_of CloseBrace others))) tokens.now read.1.now)
+        (λ read. AreRead room (braces (name_part ▸ repeated (comma ▸ name_part))) (λ others. sign_of OpenBrace (name_list read.0 (sign_of CloseBrace others))) tokens.now read.1.now)
         (Refuses room (braces (name_part ▸ repeated (comma ▸ name_part))) tokens.now) }
-    ensures some { IfOk result (λ read. IsTrue (not (length read.0.items == 0))) }
+    ensures some { IfOk result (λ read. IsTrue (not (length read.0 == 0))) }
 {
     match open(room, Sign::OpenBrace, tokens) {
         Ok(behind) => closed_names(alloc, room - 1, behind),
@@ -93,7 +71,7 @@ pub fn names(alloc: Global, room: u32, tokens: &[Token]) -> Result<(Names, &[Tok
     match name_block(alloc, room, tokens) {
         Ok((several, left)) => {
             let span = span(tokens, left);
-            Ok((Names::Several(Seq::of(several), span), left))
+            Ok((Names::Several(several, span), left))
         }
         Err(fault) => Err(fault),
     }

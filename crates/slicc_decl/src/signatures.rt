@@ -11,7 +11,9 @@ ghost use Rattle.slicc_reading.specs.Reading.{AreRead, IsRead, Refuses};
 use slicc_ast::Seq;
 use slicc_ast::tree::{Formal, Formals, Name, Sign, TypeName};
 use slicc_lex::Token;
-use slicc_reading::{Fault, is_name, is_sign, name, open, refuse, sign, span, type_name};
+use slicc_reading::{
+    Fault, added, ended, is_name, is_sign, name, open, refuse, sign, span, type_name,
+};
 use std::alloc::Global;
 
 /// Whether a star is first, and what is behind it.
@@ -117,31 +119,24 @@ fn several_formals(alloc: Global, room: u32, tokens: &[Token]) -> Result<(Formal
         (λ read. IsRead room (of formal_form ▸ repeated (comma ▸ of formal_form)) (node read.0.span (formal_list read.0.items)) tokens.now tokens.now read.1.now)
         (Refuses room (of formal_form ▸ repeated (comma ▸ of formal_form)) tokens.now) }
 {
-    let mut items = Vec::new(alloc);
+    let mut items = Seq::new(alloc);
     let mut left = match formal(alloc, room, tokens) {
         Ok((first, behind)) => match items.push(first) {
             Ok(()) => behind,
-            Err(failed) => {
-                drop(failed);
-                return Err(Fault::NoMemory);
-            }
+            Err(_) => return Err(Fault::NoMemory),
         },
         Err(fault) => return Err(fault),
     };
     'commas: while is_sign(Sign::Comma, left) {
-        match next_formal(alloc, room, left) {
-            Ok((next, after)) => match items.push(next) {
-                Ok(()) => left = after,
-                Err(failed) => {
-                    drop(failed);
-                    return Err(Fault::NoMemory);
-                }
-            },
-            Err(fault) => return Err(fault),
+        match added(&mut items, next_formal(alloc, room, left)) {
+            Ok(after) => left = after,
+            Err(fault) => {
+                drop(items);
+                return Err(fault);
+            }
         }
     }
     let span = span(tokens, left);
-    let items = Seq::of(items);
     Ok((Formals { items, span }, left))
 }
 
@@ -163,21 +158,6 @@ fn optional_formals(
     Ok((Formals { items, span }, tokens))
 }
 
-/// Formals where there are some, and `)`.
-fn closed_formals(alloc: Global, room: u32, tokens: &[Token]) -> Result<(Formals, &[Token]), Fault>
-    ensures { MatchResult result
-        (λ read. AreRead room (optional (of formals_form) ▸ sign_part CloseParenthesis) (λ others. part (node read.0.span (formal_list read.0.items)) (sign_of CloseParenthesis others)) tokens.now read.1.now)
-        (Refuses room (optional (of formals_form) ▸ sign_part CloseParenthesis) tokens.now) }
-{
-    match optional_formals(alloc, room, tokens) {
-        Ok((formals, behind)) => match sign(room, Sign::CloseParenthesis, behind) {
-            Ok(left) => Ok((formals, left)),
-            Err(fault) => Err(fault),
-        },
-        Err(fault) => Err(fault),
-    }
-}
-
 /// The formals of a function in parentheses.
 pub fn formals(alloc: Global, room: u32, tokens: &[Token]) -> Result<(Formals, &[Token]), Fault>
     ensures { MatchResult result
@@ -185,7 +165,11 @@ pub fn formals(alloc: Global, room: u32, tokens: &[Token]) -> Result<(Formals, &
         (Refuses room (parentheses (optional (of formals_form))) tokens.now) }
 {
     match open(room, Sign::OpenParenthesis, tokens) {
-        Ok(behind) => closed_formals(alloc, room - 1, behind),
+        Ok(inside) => ended(
+            room - 1,
+            optional_formals(alloc, room - 1, inside),
+            Sign::CloseParenthesis,
+        ),
         Err(fault) => Err(fault),
     }
 }

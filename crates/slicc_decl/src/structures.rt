@@ -19,7 +19,7 @@ use slicc_ast::Seq;
 use slicc_ast::tree::{Member, Name, Sign, Structure, TypeName, Word};
 use slicc_lex::Token;
 use slicc_reading::{
-    Fault, is_name, is_sign, is_word, name, open, refuse, sign, span, type_name, word,
+    Fault, added, ended, is_name, is_sign, is_word, name, open, refuse, span, type_name, word,
 };
 use std::alloc::Global;
 
@@ -48,6 +48,8 @@ fn functional_member<'t>(
         };
     }
     if !begins_ended_pairs(behind) {
+        drop(kind);
+        drop(name);
         return Err(refuse(room, behind));
     }
     match ended_pairs(alloc, room, Sign::Semicolon, behind) {
@@ -63,7 +65,11 @@ fn functional_member<'t>(
                 left,
             ))
         }
-        Err(fault) => Err(fault),
+        Err(fault) => {
+            drop(kind);
+            drop(name);
+            Err(fault)
+        }
     }
 }
 
@@ -132,29 +138,23 @@ fn closed_members(
     alloc: Global,
     room: u32,
     tokens: &[Token],
-) -> Result<(Vec<Member>, &[Token]), Fault>
+) -> Result<(Seq<Member>, &[Token]), Fault>
     ensures { MatchResult result
-        (λ read. AreRead room members_row (members_parts read.0.items) tokens.now read.1.now)
+        (λ read. AreRead room members_row (members_parts read.0) tokens.now read.1.now)
         (Refuses room members_row tokens.now) }
 {
-    let mut items = Vec::new(alloc);
+    let mut items = Seq::new(alloc);
     let mut left = tokens;
     'members: while is_name(left) {
-        match member(alloc, room, left) {
-            Ok((next, after)) => match items.push(next) {
-                Ok(()) => left = after,
-                Err(failed) => {
-                    drop(failed);
-                    return Err(Fault::NoMemory);
-                }
-            },
-            Err(fault) => return Err(fault),
+        match added(&mut items, member(alloc, room, left)) {
+            Ok(after) => left = after,
+            Err(fault) => {
+                drop(items);
+                return Err(fault);
+            }
         }
     }
-    match sign(room, Sign::CloseBrace, left) {
-        Ok(behind) => Ok((items, behind)),
-        Err(fault) => Err(fault),
-    }
+    ended(room, Ok((items, left)), Sign::CloseBrace)
 }
 
 /// Members in braces.
@@ -162,9 +162,9 @@ fn member_block(
     alloc: Global,
     room: u32,
     tokens: &[Token],
-) -> Result<(Vec<Member>, &[Token]), Fault>
+) -> Result<(Seq<Member>, &[Token]), Fault>
     ensures { MatchResult result
-        (λ read. AreRead room structure_row (structure_parts read.0.items) tokens.now read.1.now)
+        (λ read. AreRead room structure_row (structure_parts read.0) tokens.now read.1.now)
         (Refuses room structure_row tokens.now) }
 {
     match open(room, Sign::OpenBrace, tokens) {
@@ -188,7 +188,6 @@ pub fn structure(alloc: Global, room: u32, tokens: &[Token]) -> Result<(Structur
             Ok((name, pairs, behind)) => match member_block(alloc, room, behind) {
                 Ok((members, left)) => {
                     let span = span(tokens, left);
-                    let members = Seq::of(members);
                     Ok((
                         Structure {
                             name,
@@ -199,7 +198,11 @@ pub fn structure(alloc: Global, room: u32, tokens: &[Token]) -> Result<(Structur
                         left,
                     ))
                 }
-                Err(fault) => Err(fault),
+                Err(fault) => {
+                    drop(name);
+                    drop(pairs);
+                    Err(fault)
+                }
             },
             Err(fault) => Err(fault),
         },

@@ -21,8 +21,8 @@ use slicc_ast::Seq;
 use slicc_ast::tree::{Name, Names, Pair, Pairs, Sign, Transition, Word};
 use slicc_lex::Token;
 use slicc_reading::{
-    Fault, assigned, is_name, is_sign, is_string, is_word, name, next_pair, open, pairs, refuse,
-    sign, span, string, word,
+    Fault, added, assigned, ended, is_name, is_sign, is_string, is_word, name, next_pair, open,
+    pairs, refuse, sign, span, string, word,
 };
 use std::alloc::Global;
 
@@ -39,25 +39,21 @@ fn further_pairs<'t>(
         (λ read. IsRead room pairs_part (node read.0.span (pair_list read.0.items)) start.now tokens.now read.1.now)
         (Refuses room pairs_part tokens.now) }
 {
-    let mut items = Vec::new(alloc);
+    let mut items = Seq::new(alloc);
     let Ok(()) = items.push(first) else {
         return Err(Fault::NoMemory);
     };
     let mut left = tokens;
     'commas: while is_sign(Sign::Comma, left) {
-        match next_pair(alloc, room, left) {
-            Ok((next, after)) => match items.push(next) {
-                Ok(()) => left = after,
-                Err(failed) => {
-                    drop(failed);
-                    return Err(Fault::NoMemory);
-                }
-            },
-            Err(fault) => return Err(fault),
+        match added(&mut items, next_pair(alloc, room, left)) {
+            Ok(after) => left = after,
+            Err(fault) => {
+                drop(items);
+                return Err(fault);
+            }
         }
     }
     let span = span(start, left);
-    let items = Seq::of(items);
     Ok((Pairs { items, span }, left))
 }
 
@@ -139,7 +135,10 @@ fn transition_end<'t>(
             }
             match pairs(alloc, room, behind) {
                 Ok((pairs, left)) => Ok((Some(called), pairs, left)),
-                Err(fault) => Err(fault),
+                Err(fault) => {
+                    drop(called);
+                    Err(fault)
+                }
             }
         }
         Err(fault) => Err(fault),
@@ -167,24 +166,6 @@ fn optional_end(
     }
 }
 
-/// The states of a transition and a comma.
-fn states_and_comma(alloc: Global, room: u32, tokens: &[Token]) -> Result<(Names, &[Token]), Fault>
-    ensures { MatchResult result
-        (λ read. AreRead room (of names_form ▸ comma) (λ others. names_of read.0 (sign_of Comma others)) tokens.now read.1.now)
-        (Refuses room (of names_form ▸ comma) tokens.now) }
-{
-    match names(alloc, room, tokens) {
-        Ok((states, behind)) => match sign(room, Sign::Comma, behind) {
-            Ok(left) => Ok((states, left)),
-            Err(fault) => {
-                drop(states);
-                Err(fault)
-            }
-        },
-        Err(fault) => Err(fault),
-    }
-}
-
 /// What a transition has in its parentheses.
 #[derive(Drop)]
 pub struct TransitionHead {
@@ -204,7 +185,7 @@ fn transition_inside(
         (λ read. AreRead room inside_part (λ others. names_of read.0.states (sign_of Comma (names_of read.0.events (next_parts read.0.next (pairs_of read.0.pairs others))))) tokens.now read.1.now)
         (Refuses room inside_part tokens.now) }
 {
-    match states_and_comma(alloc, room, tokens) {
+    match ended(room, names(alloc, room, tokens), Sign::Comma) {
         Ok((states, inside)) => match names(alloc, room, inside) {
             Ok((events, behind)) => match optional_end(alloc, room, behind) {
                 Ok((next, pairs, left)) => Ok((
@@ -231,28 +212,6 @@ fn transition_inside(
     }
 }
 
-/// The same and `)`.
-fn closed_head(
-    alloc: Global,
-    room: u32,
-    tokens: &[Token],
-) -> Result<(TransitionHead, &[Token]), Fault>
-    ensures { MatchResult result
-        (λ read. AreRead room (inside_part ▸ sign_part CloseParenthesis) (λ others. names_of read.0.states (sign_of Comma (names_of read.0.events (next_parts read.0.next (pairs_of read.0.pairs (sign_of CloseParenthesis others)))))) tokens.now read.1.now)
-        (Refuses room (inside_part ▸ sign_part CloseParenthesis) tokens.now) }
-{
-    match transition_inside(alloc, room, tokens) {
-        Ok((head, behind)) => match sign(room, Sign::CloseParenthesis, behind) {
-            Ok(left) => Ok((head, left)),
-            Err(fault) => {
-                drop(head);
-                Err(fault)
-            }
-        },
-        Err(fault) => Err(fault),
-    }
-}
-
 /// The same in parentheses.
 fn transition_head(
     alloc: Global,
@@ -264,41 +223,39 @@ fn transition_head(
         (Refuses room (parentheses inside_part) tokens.now) }
 {
     match open(room, Sign::OpenParenthesis, tokens) {
-        Ok(behind) => closed_head(alloc, room - 1, behind),
+        Ok(inside) => ended(
+            room - 1,
+            transition_inside(alloc, room - 1, inside),
+            Sign::CloseParenthesis,
+        ),
         Err(fault) => Err(fault),
     }
 }
 
 /// Actions and `}`.
-fn actions(alloc: Global, room: u32, tokens: &[Token]) -> Result<(Vec<Name>, &[Token]), Fault>
+fn actions(alloc: Global, room: u32, tokens: &[Token]) -> Result<(Seq<Name>, &[Token]), Fault>
     ensures { MatchResult result
-        (λ read. AreRead room (repeated action_row ▸ sign_part CloseBrace) (λ others. action_list read.0.items (sign_of CloseBrace others)) tokens.now read.1.now)
+        (λ read. AreRead room (repeated action_row ▸ sign_part CloseBrace) (λ others. action_list read.0 (sign_of CloseBrace others)) tokens.now read.1.now)
         (Refuses room (repeated action_row ▸ sign_part CloseBrace) tokens.now) }
 {
-    let mut items = Vec::new(alloc);
+    let mut items = Seq::new(alloc);
     let mut left = tokens;
     'members: while is_name(left) {
-        match ended_by(alloc, room, Sign::Semicolon, left) {
-            Ok((next, after)) => match items.push(next) {
-                Ok(()) => left = after,
-                Err(failed) => {
-                    drop(failed);
-                    return Err(Fault::NoMemory);
-                }
-            },
-            Err(fault) => return Err(fault),
+        match added(&mut items, ended_by(alloc, room, Sign::Semicolon, left)) {
+            Ok(after) => left = after,
+            Err(fault) => {
+                drop(items);
+                return Err(fault);
+            }
         }
     }
-    match sign(room, Sign::CloseBrace, left) {
-        Ok(behind) => Ok((items, behind)),
-        Err(fault) => Err(fault),
-    }
+    ended(room, Ok((items, left)), Sign::CloseBrace)
 }
 
 /// Actions in braces.
-fn action_block(alloc: Global, room: u32, tokens: &[Token]) -> Result<(Vec<Name>, &[Token]), Fault>
+fn action_block(alloc: Global, room: u32, tokens: &[Token]) -> Result<(Seq<Name>, &[Token]), Fault>
     ensures { MatchResult result
-        (λ read. AreRead room (braces (repeated action_row)) (λ others. sign_of OpenBrace (action_list read.0.items (sign_of CloseBrace others))) tokens.now read.1.now)
+        (λ read. AreRead room (braces (repeated action_row)) (λ others. sign_of OpenBrace (action_list read.0 (sign_of CloseBrace others))) tokens.now read.1.now)
         (Refuses room (braces (repeated action_row)) tokens.now) }
 {
     match open(room, Sign::OpenBrace, tokens) {
@@ -331,7 +288,6 @@ pub fn transition(
                         pairs,
                     } = head;
                     let span = span(tokens, left);
-                    let actions = Seq::of(actions);
                     Ok((
                         Transition {
                             states,

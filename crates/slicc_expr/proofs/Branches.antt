@@ -57,11 +57,11 @@ list_of_row n end_of-Stmt others = refl
 list_of_row n (more_of-Stmt first row) others = ap (λ p. part (stmt first) p) (list_of_row _ row others)
 
 pub peek_outline : (port : Name) (message : TypeName) (attributes : Pairs) (body : Block) (span : Span)
-    → stmt (Peek port message attributes body span) ≡ node span (peek_head_parts port message attributes (block body none))
+    → stmt (Peek port message attributes body span) ≡ node span (peek_head_parts ((port, message), attributes) (block body none))
 peek_outline port message attributes body span = search (rules, the_lemmas, list_of_row)
 
 pub enqueue_outline : (port : Name) (message : TypeName) (latency : Option Expr) (body : Block) (span : Span)
-    → stmt (Enqueue port message latency body span) ≡ node span (enqueue_head_parts port message latency (block body none))
+    → stmt (Enqueue port message latency body span) ≡ node span (enqueue_head_parts ((port, message), latency) (block body none))
 enqueue_outline port message latency body span = search (rules, the_lemmas, list_of_row)
 
 else_ifs_of_row : (n : _) (row : Row_of-ElseIf n) (others : Parts) → else_if_row row others ≡ else_ifs_parts (items-the_row-ElseIf n row) others
@@ -72,7 +72,7 @@ else_ifs_of_row n (more_of-ElseIf condition shape inner span more) others =
 
 abbrev pub branches_of : If → Parts
 branches_of i =
-    branch_parts (out-If i).condition (out-If i).then (other_branches_parts (out-If i).others (out-If i).otherwise none)
+    branch_parts ((out-If i).condition, (out-If i).then) (other_branches_parts ((out-If i).others, (out-If i).otherwise) none)
 
 pub if_is : (i : If) → if_outline i ≡ node (out-If i).span (branches_of i)
 if_is (If' condition shape row block n others None' span) = search (rules, the_lemmas, list_of_row, else_ifs_of_row)

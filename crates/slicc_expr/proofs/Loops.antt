@@ -1,7 +1,7 @@
 -- What the loops of expressions have read so far, and how each goes on.
 use Rattle.std.proofs.lemmas.Bool.{false≢true}
 use Rattle.std.proofs.lemmas.List.{length-append}
-use Rattle.std.proofs.Common.{◌≡◌, ℕ, suc, ◌+◌, ◌-◌, ◌<◌, ◌≤◌, true, false, List, [], ◌∷◌, ◌++◌, length, refl, sym, subst, ap, ◌∙◌, arith}
+use Rattle.std.proofs.Common.{◌≡◌, ℕ, Option, suc, ◌+◌, ◌-◌, ◌<◌, ◌≤◌, true, false, List, [], ◌∷◌, ◌++◌, length, refl, sym, subst, ap, ◌∙◌, arith}
 use Rattle.slicc_ast.specs.declared.tree.expression.Expr.{Expr}
 use Rattle.slicc_ast.specs.declared.tree.expression.Operand.{Operand}
 use Rattle.slicc_ast.specs.declared.tree.expression.Operator.{Operator}
@@ -10,8 +10,10 @@ use Rattle.slicc_ast.specs.declared.tree.span.Span.{Span}
 use Rattle.slicc_ast.specs.declared.tree.token.TokenKind.TheVariants.{Sign as SignOf}
 use Rattle.slicc_ast.specs.declared.tree.token.Sign.TheVariants.{Comma, Dot, OpenBracket, Star, Plus as PlusSign, Minus as MinusSign, Less as LessSign, Greater as GreaterSign, LessOrEqual as LessOrEqualSign, GreaterOrEqual as GreaterOrEqualSign, Equal as EqualSign, Unequal as UnequalSign, And as AndSign, Or as OrSign}
 use Rattle.slicc_ast.specs.declared.tree.expression.Operator.TheVariants.{Or, And, Equal, Unequal, Less, Greater, LessOrEqual, GreaterOrEqual, Plus, Minus, Times}
-use Rattle.slicc_ast.specs.Expressions.{expr, suffix, level_of, list_level, operator_level, operator_sign, operand_list, suffix_list, args_list, more_args}
-use Rattle.slicc_ast.specs.Names.{sign}
+use Rattle.slicc_ast.specs.Expressions.{args, expr, mode_parts, suffix, level_of, list_level, operator_level, operator_sign, operand_list, suffix_list, args_list, more_args}
+use Rattle.slicc_ast.specs.declared.tree.expression.Args.{Args}
+use Rattle.slicc_ast.specs.declared.tree.name.TypeName.{TypeName}
+use Rattle.slicc_ast.specs.Names.{sign, type_name}
 use Rattle.slicc_ast.specs.Outline.{node, Parts, none, part}
 use Rattle.grammar_rows.specs.Grammar.{Row}
 use Rattle.grammar_rows.specs.Grammar.Row.{done, form, maybe, token as token_row}
@@ -47,6 +49,16 @@ more_onto (first ∷ items) others = sign Comma (part (expr first) (more_onto it
 abbrev pub args_onto : List Expr → Parts → Parts
 args_onto [] others = others
 args_onto (first ∷ items) others = part (expr first) (more_onto items others)
+
+-- an expression, the arguments of a call, and what stands before the expression of a cast
+abbrev pub expr_parts : Expr → Parts → Parts
+expr_parts e others = part (expr e) others
+
+abbrev pub args_parts : Args → Parts → Parts
+args_parts a others = part (args a) others
+
+abbrev pub head_parts : TypeName × Option (List ℕ) → Parts → Parts
+head_parts head others = type_name head.0 (sign Comma (mode_parts head.1 others))
 
 abbrev pub operand : ℕ → Part
 operand at = token_row (kinds_at at) ▸ form (form_at at)

@@ -70,5 +70,3 @@ expr_of_Postfix e suffixes span = ap expr (Postfix_is e suffixes span) ∙ searc
 
 pub level_of_Postfix : (e : Expr) (suffixes : List Suffix) (span : Span) → level_of (views.Postfix e suffixes span) ≡ 8
 level_of_Postfix e suffixes span = ap level_of (Postfix_is e suffixes span)
-
-pub ruleset made_of_boxes = (expr_of_Not, level_of_Not, expr_of_Negate, level_of_Negate, expr_of_IsValid, level_of_IsValid, expr_of_IsInvalid, level_of_IsInvalid, expr_of_Group, level_of_Group, expr_of_Cast, level_of_Cast, expr_of_Operation, level_of_Operation, expr_of_Postfix, level_of_Postfix)

@@ -2,8 +2,9 @@
 use Rattle.std.proofs.Common.{◌≡◌, ℕ, true, false, List, [], ◌∷◌, refl, sym, subst}
 use Rattle.slicc_ast.specs.declared.tree.statement.PrintWord.{PrintWord}
 use Rattle.slicc_ast.specs.declared.tree.statement.PrintWord.TheVariants.{Dprintf, AppendTransitionComment}
-use Rattle.slicc_ast.specs.declared.tree.token.TokenKind.TheVariants.{Word as WordOf}
+use Rattle.slicc_ast.specs.declared.tree.token.TokenKind.TheVariants.{Quoted, Word as WordOf}
 use Rattle.slicc_ast.specs.Names.{word}
+use Rattle.slicc_ast.specs.Outline.{Parts, token}
 use Rattle.slicc_ast.specs.Statements.{print_word as print_word_of}
 use Rattle.grammar_rows.specs.Kinds.{has, is_ahead}
 use Rattle.slicc_grammar.specs.TokenKinds.{kind_of, word_kind}
@@ -14,6 +15,10 @@ use Rattle.slicc_reading.specs.Reading.{AreRead}
 use Rattle.slicc_reading.proofs.FirstTokens.{later_kind}
 use Rattle.slicc_reading.proofs.Parts.{token_read}
 use Rattle.slicc_expr.specs.StatementParts.{IsPrintWord, calling_words, print_kinds, print_word}
+
+-- a string
+abbrev pub text_parts : List ℕ → Parts → Parts
+text_parts text others = token (Quoted text) others
 
 is_print_kind : (which : PrintWord) → has print_kinds (word_kind (print_word_of which)) ≡ true
 is_print_kind Dprintf = refl

@@ -9,7 +9,8 @@ use Rattle.slicc_ast.specs.declared.tree.statement.ElseIf.{ElseIf}
 use Rattle.slicc_ast.specs.declared.tree.statement.PrintWord.{PrintWord}
 use Rattle.slicc_ast.specs.declared.tree.statement.Stmt.{Stmt}
 use Rattle.slicc_ast.specs.declared.tree.token.TokenKind.{TokenKind}
-use Rattle.slicc_ast.specs.declared.tree.token.TokenKind.TheVariants.{Name as Named, Quoted, Word as WordOf}
+use Rattle.slicc_ast.specs.declared.tree.token.TokenKind.TheVariants.{Name as Named, Word as WordOf}
+use Rattle.slicc_ast.specs.declared.tree.token.Sign.{Sign}
 use Rattle.slicc_ast.specs.declared.tree.token.Sign.TheVariants.{CloseBrace, OpenParenthesis, CloseParenthesis, Comma, Assign as AssignSign, Colon, Dot, OpenBracket, Star, Plus, Minus, Less, Greater, LessOrEqual, GreaterOrEqual, Equal, Unequal, And, Or, Semicolon}
 use Rattle.slicc_ast.specs.declared.tree.token.Word.TheVariants.{Return as ReturnWord, If as IfWord, Else as ElseWord, Peek as PeekWord, Enqueue as EnqueueWord, StallAndWait as StallAndWaitWord, CheckAllocate as CheckAllocateWord, Error as ErrorWord, Assert as AssertWord, Dprintf, AppendTransitionComment}
 use Rattle.slicc_ast.specs.Declarations.{pairs as pairs_parts}
@@ -19,7 +20,7 @@ use Rattle.slicc_ast.specs.Outline.{Outline, node, none, Parts, part, token}
 use Rattle.slicc_ast.specs.Statements.{block as block_parts, latency_parts, print_word as print_word_of, stmt_list}
 use Rattle.grammar_rows.specs.Kinds.{has, is_ahead}
 use Rattle.slicc_grammar.specs.Form.Form.{block, expression, name_end, opening, otherwise, statement, suffix}
-use Rattle.slicc_grammar.specs.Parts.{Part, ◌▸◌, assign, balanced, comma, name, of, operators, optional, pairs, parentheses, repeated, semicolon, sign, string, type, word, words}
+use Rattle.slicc_grammar.specs.Parts.{Part, ◌▸◌, balanced, comma, name, of, operators, optional, pairs, parentheses, repeated, semicolon, sign, string, type, word, words}
 use Rattle.slicc_lex.specs.declared.token.Token.{Token}
 use Rattle.slicc_reading.specs.Reading.{IsSpelledBefore, Leads}
 use Rattle.slicc_grammar.specs.TokenKinds.{sign_kind, word_kind}
@@ -35,23 +36,23 @@ value_end = optional (of name_end) ▸ repeated (of suffix) ▸ operators
 abbrev pub opening_value : Part
 opening_value = of opening ▸ operators
 
--- := expr
-abbrev pub assigned_value : Part
-assigned_value = assign ▸ of expression
+-- a sign and an expression, as := expr
+abbrev pub value_after : Sign → Part
+value_after before = sign before ▸ of expression
 
-abbrev pub assigned_parts : Expr → Parts → Parts
-assigned_parts value others = sign_of AssignSign (part (expr value) others)
+abbrev pub value_after_parts : Sign → Expr → Parts → Parts
+value_after_parts before value others = sign_of before (part (expr value) others)
 
 -- what is behind the expression that a statement begins with
 abbrev pub expression_end : Part
-expression_end = optional assigned_value ▸ semicolon
+expression_end = optional (value_after AssignSign) ▸ semicolon
 
--- NAME := expr
-abbrev pub named_value : Part
-named_value = name ▸ assigned_value
+-- a name, a sign and an expression, as NAME := expr
+abbrev pub named_value : Sign → Part
+named_value between = name ▸ value_after between
 
-abbrev pub named_value_parts : Name → Expr → Parts → Parts
-named_value_parts called value others = name_parts called (assigned_parts value others)
+abbrev pub named_value_parts : Sign → Name × Expr → Parts → Parts
+named_value_parts between read others = name_parts read.0 (value_after_parts between read.1 others)
 
 -- ( expr )
 abbrev pub condition : Part
@@ -60,68 +61,28 @@ condition = parentheses (of expression)
 abbrev pub condition_parts : Expr → Parts → Parts
 condition_parts e others = sign_of OpenParenthesis (part (expr e) (sign_of CloseParenthesis others))
 
--- , expr
-abbrev pub comma_value : Part
-comma_value = comma ▸ of expression
-
-abbrev pub comma_value_parts : Expr → Parts → Parts
-comma_value_parts e others = sign_of Comma (part (expr e) others)
-
--- NAME , expr
-abbrev pub port_value : Part
-port_value = name ▸ comma_value
-
-abbrev pub port_value_parts : Name → Expr → Parts → Parts
-port_value_parts port value others = name_parts port (comma_value_parts value others)
-
--- NAME ,
-abbrev pub port_and_comma_parts : Name → Parts → Parts
-port_and_comma_parts port others = name_parts port (sign_of Comma others)
-
 -- NAME , type
 abbrev pub port_and_message : Part
 port_and_message = name ▸ comma ▸ type
 
-abbrev pub port_and_message_parts : Name → TypeName → Parts → Parts
-port_and_message_parts port message others = name_parts port (sign_of Comma (type_parts message others))
+abbrev pub port_and_message_parts : Name × TypeName → Parts → Parts
+port_and_message_parts read others = name_parts read.0 (sign_of Comma (type_parts read.1 others))
 
 -- peek ( NAME , type pairs )
-abbrev pub peek_inside : Part
-peek_inside = port_and_message ▸ pairs
-
-abbrev pub peek_inside_parts : Name → TypeName → Pairs → Parts → Parts
-peek_inside_parts port message attributes others =
-    port_and_message_parts port message (pairs_parts attributes others)
-
-abbrev pub peek_parentheses_parts : Name → TypeName → Pairs → Parts → Parts
-peek_parentheses_parts port message attributes others =
-    sign_of OpenParenthesis (peek_inside_parts port message attributes (sign_of CloseParenthesis others))
-
 abbrev pub peek_head : Part
-peek_head = word PeekWord ▸ parentheses peek_inside
+peek_head = word PeekWord ▸ parentheses (port_and_message ▸ pairs)
 
-abbrev pub peek_head_parts : Name → TypeName → Pairs → Parts → Parts
-peek_head_parts port message attributes others =
-    word_of PeekWord (peek_parentheses_parts port message attributes others)
+abbrev pub peek_head_parts : (Name × TypeName) × Pairs → Parts → Parts
+peek_head_parts read others =
+    word_of PeekWord (sign_of OpenParenthesis (port_and_message_parts read.0 (pairs_parts read.1 (sign_of CloseParenthesis others))))
 
 -- enqueue ( NAME , type [ , expr ] )
-abbrev pub enqueue_inside : Part
-enqueue_inside = port_and_message ▸ optional comma_value
-
-abbrev pub enqueue_inside_parts : Name → TypeName → Option Expr → Parts → Parts
-enqueue_inside_parts port message latency others =
-    port_and_message_parts port message (latency_parts latency others)
-
-abbrev pub enqueue_parentheses_parts : Name → TypeName → Option Expr → Parts → Parts
-enqueue_parentheses_parts port message latency others =
-    sign_of OpenParenthesis (enqueue_inside_parts port message latency (sign_of CloseParenthesis others))
-
 abbrev pub enqueue_head : Part
-enqueue_head = word EnqueueWord ▸ parentheses enqueue_inside
+enqueue_head = word EnqueueWord ▸ parentheses (port_and_message ▸ optional (value_after Comma))
 
-abbrev pub enqueue_head_parts : Name → TypeName → Option Expr → Parts → Parts
-enqueue_head_parts port message latency others =
-    word_of EnqueueWord (enqueue_parentheses_parts port message latency others)
+abbrev pub enqueue_head_parts : (Name × TypeName) × Option Expr → Parts → Parts
+enqueue_head_parts read others =
+    word_of EnqueueWord (sign_of OpenParenthesis (port_and_message_parts read.0 (latency_parts read.1 (sign_of CloseParenthesis others))))
 
 -- the words of a text for a trace
 abbrev pub print_word : Part
@@ -137,18 +98,12 @@ IsPrintWord kind which = kind ≡ WordOf (print_word_of which)
 abbrev pub branch : Part
 branch = word IfWord ▸ condition ▸ of block
 
-abbrev pub branch_parts : Expr → Block → Parts → Parts
-branch_parts e then others = word_of IfWord (condition_parts e (block_parts then others))
-
-abbrev pub if_condition : Part
-if_condition = word IfWord ▸ condition
-
-abbrev pub if_condition_parts : Expr → Parts → Parts
-if_condition_parts e others = word_of IfWord (condition_parts e others)
+abbrev pub branch_parts : Expr × Block → Parts → Parts
+branch_parts read others = word_of IfWord (condition_parts read.0 (block_parts read.1 others))
 
 -- else if ( expr ) block
 abbrev pub else_if_parts : ElseIf → Parts → Parts
-else_if_parts e others = word_of ElseWord (branch_parts e.condition e.then others)
+else_if_parts e others = word_of ElseWord (branch_parts (e.condition, e.then) others)
 
 -- what is behind a branch, and the parts of a last block where there is one
 abbrev pub branches_end : Part
@@ -163,8 +118,8 @@ abbrev pub else_ifs_parts : List ElseIf → Parts → Parts
 else_ifs_parts [] others = others
 else_ifs_parts (first ∷ items) others = else_if_parts first (else_ifs_parts items others)
 
-abbrev pub other_branches_parts : List ElseIf → Option Block → Parts → Parts
-other_branches_parts items last others = else_ifs_parts items (last_parts last others)
+abbrev pub other_branches_parts : List ElseIf × Option Block → Parts → Parts
+other_branches_parts read others = else_ifs_parts read.0 (last_parts read.1 others)
 
 -- so many further branches are read, behind which branches may come as behind those before
 pub record AreElseIfs (room : ℕ) (tokens : List Token) (items : List ElseIf) (now : List Token) : Type 0 where
@@ -215,7 +170,7 @@ return_form = word ReturnWord ▸ optional (of expression) ▸ semicolon
 
 -- WORD ( .. ) ;
 abbrev pub stall_and_wait : Part
-stall_and_wait = word StallAndWaitWord ▸ parentheses port_value ▸ semicolon
+stall_and_wait = word StallAndWaitWord ▸ parentheses (named_value Comma) ▸ semicolon
 
 abbrev pub check_allocate : Part
 check_allocate = word CheckAllocateWord ▸ parentheses name ▸ semicolon
@@ -228,13 +183,3 @@ assert = word AssertWord ▸ condition ▸ semicolon
 
 abbrev pub print_statement : Part
 print_statement = print_word ▸ parentheses balanced ▸ semicolon
-
-abbrev pub name_inside_parts : Name → Parts → Parts
-name_inside_parts called others = sign_of OpenParenthesis (name_parts called (sign_of CloseParenthesis others))
-
-abbrev pub text_inside_parts : List ℕ → Parts → Parts
-text_inside_parts text others = sign_of OpenParenthesis (token (Quoted text) (sign_of CloseParenthesis others))
-
-abbrev pub port_value_inside_parts : Name → Expr → Parts → Parts
-port_value_inside_parts port value others =
-    sign_of OpenParenthesis (port_value_parts port value (sign_of CloseParenthesis others))

@@ -10,18 +10,20 @@ ghost use Rattle.slicc_grammar.specs.Parts.{◌▸◌, of, word as word_part};
 ghost use Rattle.slicc_grammar.specs.TokenKinds.{word_kind};
 ghost use Rattle.slicc_lex.specs.Syntax.{symbols};
 ghost use Rattle.slicc_reading.specs.Reading.{AreRead, IsRead, Refuses};
-ghost use Rattle.slicc_expr.specs.StatementParts.{AreElseIfs, branch as branch_form, branch_parts, branches_end, else_if_parts, enqueue_statement, if_condition as if_condition_form, if_condition_parts, is_else_if, nesting_words, other_branches_parts, last_parts, peek_statement, statements_end, statements_parts};
+ghost use Rattle.slicc_expr.specs.StatementParts.{AreElseIfs, branch as branch_form, branch_parts, branches_end, else_if_parts, enqueue_statement, is_else_if, nesting_words, other_branches_parts, last_parts, peek_statement, statements_end, statements_parts};
 
 use crate::called_statements::called_statement;
+use crate::expressions::tested;
 use crate::plain_statements::{name_statement, opening_statement, return_statement};
 use crate::port_heads::{enqueue_head, peek_head};
 use crate::statement_ahead::{begins_else_if, begins_nesting, begins_statement};
-use crate::statement_values::condition;
 use crate::values::begins_opening;
 use slicc_ast::Seq;
 use slicc_ast::tree::{Block, ElseIf, Expr, If, Sign, Stmt, Word};
 use slicc_lex::Token;
-use slicc_reading::{Fault, is_name, is_sign, is_word, open, refuse, sign, span, word};
+use slicc_reading::{
+    Fault, added, ended, is_name, is_sign, is_word, joined, open, refuse, span, word,
+};
 use std::alloc::Global;
 
 /// Statements in braces.
@@ -63,18 +65,15 @@ fn statements(alloc: Global, room: u32, tokens: &[Token]) -> Result<(Seq<Stmt>, 
     let mut items = Seq::new(alloc);
     let mut left = tokens;
     'more: while begins_statement(left) {
-        match statement(alloc, room, left) {
-            Ok((next, after)) => match items.push(next) {
-                Ok(()) => left = after,
-                Err(_) => return Err(Fault::NoMemory),
-            },
-            Err(fault) => return Err(fault),
+        match added(&mut items, statement(alloc, room, left)) {
+            Ok(after) => left = after,
+            Err(fault) => {
+                drop(items);
+                return Err(fault);
+            }
         }
     }
-    match sign(room, Sign::CloseBrace, left) {
-        Ok(behind) => Ok((items, behind)),
-        Err(fault) => Err(fault),
-    }
+    ended(room, Ok((items, left)), Sign::CloseBrace)
 }
 
 #[cycle(block)]
@@ -129,8 +128,11 @@ fn peek(alloc: Global, room: u32, tokens: &[Token]) -> Result<(Stmt, &[Token]), 
     ensures shorter { IfOk result (λ read. length read.1.now < length tokens.now) }
 {
     match peek_head(alloc, room, tokens) {
-        Ok((port, message, pairs, behind)) => match statement_block(alloc, room, behind) {
-            Ok((body, left)) => {
+        Ok((head, behind)) => match joined(head, statement_block(alloc, room, behind)) {
+            Ok((read, left)) => {
+                let (head, body) = read;
+                let (source, pairs) = head;
+                let (port, message) = source;
                 let span = span(tokens, left);
                 Ok((
                     Stmt::Peek {
@@ -157,8 +159,11 @@ fn enqueue(alloc: Global, room: u32, tokens: &[Token]) -> Result<(Stmt, &[Token]
     ensures shorter { IfOk result (λ read. length read.1.now < length tokens.now) }
 {
     match enqueue_head(alloc, room, tokens) {
-        Ok((port, message, latency, behind)) => match statement_block(alloc, room, behind) {
-            Ok((body, left)) => {
+        Ok((head, behind)) => match joined(head, statement_block(alloc, room, behind)) {
+            Ok((read, left)) => {
+                let (head, body) = read;
+                let (target, latency) = head;
+                let (port, message) = target;
                 let span = span(tokens, left);
                 Ok((
                     Stmt::Enqueue {
@@ -171,10 +176,7 @@ fn enqueue(alloc: Global, room: u32, tokens: &[Token]) -> Result<(Stmt, &[Token]
                     left,
                 ))
             }
-            Err(fault) => {
-                drop(latency);
-                Err(fault)
-            }
+            Err(fault) => Err(fault),
         },
         Err(fault) => Err(fault),
     }
@@ -191,10 +193,12 @@ fn conditional(alloc: Global, room: u32, tokens: &[Token]) -> Result<(If, &[Toke
     ensures shorter { IfOk result (λ read. length read.1.now < length tokens.now) }
 {
     match if_branch(alloc, room, tokens) {
-        Ok((condition, then, behind)) => match other_branches(alloc, room, behind) {
-            Ok((others, otherwise, left)) => {
+        Ok((branch, behind)) => match joined(branch, other_branches(alloc, room, behind)) {
+            Ok((read, left)) => {
+                let (first, further) = read;
+                let (condition, then) = first;
+                let (others, otherwise) = further;
                 let span = span(tokens, left);
-                let others = Seq::of(others);
                 Ok((
                     If {
                         condition,
@@ -206,45 +210,22 @@ fn conditional(alloc: Global, room: u32, tokens: &[Token]) -> Result<(If, &[Toke
                     left,
                 ))
             }
-            Err(fault) => {
-                drop(condition);
-                Err(fault)
-            }
+            Err(fault) => Err(fault),
         },
-        Err(fault) => Err(fault),
-    }
-}
-
-/// `if` and a condition.
-fn if_condition(alloc: Global, room: u32, tokens: &[Token]) -> Result<(Expr, &[Token]), Fault>
-    ensures read { MatchResult result
-        (λ read. AreRead room if_condition_form
-        (if_condition_parts read.0) tokens.now read.1.now)
-        (Refuses room if_condition_form tokens.now) }
-    ensures shorter { IfOk result (λ read. length read.1.now < length tokens.now) }
-{
-    match word(room, Word::If, tokens) {
-        Ok(behind) => condition(alloc, room, behind),
         Err(fault) => Err(fault),
     }
 }
 
 /// `if`, a condition and a block.
 #[cycle(block)]
-fn if_branch(alloc: Global, room: u32, tokens: &[Token]) -> Result<(Expr, Block, &[Token]), Fault>
+fn if_branch(alloc: Global, room: u32, tokens: &[Token]) -> Result<((Expr, Block), &[Token]), Fault>
     ensures read { MatchResult result
-        (λ read. AreRead room branch_form (branch_parts read.0 read.1) tokens.now read.2.now)
+        (λ read. AreRead room branch_form (branch_parts read.0) tokens.now read.1.now)
         (Refuses room branch_form tokens.now) }
-    ensures shorter { IfOk result (λ read. length read.2.now < length tokens.now) }
+    ensures shorter { IfOk result (λ read. length read.1.now < length tokens.now) }
 {
-    match if_condition(alloc, room, tokens) {
-        Ok((condition, behind)) => match statement_block(alloc, room, behind) {
-            Ok((then, left)) => Ok((condition, then, left)),
-            Err(fault) => {
-                drop(condition);
-                Err(fault)
-            }
-        },
+    match tested(alloc, room, Word::If, tokens) {
+        Ok((condition, behind)) => joined(condition, statement_block(alloc, room, behind)),
         Err(fault) => Err(fault),
     }
 }
@@ -255,16 +236,19 @@ fn other_branches(
     alloc: Global,
     room: u32,
     tokens: &[Token],
-) -> Result<(Vec<ElseIf>, Option<Block>, &[Token]), Fault>
+) -> Result<((Seq<ElseIf>, Option<Block>), &[Token]), Fault>
     ensures { MatchResult result
         (λ read. AreRead room branches_end
-        (other_branches_parts read.0.items read.1) tokens.now read.2.now)
+        (other_branches_parts read.0) tokens.now read.1.now)
         (Refuses room branches_end tokens.now) }
 {
     match else_ifs(alloc, room, tokens) {
         Ok((others, behind)) => match last_branch(alloc, room, behind) {
-            Ok((otherwise, left)) => Ok((others, otherwise, left)),
-            Err(fault) => Err(fault),
+            Ok((otherwise, left)) => Ok(((others, otherwise), left)),
+            Err(fault) => {
+                drop(others);
+                Err(fault)
+            }
         },
         Err(fault) => Err(fault),
     }
@@ -272,22 +256,19 @@ fn other_branches(
 
 /// Any number of branches behind `else if`.
 #[cycle(block)]
-fn else_ifs(alloc: Global, room: u32, tokens: &[Token]) -> Result<(Vec<ElseIf>, &[Token]), Fault>
+fn else_ifs(alloc: Global, room: u32, tokens: &[Token]) -> Result<(Seq<ElseIf>, &[Token]), Fault>
     ensures read { MatchResult result
-        (λ read. AreElseIfs room tokens.now read.0.items read.1.now)
+        (λ read. AreElseIfs room tokens.now read.0 read.1.now)
         (Refuses room branches_end tokens.now) }
     ensures ended { IfOk result (λ read. is_else_if (symbols read.1.now) ≡ false) }
 {
-    let mut others = Vec::new(alloc);
+    let mut others = Seq::new(alloc);
     let mut left = tokens;
     'branches: while begins_else_if(left) {
         match else_if(alloc, room, left) {
             Ok((next, after)) => match others.push(next) {
                 Ok(()) => left = after,
-                Err(failed) => {
-                    drop(failed);
-                    return Err(Fault::NoMemory);
-                }
+                Err(_) => return Err(Fault::NoMemory),
             },
             Err(fault) => return Err(fault),
         }
@@ -306,7 +287,10 @@ fn else_if(alloc: Global, room: u32, tokens: &[Token]) -> Result<(ElseIf, &[Toke
 {
     match word(room, Word::Else, tokens) {
         Ok(behind) => match if_branch(alloc, room, behind) {
-            Ok((condition, then, left)) => Ok((ElseIf { condition, then }, left)),
+            Ok((read, left)) => {
+                let (condition, then) = read;
+                Ok((ElseIf { condition, then }, left))
+            }
             Err(fault) => Err(fault),
         },
         Err(fault) => Err(fault),

@@ -4,46 +4,20 @@ ghost use Rattle.grammar_rows.specs.Kinds.{has, is_ahead};
 ghost use Rattle.slicc_ast.specs.Names.{word as word_of};
 ghost use Rattle.slicc_ast.specs.Statements.{print_word as print_word_of, stmt};
 ghost use Rattle.slicc_grammar.specs.Form.Form.{statement as statement_form};
-ghost use Rattle.slicc_grammar.specs.Parts.{name as name_part, of, parentheses, string as string_part};
+ghost use Rattle.slicc_grammar.specs.Parts.{of};
 ghost use Rattle.slicc_grammar.specs.TokenKinds.{kind_of, word_kind};
 ghost use Rattle.slicc_lex.specs.Syntax.{symbols};
 ghost use Rattle.slicc_reading.specs.Reading.{AreRead, IsRead, Refuses};
-ghost use Rattle.slicc_expr.specs.StatementParts.{IsPrintWord, assert as assert_form, calling_words, check_allocate as check_form, error as error_form, name_inside_parts, port_value as port_form, port_value_inside_parts, print_kinds, print_statement as print_form, print_word as print_word_form, stall_and_wait as stall_form, text_inside_parts};
+ghost use Rattle.slicc_expr.specs.StatementParts.{IsPrintWord, assert as assert_form, calling_words, check_allocate as check_form, error as error_form, print_kinds, print_statement as print_form, print_word as print_word_form, stall_and_wait as stall_form};
 
-use crate::statement_values::{condition, port_value};
-use slicc_ast::Text;
-use slicc_ast::tree::{Expr, Name, PrintWord, Sign, Stmt, TokenKind, Word};
+use crate::expressions::expression;
+use crate::statement_values::named_value;
+use slicc_ast::tree::{PrintWord, Sign, Stmt, TokenKind, Word};
 use slicc_lex::Token;
 use slicc_reading::{
-    Fault, bracketed, is_word, name, open, refuse, sign, span, split_first, string, word,
+    Fault, bracketed, called, ended, ended_call, is_word, name, refuse, span, split_first, string,
 };
 use std::alloc::Global;
-
-/// A port, a comma and an expression in parentheses.
-fn port_value_inside(
-    alloc: Global,
-    room: u32,
-    tokens: &[Token],
-) -> Result<(Name, Expr, &[Token]), Fault>
-    ensures { MatchResult result
-        (λ read. AreRead room (parentheses port_form)
-        (port_value_inside_parts read.0 read.1) tokens.now read.2.now)
-        (Refuses room (parentheses port_form) tokens.now) }
-{
-    match open(room, Sign::OpenParenthesis, tokens) {
-        Ok(inside) => match port_value(alloc, room - 1, inside) {
-            Ok((port, value, after)) => match sign(room - 1, Sign::CloseParenthesis, after) {
-                Ok(left) => Ok((port, value, left)),
-                Err(fault) => {
-                    drop(value);
-                    Err(fault)
-                }
-            },
-            Err(fault) => Err(fault),
-        },
-        Err(fault) => Err(fault),
-    }
-}
 
 fn stall_and_wait(alloc: Global, room: u32, tokens: &[Token]) -> Result<(Stmt, &[Token]), Fault>
     ensures read { MatchResult result
@@ -51,44 +25,20 @@ fn stall_and_wait(alloc: Global, room: u32, tokens: &[Token]) -> Result<(Stmt, &
         (Refuses room stall_form tokens.now) }
     ensures shorter { IfOk result (λ read. length read.1.now < length tokens.now) }
 {
-    match word(room, Word::StallAndWait, tokens) {
-        Ok(behind) => match port_value_inside(alloc, room, behind) {
-            Ok((port, address, after)) => match sign(room, Sign::Semicolon, after) {
-                Ok(left) => {
-                    let span = span(tokens, left);
-                    Ok((
-                        Stmt::StallAndWait {
-                            port,
-                            address,
-                            span,
-                        },
-                        left,
-                    ))
-                }
-                Err(fault) => {
-                    drop(address);
-                    Err(fault)
-                }
-            },
-            Err(fault) => Err(fault),
-        },
-        Err(fault) => Err(fault),
-    }
-}
-
-/// A name in parentheses.
-fn name_inside(alloc: Global, room: u32, tokens: &[Token]) -> Result<(Name, &[Token]), Fault>
-    ensures { MatchResult result
-        (λ read. AreRead room (parentheses name_part)
-        (name_inside_parts read.0) tokens.now read.1.now)
-        (Refuses room (parentheses name_part) tokens.now) }
-{
-    match open(room, Sign::OpenParenthesis, tokens) {
-        Ok(inside) => match name(alloc, room - 1, inside) {
-            Ok((called, after)) => match sign(room - 1, Sign::CloseParenthesis, after) {
-                Ok(left) => Ok((called, left)),
-                Err(fault) => Err(fault),
-            },
+    match called(room, Word::StallAndWait, tokens) {
+        Ok(inside) => match ended_call(room, named_value(alloc, room - 1, Sign::Comma, inside)) {
+            Ok((read, left)) => {
+                let (port, address) = read;
+                let span = span(tokens, left);
+                Ok((
+                    Stmt::StallAndWait {
+                        port,
+                        address,
+                        span,
+                    },
+                    left,
+                ))
+            }
             Err(fault) => Err(fault),
         },
         Err(fault) => Err(fault),
@@ -101,31 +51,9 @@ fn check_allocate(alloc: Global, room: u32, tokens: &[Token]) -> Result<(Stmt, &
         (Refuses room check_form tokens.now) }
     ensures shorter { IfOk result (λ read. length read.1.now < length tokens.now) }
 {
-    match word(room, Word::CheckAllocate, tokens) {
-        Ok(behind) => match name_inside(alloc, room, behind) {
-            Ok((table, after)) => match sign(room, Sign::Semicolon, after) {
-                Ok(left) => Ok((Stmt::CheckAllocate(table, span(tokens, left)), left)),
-                Err(fault) => Err(fault),
-            },
-            Err(fault) => Err(fault),
-        },
-        Err(fault) => Err(fault),
-    }
-}
-
-/// A string in parentheses.
-fn text_inside(alloc: Global, room: u32, tokens: &[Token]) -> Result<(Text, &[Token]), Fault>
-    ensures { MatchResult result
-        (λ read. AreRead room (parentheses string_part)
-        (text_inside_parts read.0) tokens.now read.1.now)
-        (Refuses room (parentheses string_part) tokens.now) }
-{
-    match open(room, Sign::OpenParenthesis, tokens) {
-        Ok(inside) => match string(alloc, room - 1, inside) {
-            Ok((text, after)) => match sign(room - 1, Sign::CloseParenthesis, after) {
-                Ok(left) => Ok((text, left)),
-                Err(fault) => Err(fault),
-            },
+    match called(room, Word::CheckAllocate, tokens) {
+        Ok(inside) => match ended_call(room, name(alloc, room - 1, inside)) {
+            Ok((table, left)) => Ok((Stmt::CheckAllocate(table, span(tokens, left)), left)),
             Err(fault) => Err(fault),
         },
         Err(fault) => Err(fault),
@@ -138,12 +66,9 @@ fn error(alloc: Global, room: u32, tokens: &[Token]) -> Result<(Stmt, &[Token]),
         (Refuses room error_form tokens.now) }
     ensures shorter { IfOk result (λ read. length read.1.now < length tokens.now) }
 {
-    match word(room, Word::Error, tokens) {
-        Ok(behind) => match text_inside(alloc, room, behind) {
-            Ok((text, after)) => match sign(room, Sign::Semicolon, after) {
-                Ok(left) => Ok((Stmt::Error(text, span(tokens, left)), left)),
-                Err(fault) => Err(fault),
-            },
+    match called(room, Word::Error, tokens) {
+        Ok(inside) => match ended_call(room, string(alloc, room - 1, inside)) {
+            Ok((text, left)) => Ok((Stmt::Error(text, span(tokens, left)), left)),
             Err(fault) => Err(fault),
         },
         Err(fault) => Err(fault),
@@ -156,15 +81,9 @@ fn assert(alloc: Global, room: u32, tokens: &[Token]) -> Result<(Stmt, &[Token])
         (Refuses room assert_form tokens.now) }
     ensures shorter { IfOk result (λ read. length read.1.now < length tokens.now) }
 {
-    match word(room, Word::Assert, tokens) {
-        Ok(behind) => match condition(alloc, room, behind) {
-            Ok((claim, after)) => match sign(room, Sign::Semicolon, after) {
-                Ok(left) => Ok((Stmt::Assert(claim, span(tokens, left)), left)),
-                Err(fault) => {
-                    drop(claim);
-                    Err(fault)
-                }
-            },
+    match called(room, Word::Assert, tokens) {
+        Ok(inside) => match ended_call(room, expression(alloc, room - 1, inside)) {
+            Ok((claim, left)) => Ok((Stmt::Assert(claim, span(tokens, left)), left)),
             Err(fault) => Err(fault),
         },
         Err(fault) => Err(fault),
@@ -219,27 +138,28 @@ fn print_statement(alloc: Global, room: u32, tokens: &[Token]) -> Result<(Stmt, 
     ensures shorter { IfOk result (λ read. length read.1.now < length tokens.now) }
 {
     match print_word(room, tokens) {
-        Ok((word, behind)) => match bracketed(
-            alloc,
+        Ok((word, behind)) => match ended(
             room,
-            Sign::OpenParenthesis,
-            Sign::CloseParenthesis,
-            behind,
+            bracketed(
+                alloc,
+                room,
+                Sign::OpenParenthesis,
+                Sign::CloseParenthesis,
+                behind,
+            ),
+            Sign::Semicolon,
         ) {
-            Ok((arguments, after)) => match sign(room, Sign::Semicolon, after) {
-                Ok(left) => {
-                    let span = span(tokens, left);
-                    Ok((
-                        Stmt::Print {
-                            word,
-                            arguments,
-                            span,
-                        },
-                        left,
-                    ))
-                }
-                Err(fault) => Err(fault),
-            },
+            Ok((arguments, left)) => {
+                let span = span(tokens, left);
+                Ok((
+                    Stmt::Print {
+                        word,
+                        arguments,
+                        span,
+                    },
+                    left,
+                ))
+            }
             Err(fault) => Err(fault),
         },
         Err(fault) => Err(fault),

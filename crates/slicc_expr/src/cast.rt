@@ -2,53 +2,15 @@
 ghost use Rattle.std.specs.Prelude.{◌≡◌, ◌<◌, length, IfOk, MatchResult};
 ghost use Rattle.slicc_ast.specs.Expressions.{mode_parts};
 ghost use Rattle.slicc_ast.specs.Names.{sign as sign_of, type_name as type_of};
-ghost use Rattle.slicc_ast.specs.Outline.{token};
 ghost use Rattle.slicc_ast.specs.declared.tree.token.Sign.TheVariants.{Comma as CommaSign};
-ghost use Rattle.slicc_ast.specs.declared.tree.token.TokenKind.TheVariants.{Quoted as QuotedKind};
-ghost use Rattle.slicc_grammar.specs.Parts.{◌▸◌, comma, string as string_part, type as type_part};
 ghost use Rattle.slicc_reading.specs.Reading.{AreRead, Refuses};
 ghost use Rattle.slicc_expr.specs.Levels.{cast_head as cast_head_part, mode_part};
 
 use slicc_ast::Text;
 use slicc_ast::tree::{Sign, TypeName};
 use slicc_lex::Token;
-use slicc_reading::{Fault, is_string, sign, string, type_name};
+use slicc_reading::{Fault, ended, is_string, joined, string, type_name};
 use std::alloc::Global;
-
-/// A type and a comma.
-pub fn cast_target(
-    alloc: Global,
-    room: u32,
-    tokens: &[Token],
-) -> Result<(TypeName, &[Token]), Fault>
-    ensures read { MatchResult result
-        (λ read. AreRead room (type_part ▸ comma) (λ others. type_of read.0 (sign_of CommaSign others)) tokens.now read.1.now)
-        (Refuses room (type_part ▸ comma) tokens.now) }
-    ensures shorter { IfOk result (λ read. length read.1.now < length tokens.now) }
-{
-    match type_name(alloc, room, tokens) {
-        Ok((target, behind)) => match sign(room, Sign::Comma, behind) {
-            Ok(left) => Ok((target, left)),
-            Err(fault) => Err(fault),
-        },
-        Err(fault) => Err(fault),
-    }
-}
-
-/// A string and a comma.
-fn cast_mode(alloc: Global, room: u32, tokens: &[Token]) -> Result<(Text, &[Token]), Fault>
-    ensures { MatchResult result
-        (λ read. AreRead room (string_part ▸ comma) (λ others. token (QuotedKind read.0) (sign_of CommaSign others)) tokens.now read.1.now)
-        (Refuses room (string_part ▸ comma) tokens.now) }
-{
-    match string(alloc, room, tokens) {
-        Ok((mode, behind)) => match sign(room, Sign::Comma, behind) {
-            Ok(left) => Ok((mode, left)),
-            Err(fault) => Err(fault),
-        },
-        Err(fault) => Err(fault),
-    }
-}
 
 /// A string and a comma where there is a string.
 fn optional_mode(
@@ -63,7 +25,7 @@ fn optional_mode(
     if !is_string(tokens) {
         return Ok((None, tokens));
     }
-    match cast_mode(alloc, room, tokens) {
+    match ended(room, string(alloc, room, tokens), Sign::Comma) {
         Ok((mode, left)) => Ok((Some(mode), left)),
         Err(fault) => Err(fault),
     }
@@ -74,17 +36,14 @@ pub fn cast_head(
     alloc: Global,
     room: u32,
     tokens: &[Token],
-) -> Result<(TypeName, Option<Text>, &[Token]), Fault>
+) -> Result<((TypeName, Option<Text>), &[Token]), Fault>
     ensures read { MatchResult result
-        (λ read. AreRead room cast_head_part (λ others. type_of read.0 (sign_of CommaSign (mode_parts read.1 others))) tokens.now read.2.now)
+        (λ read. AreRead room cast_head_part (λ others. type_of read.0.0 (sign_of CommaSign (mode_parts read.0.1 others))) tokens.now read.1.now)
         (Refuses room cast_head_part tokens.now) }
-    ensures shorter { IfOk result (λ read. length read.2.now < length tokens.now) }
+    ensures shorter { IfOk result (λ read. length read.1.now < length tokens.now) }
 {
-    match cast_target(alloc, room, tokens) {
-        Ok((target, behind)) => match optional_mode(alloc, room, behind) {
-            Ok((mode, left)) => Ok((target, mode, left)),
-            Err(fault) => Err(fault),
-        },
+    match ended(room, type_name(alloc, room, tokens), Sign::Comma) {
+        Ok((target, behind)) => joined(target, optional_mode(alloc, room, behind)),
         Err(fault) => Err(fault),
     }
 }

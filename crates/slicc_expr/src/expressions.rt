@@ -25,7 +25,10 @@ use crate::values::{begins_expression, begins_simple, new_entry, simple};
 use slicc_ast::tree::{Args, Expr, Name, Operand, Sign, Suffix, TypeName, Word};
 use slicc_ast::{Seq, Text};
 use slicc_lex::Token;
-use slicc_reading::{Fault, is_name, is_sign, is_word, name, open, refuse, sign, span, word};
+use slicc_reading::{
+    Fault, added, called, ended, is_name, is_sign, is_word, joined, name, name_after, open, refuse,
+    sign, span,
+};
 use std::alloc::Global;
 
 /// A node that was made, with the tokens that are left behind it.
@@ -144,24 +147,21 @@ fn operands<'t>(
     room: u32,
     height: u8,
     tokens: &'t [Token],
-) -> Result<(Vec<Operand>, &'t [Token]), Fault>
+) -> Result<(Seq<Operand>, &'t [Token]), Fault>
     requires within { height ≤ 5 }
     requires begins { is_ahead (kinds_at height) (symbols tokens.now) ≡ true }
     ensures read { MatchResult result
-        (λ read. AreRead room (chain height) (operands_before (6 - height) read.0.items) tokens.now read.1.now)
+        (λ read. AreRead room (chain height) (operands_before (6 - height) read.0) tokens.now read.1.now)
         (Refuses room (chain height) tokens.now) }
-    ensures level { IfOk result (λ read. list_level read.0.items + height ≡ 6) }
+    ensures level { IfOk result (λ read. list_level read.0 + height ≡ 6) }
 {
-    let mut items = Vec::new(alloc);
+    let mut items = Seq::new(alloc);
     let mut left = tokens;
     'more: while let Some((operator, behind)) = operator(height, left) {
         match level(alloc, room, height, behind) {
             Ok((value, after)) => match items.push(Operand { operator, value }) {
                 Ok(()) => left = after,
-                Err(failed) => {
-                    drop(failed);
-                    return Err(Fault::NoMemory);
-                }
+                Err(_) => return Err(Fault::NoMemory),
             },
             Err(fault) => return Err(fault),
         }
@@ -304,13 +304,11 @@ fn arguments(alloc: Global, room: u32, tokens: &[Token]) -> Result<(Args, &[Toke
     ensures shorter { IfOk result (λ read. length read.1.now < length tokens.now) }
 {
     match open(room, Sign::OpenParenthesis, tokens) {
-        Ok(inner) => match argument_list(alloc, room - 1, inner) {
-            Ok((arguments, after)) => match sign(room - 1, Sign::CloseParenthesis, after) {
-                Ok(left) => Ok((arguments, left)),
-                Err(fault) => Err(fault),
-            },
-            Err(fault) => Err(fault),
-        },
+        Ok(inner) => ended(
+            room - 1,
+            argument_list(alloc, room - 1, inner),
+            Sign::CloseParenthesis,
+        ),
         Err(fault) => Err(fault),
     }
 }
@@ -322,36 +320,25 @@ fn argument_list(alloc: Global, room: u32, tokens: &[Token]) -> Result<(Args, &[
         (λ read. IsRead room (optional (of arguments_form)) (args_of read.0) tokens.now tokens.now read.1.now)
         (Refuses room (optional (of arguments_form)) tokens.now) }
 {
-    let mut items = Vec::new(alloc);
+    let mut items = Seq::new(alloc);
     if !begins_expression(tokens) {
         let span = span(tokens, tokens);
-        let items = Seq::of(items);
         return Ok((Args { items, span }, tokens));
     }
     let mut left = match level(alloc, room, LEVELS, tokens) {
         Ok((first, after)) => match items.push(first) {
             Ok(()) => after,
-            Err(failed) => {
-                drop(failed);
-                return Err(Fault::NoMemory);
-            }
+            Err(_) => return Err(Fault::NoMemory),
         },
         Err(fault) => return Err(fault),
     };
     'commas: while is_sign(Sign::Comma, left) {
-        match next_argument(alloc, room, left) {
-            Ok((next, after)) => match items.push(next) {
-                Ok(()) => left = after,
-                Err(failed) => {
-                    drop(failed);
-                    return Err(Fault::NoMemory);
-                }
-            },
+        match added(&mut items, next_argument(alloc, room, left)) {
+            Ok(after) => left = after,
             Err(fault) => return Err(fault),
         }
     }
     let span = span(tokens, left);
-    let items = Seq::of(items);
     Ok((Args { items, span }, left))
 }
 
@@ -402,24 +389,18 @@ fn suffixes<'t>(
 
 /// At least one member, call or index.
 #[cycle(expression)]
-fn suffix_list(alloc: Global, room: u32, tokens: &[Token]) -> Result<(Vec<Suffix>, &[Token]), Fault>
+fn suffix_list(alloc: Global, room: u32, tokens: &[Token]) -> Result<(Seq<Suffix>, &[Token]), Fault>
     requires { is_ahead (sign_kind Dot ∷ sign_kind OpenBracket ∷ []) (symbols tokens.now) ≡ true }
     ensures read { MatchResult result
-        (λ read. AreRead room (repeated (of suffix_form)) (suffixes_before read.0.items) tokens.now read.1.now)
+        (λ read. AreRead room (repeated (of suffix_form)) (suffixes_before read.0) tokens.now read.1.now)
         (Refuses room (repeated (of suffix_form)) tokens.now) }
-    ensures some { IfOk result (λ read. is_some read.0.items ≡ true) }
+    ensures some { IfOk result (λ read. is_some read.0 ≡ true) }
 {
-    let mut items = Vec::new(alloc);
+    let mut items = Seq::new(alloc);
     let mut left = tokens;
     'more: while begins_suffix(left) {
-        match suffix(alloc, room, left) {
-            Ok((next, after)) => match items.push(next) {
-                Ok(()) => left = after,
-                Err(failed) => {
-                    drop(failed);
-                    return Err(Fault::NoMemory);
-                }
-            },
+        match added(&mut items, suffix(alloc, room, left)) {
+            Ok(after) => left = after,
             Err(fault) => return Err(fault),
         }
     }
@@ -458,7 +439,7 @@ fn dotted(alloc: Global, room: u32, tokens: &[Token]) -> Result<(Suffix, &[Token
         (Refuses room (sign_part Dot ▸ name_part ▸ optional (parentheses (optional (of arguments_form)))) tokens.now) }
     ensures shorter { IfOk result (λ read. length read.1.now < length tokens.now) }
 {
-    match dot_name(alloc, room, tokens) {
+    match name_after(alloc, room, Sign::Dot, tokens) {
         Ok((name, behind)) => {
             if !is_sign(Sign::OpenParenthesis, behind) {
                 return Ok((nodes::field(name, span(tokens, behind)), behind));
@@ -471,19 +452,6 @@ fn dotted(alloc: Global, room: u32, tokens: &[Token]) -> Result<(Suffix, &[Token
                 Err(fault) => Err(fault),
             }
         }
-        Err(fault) => Err(fault),
-    }
-}
-
-/// `.` and a name.
-fn dot_name(alloc: Global, room: u32, tokens: &[Token]) -> Result<(Name, &[Token]), Fault>
-    ensures read { MatchResult result
-        (λ read. AreRead room (sign_part Dot ▸ name_part) (λ others. sign_of Dot (name_of read.0 others)) tokens.now read.1.now)
-        (Refuses room (sign_part Dot ▸ name_part) tokens.now) }
-    ensures shorter { IfOk result (λ read. length read.1.now < length tokens.now) }
-{
-    match sign(room, Sign::Dot, tokens) {
-        Ok(behind) => name(alloc, room, behind),
         Err(fault) => Err(fault),
     }
 }
@@ -502,22 +470,22 @@ fn member<'t>(
         (Refuses room (colon ▸ name_part) tokens.now) }
     ensures tight { IfOk result (λ read. 9 ≤ level_of read.0) }
 {
-    match sign(room, Sign::Colon, tokens) {
-        Ok(behind) => match name(alloc, room, behind) {
-            Ok((member, left)) => {
-                let span = span(start, left);
-                Ok((
-                    Expr::Member {
-                        owner,
-                        member,
-                        span,
-                    },
-                    left,
-                ))
-            }
-            Err(fault) => Err(fault),
-        },
-        Err(fault) => Err(fault),
+    match name_after(alloc, room, Sign::Colon, tokens) {
+        Ok((member, left)) => {
+            let span = span(start, left);
+            Ok((
+                Expr::Member {
+                    owner,
+                    member,
+                    span,
+                },
+                left,
+            ))
+        }
+        Err(fault) => {
+            drop(owner);
+            Err(fault)
+        }
     }
 }
 
@@ -536,16 +504,7 @@ fn enclosed(
     ensures shorter { IfOk result (λ read. length read.1.now < length tokens.now) }
 {
     match open(room, opener, tokens) {
-        Ok(behind) => match level(alloc, room - 1, LEVELS, behind) {
-            Ok((inner, after)) => match sign(room - 1, closer, after) {
-                Ok(left) => Ok((inner, left)),
-                Err(fault) => {
-                    drop(inner);
-                    Err(fault)
-                }
-            },
-            Err(fault) => Err(fault),
-        },
+        Ok(behind) => ended(room - 1, level(alloc, room - 1, LEVELS, behind), closer),
         Err(fault) => Err(fault),
     }
 }
@@ -623,7 +582,7 @@ fn validity(alloc: Global, room: u32, tokens: &[Token]) -> Result<(Expr, &[Token
 
 /// A word and an expression in parentheses.
 #[cycle(expression)]
-fn tested(
+pub fn tested(
     alloc: Global,
     room: u32,
     which: Word,
@@ -634,13 +593,11 @@ fn tested(
         (Refuses room (word_part which ▸ parentheses (of expression_form)) tokens.now) }
     ensures shorter { IfOk result (λ read. length read.1.now < length tokens.now) }
 {
-    match word(room, which, tokens) {
-        Ok(behind) => enclosed(
-            alloc,
-            room,
-            Sign::OpenParenthesis,
+    match called(room, which, tokens) {
+        Ok(inside) => ended(
+            room - 1,
+            level(alloc, room - 1, LEVELS, inside),
             Sign::CloseParenthesis,
-            behind,
         ),
         Err(fault) => Err(fault),
     }
@@ -655,15 +612,16 @@ fn cast(alloc: Global, room: u32, tokens: &[Token]) -> Result<(Expr, &[Token]), 
     ensures tight { IfOk result (λ read. 9 ≤ level_of read.0) }
     ensures shorter { IfOk result (λ read. length read.1.now < length tokens.now) }
 {
-    match word(room, Word::StaticCast, tokens) {
-        Ok(behind) => match open(room, Sign::OpenParenthesis, behind) {
-            Ok(inner) => match converted(alloc, room - 1, inner) {
-                Ok((target, mode, value, left)) => with_left!(
+    match called(room, Word::StaticCast, tokens) {
+        Ok(inside) => match converted(alloc, room - 1, inside) {
+            Ok((read, left)) => {
+                let (head, value) = read;
+                let (target, mode) = head;
+                with_left!(
                     nodes::cast(alloc, target, mode, value, span(tokens, left)),
                     left
-                ),
-                Err(fault) => Err(fault),
-            },
+                )
+            }
             Err(fault) => Err(fault),
         },
         Err(fault) => Err(fault),
@@ -676,23 +634,18 @@ fn converted(
     alloc: Global,
     room: u32,
     tokens: &[Token],
-) -> Result<(TypeName, Option<Text>, Expr, &[Token]), Fault>
+) -> Result<(((TypeName, Option<Text>), Expr), &[Token]), Fault>
     ensures read { MatchResult result
-        (λ read. AreRead room cast_inner (λ others. type_name read.0 (sign_of Comma (mode_parts read.1 (part (expr read.2) (sign_of CloseParenthesis others))))) tokens.now read.3.now)
+        (λ read. AreRead room cast_inner (λ others. type_name read.0.0.0 (sign_of Comma (mode_parts read.0.0.1 (part (expr read.0.1) (sign_of CloseParenthesis others))))) tokens.now read.1.now)
         (Refuses room cast_inner tokens.now) }
-    ensures shorter { IfOk result (λ read. length read.3.now < length tokens.now) }
+    ensures shorter { IfOk result (λ read. length read.1.now < length tokens.now) }
 {
     match cast_head(alloc, room, tokens) {
-        Ok((target, mode, behind)) => match level(alloc, room, LEVELS, behind) {
-            Ok((value, after)) => match sign(room, Sign::CloseParenthesis, after) {
-                Ok(left) => Ok((target, mode, value, left)),
-                Err(fault) => {
-                    drop(value);
-                    Err(fault)
-                }
-            },
-            Err(fault) => Err(fault),
-        },
+        Ok((head, behind)) => ended(
+            room,
+            joined(head, level(alloc, room, LEVELS, behind)),
+            Sign::CloseParenthesis,
+        ),
         Err(fault) => Err(fault),
     }
 }

@@ -12,18 +12,17 @@ use slicc_ast::tree::{Args, Expr, Name, Operand, Span, Suffix, TypeName};
 use slicc_ast::{NoMemory, Text};
 use std::alloc::Global;
 
-#[tactic(auto, using(crate::proofs::MadeNodes::made_of_boxes))]
+#[tactic(auto, using(crate::proofs::MadeNodes::expr_of_Operation, crate::proofs::MadeNodes::level_of_Operation))]
 pub fn operation(
     alloc: Global,
     first: Expr,
-    others: Vec<Operand>,
+    others: Seq<Operand>,
     span: Span,
 ) -> Result<Expr, NoMemory>
-    ensures spells { IfOk result (λ e. expr e ≡ operation_node span first others.items) }
-    ensures level { IfOk result (λ e. level_of e ≡ list_level others.items) }
+    ensures spells { IfOk result (λ e. expr e ≡ operation_node span first others) }
+    ensures level { IfOk result (λ e. level_of e ≡ list_level others) }
 {
     let first = Boxed::new(alloc, first)?;
-    let others = Seq::of(others);
     Ok(Expr::Operation {
         first,
         others,
@@ -31,7 +30,7 @@ pub fn operation(
     })
 }
 
-#[tactic(auto, using(crate::proofs::MadeNodes::made_of_boxes))]
+#[tactic(auto, using(crate::proofs::MadeNodes::expr_of_Not, crate::proofs::MadeNodes::level_of_Not))]
 pub fn not(alloc: Global, operand: Expr, span: Span) -> Result<Expr, NoMemory>
     ensures spells { IfOk result (λ e. expr e ≡ node span
         (provided (nat_le 7 (level_of operand)) (sign NotSign (part (expr operand) none)))) }
@@ -40,7 +39,7 @@ pub fn not(alloc: Global, operand: Expr, span: Span) -> Result<Expr, NoMemory>
     Ok(Expr::Not(Boxed::new(alloc, operand)?, span))
 }
 
-#[tactic(auto, using(crate::proofs::MadeNodes::made_of_boxes))]
+#[tactic(auto, using(crate::proofs::MadeNodes::expr_of_Negate, crate::proofs::MadeNodes::level_of_Negate))]
 pub fn negate(alloc: Global, operand: Expr, span: Span) -> Result<Expr, NoMemory>
     ensures spells { IfOk result (λ e. expr e ≡ node span
         (provided (nat_le 7 (level_of operand)) (sign MinusSign (part (expr operand) none)))) }
@@ -71,18 +70,17 @@ pub fn index(key: Expr, span: Span) -> Suffix
     Suffix::Index(key, span)
 }
 
-#[tactic(auto, using(crate::proofs::MadeNodes::made_of_boxes))]
+#[tactic(auto, using(crate::proofs::MadeNodes::expr_of_Postfix, crate::proofs::MadeNodes::level_of_Postfix))]
 pub fn postfix(
     alloc: Global,
     value: Expr,
-    suffixes: Vec<Suffix>,
+    suffixes: Seq<Suffix>,
     span: Span,
 ) -> Result<Expr, NoMemory>
-    ensures spells { IfOk result (λ e. expr e ≡ postfix_node span value suffixes.items) }
+    ensures spells { IfOk result (λ e. expr e ≡ postfix_node span value suffixes) }
     ensures level { IfOk result (λ e. level_of e ≡ 8) }
 {
     let value = Boxed::new(alloc, value)?;
-    let suffixes = Seq::of(suffixes);
     Ok(Expr::Postfix {
         value,
         suffixes,
@@ -101,7 +99,7 @@ pub fn call(name: Name, arguments: Args, span: Span) -> Expr
     }
 }
 
-#[tactic(auto, using(crate::proofs::MadeNodes::made_of_boxes))]
+#[tactic(auto, using(crate::proofs::MadeNodes::expr_of_IsValid, crate::proofs::MadeNodes::level_of_IsValid))]
 pub fn is_valid(alloc: Global, value: Expr, span: Span) -> Result<Expr, NoMemory>
     ensures spells { IfOk result (λ e. expr e ≡ node span
         (word IsValidWord (sign OpenParenthesis (part (expr value) (sign CloseParenthesis none))))) }
@@ -110,7 +108,7 @@ pub fn is_valid(alloc: Global, value: Expr, span: Span) -> Result<Expr, NoMemory
     Ok(Expr::IsValid(Boxed::new(alloc, value)?, span))
 }
 
-#[tactic(auto, using(crate::proofs::MadeNodes::made_of_boxes))]
+#[tactic(auto, using(crate::proofs::MadeNodes::expr_of_IsInvalid, crate::proofs::MadeNodes::level_of_IsInvalid))]
 pub fn is_invalid(alloc: Global, value: Expr, span: Span) -> Result<Expr, NoMemory>
     ensures spells { IfOk result (λ e. expr e ≡ node span
         (word IsInvalidWord (sign OpenParenthesis (part (expr value) (sign CloseParenthesis none))))) }
@@ -119,7 +117,7 @@ pub fn is_invalid(alloc: Global, value: Expr, span: Span) -> Result<Expr, NoMemo
     Ok(Expr::IsInvalid(Boxed::new(alloc, value)?, span))
 }
 
-#[tactic(auto, using(crate::proofs::MadeNodes::made_of_boxes))]
+#[tactic(auto, using(crate::proofs::MadeNodes::expr_of_Cast, crate::proofs::MadeNodes::level_of_Cast))]
 pub fn cast(
     alloc: Global,
     target: TypeName,
@@ -139,7 +137,7 @@ pub fn cast(
     })
 }
 
-#[tactic(auto, using(crate::proofs::MadeNodes::made_of_boxes))]
+#[tactic(auto, using(crate::proofs::MadeNodes::expr_of_Group, crate::proofs::MadeNodes::level_of_Group))]
 pub fn group(alloc: Global, inner: Expr, span: Span) -> Result<Expr, NoMemory>
     ensures spells { IfOk result (λ e. expr e ≡ node span
         (sign OpenParenthesis (part (expr inner) (sign CloseParenthesis none)))) }

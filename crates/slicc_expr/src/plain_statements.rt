@@ -3,6 +3,7 @@ ghost use Rattle.std.specs.Prelude.{◌≡◌, ◌<◌, true, length, IfOk, Matc
 ghost use Rattle.grammar_rows.specs.Kinds.{is_ahead};
 ghost use Rattle.slicc_ast.specs.Expressions.{expr};
 ghost use Rattle.slicc_ast.specs.Statements.{stmt};
+ghost use Rattle.slicc_ast.specs.declared.tree.token.Sign.TheVariants.{Assign};
 ghost use Rattle.slicc_grammar.specs.Ahead.{first_of_opening};
 ghost use Rattle.slicc_grammar.specs.Form.Form.{statement_end as end_form};
 ghost use Rattle.slicc_grammar.specs.Parts.{◌▸◌, name as name_part, of, semicolon};
@@ -12,11 +13,11 @@ ghost use Rattle.slicc_expr.specs.StatementParts.{expression_end, name_outline, 
 
 use crate::statement_ahead::goes_on_behind_name;
 use crate::statement_values::{
-    assigned_value, named_value, opening_value, optional_value, value_behind,
+    named_value, opening_value, optional_value, value_after, value_behind,
 };
 use slicc_ast::tree::{Expr, Name, Sign, Stmt, TypeName, Word};
 use slicc_lex::Token;
-use slicc_reading::{Fault, is_name, is_sign, name, refuse, sign, span, word};
+use slicc_reading::{Fault, ended, is_name, is_sign, name, refuse, sign, span, word};
 use std::alloc::Global;
 
 /// Goes on behind the expression that a statement begins with.
@@ -41,7 +42,7 @@ fn behind_expression<'t>(
             }
         };
     }
-    match assigned_value(alloc, room, tokens) {
+    match value_after(alloc, room, Sign::Assign, tokens) {
         Ok((value, behind)) => match sign(room, Sign::Semicolon, behind) {
             Ok(left) => {
                 let span = span(start, left);
@@ -70,31 +71,30 @@ fn declaration<'t>(
 ) -> Result<(Stmt, &'t [Token]), Fault>
     requires { IsNode (name_outline owner) start.now tokens.now }
     ensures { MatchResult result
-        (λ read. IsRead room (named_form ▸ semicolon) (stmt read.0) start.now tokens.now read.1.now)
-        (Refuses room (named_form ▸ semicolon) tokens.now) }
+        (λ read. IsRead room (named_form Assign ▸ semicolon) (stmt read.0) start.now tokens.now read.1.now)
+        (Refuses room (named_form Assign ▸ semicolon) tokens.now) }
 {
-    match named_value(alloc, room, tokens) {
-        Ok((name, value, behind)) => match sign(room, Sign::Semicolon, behind) {
-            Ok(left) => {
-                let Name { text, span: place } = owner;
-                let kind = TypeName { text, span: place };
-                let span = span(start, left);
-                Ok((
-                    Stmt::Declare {
-                        kind,
-                        name,
-                        value,
-                        span,
-                    },
-                    left,
-                ))
-            }
-            Err(fault) => {
-                drop(value);
-                Err(fault)
-            }
-        },
-        Err(fault) => Err(fault),
+    let named = named_value(alloc, room, Sign::Assign, tokens);
+    match ended(room, named, Sign::Semicolon) {
+        Ok((read, left)) => {
+            let (name, value) = read;
+            let Name { text, span: place } = owner;
+            let kind = TypeName { text, span: place };
+            let span = span(start, left);
+            Ok((
+                Stmt::Declare {
+                    kind,
+                    name,
+                    value,
+                    span,
+                },
+                left,
+            ))
+        }
+        Err(fault) => {
+            drop(owner);
+            Err(fault)
+        }
     }
 }
 
@@ -115,6 +115,7 @@ fn behind_name<'t>(
         return declaration(alloc, room, start, owner, tokens);
     }
     if !goes_on_behind_name(tokens) {
+        drop(owner);
         return Err(refuse(room, tokens));
     }
     match value_behind(alloc, room, start, owner, tokens) {
@@ -167,16 +168,12 @@ pub fn return_statement(
     ensures shorter { IfOk result (λ read. length read.1.now < length tokens.now) }
 {
     match word(room, Word::Return, tokens) {
-        Ok(behind) => match optional_value(alloc, room, behind) {
-            Ok((value, after)) => match sign(room, Sign::Semicolon, after) {
-                Ok(left) => Ok((Stmt::Return(value, span(tokens, left)), left)),
-                Err(fault) => {
-                    drop(value);
-                    Err(fault)
-                }
-            },
-            Err(fault) => Err(fault),
-        },
+        Ok(behind) => {
+            match ended(room, optional_value(alloc, room, behind), Sign::Semicolon) {
+                Ok((value, left)) => Ok((Stmt::Return(value, span(tokens, left)), left)),
+                Err(fault) => Err(fault),
+            }
+        }
         Err(fault) => Err(fault),
     }
 }

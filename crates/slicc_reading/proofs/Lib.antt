@@ -10,3 +10,4 @@ pub mod Endless
 pub mod Border
 pub mod FirstTokens
 pub mod BalancedParts
+pub mod GoingOn

@@ -5,11 +5,14 @@ use Rattle.slicc_ast.specs.declared.tree.span.Span.{Span}
 use Rattle.slicc_ast.specs.declared.tree.token.TokenKind.{TokenKind}
 use Rattle.slicc_ast.specs.declared.tree.token.TokenKind.TheVariants.{Sign as SignOf}
 use Rattle.slicc_ast.specs.declared.tree.token.Sign.{Sign}
+use Rattle.slicc_ast.specs.declared.tree.token.Sign.TheVariants.{OpenParenthesis, CloseParenthesis, Semicolon}
+use Rattle.slicc_ast.specs.declared.tree.token.Word.{Word}
+use Rattle.slicc_ast.specs.Names.{sign as sign_parts, word as word_parts}
 use Rattle.slicc_ast.specs.Outline.{Outline, node, Parts, none, token, part, provided, covering}
 use Rattle.grammar_rows.specs.Faults.{Stop}
 use Rattle.grammar_rows.specs.Faults.Stop.{Bad, Deep, Short}
 use Rattle.grammar_rows.specs.Reader.{Passes, Fails}
-use Rattle.slicc_grammar.specs.Parts.{Part}
+use Rattle.slicc_grammar.specs.Parts.{Part, word}
 use Rattle.slicc_grammar.specs.Table.{table}
 use Rattle.slicc_lex.specs.declared.token.Token.{Token}
 use Rattle.slicc_lex.specs.Spells.{token_spans}
@@ -67,6 +70,16 @@ pub record IsOpened (room : ℕ) (opener : Sign) (tokens left : List Token) : Ty
   pub split : tokens ≡ first ∷ left
   pub is_opener : first.kind ≡ SignOf opener
   pub allowed : 0 < room
+
+-- the first two tokens are this word and a parenthesis that opens a nesting, and one more is allowed
+pub record IsCalled (room : ℕ) (head : Word) (tokens left : List Token) : Type 0 where
+  pub between : List Token
+  pub is_head : AreRead room (word head) (word_parts head) tokens between
+  pub opened : IsOpened room OpenParenthesis between left
+
+-- the word, and parts in parentheses with `;` behind them
+abbrev pub call_parts : Word → (Parts → Parts) → Parts → Parts
+call_parts head parts others = word_parts head (sign_parts OpenParenthesis (parts (sign_parts CloseParenthesis (sign_parts Semicolon others))))
 
 -- the fault is that of a stop
 pub data IsStopOf : Stop → Fault → Type 0 where

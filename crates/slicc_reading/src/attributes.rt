@@ -12,6 +12,7 @@ ghost use Rattle.slicc_reading.specs.Attributes.{IsValue, value_kinds};
 ghost use Rattle.slicc_reading.specs.Reading.{AreRead, IsRead, Refuses};
 
 use crate::fault::Fault;
+use crate::kept::added;
 use crate::leaf::{is_name, is_sign, is_string, name, refuse, sign, span, split_first, string};
 use slicc_ast::tree::{Name, Pair, PairValue, Pairs, Sign, TokenKind};
 use slicc_ast::{NoMemory, Seq};
@@ -119,18 +120,14 @@ pub fn pairs(alloc: Global, room: u32, tokens: &[Token]) -> Result<(Pairs, &[Tok
         (λ read. IsRead room pairs_part (node read.0.span (pair_list read.0.items)) tokens.now tokens.now read.1.now)
         (Refuses room pairs_part tokens.now) }
 {
-    let mut items = Vec::new(alloc);
+    let mut items = Seq::new(alloc);
     let mut left = tokens;
     'commas: while is_sign(Sign::Comma, left) {
-        match next_pair(alloc, room, left) {
-            Ok((next, after)) => match items.push(next) {
-                Ok(()) => left = after,
-                Err(_) => return Err(Fault::NoMemory),
-            },
+        match added(&mut items, next_pair(alloc, room, left)) {
+            Ok(after) => left = after,
             Err(fault) => return Err(fault),
         }
     }
     let span = span(tokens, left);
-    let items = Seq::of(items);
     Ok((Pairs { items, span }, left))
 }

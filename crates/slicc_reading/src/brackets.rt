@@ -12,7 +12,8 @@ ghost use Rattle.slicc_reading.specs.Brackets.{balanced_outline, bracketed as br
 ghost use Rattle.slicc_reading.specs.Reading.{AreRead, IsRead, Refuses};
 
 use crate::fault::Fault;
-use crate::leaf::{is_sign, open, refuse, sign, span, split_first};
+use crate::kept::{added, ended};
+use crate::leaf::{is_sign, open, refuse, span, split_first};
 use slicc_ast::tree::{Balanced, Part, Sign, TokenKind};
 use slicc_ast::{NoMemory, Seq};
 use slicc_lex::Token;
@@ -107,19 +108,15 @@ pub fn balanced(alloc: Global, room: u32, tokens: &[Token]) -> Result<(Balanced,
         (λ read. IsRead room balanced_form (balanced_outline read.0) tokens.now tokens.now read.1.now)
         (Refuses room balanced_form tokens.now) }
 {
-    let mut parts = Vec::new(alloc);
+    let mut parts = Seq::new(alloc);
     let mut left = tokens;
     'parts: while begins_part(left) {
-        match next_part(alloc, room, left) {
-            Ok((next, after)) => match parts.push(next) {
-                Ok(()) => left = after,
-                Err(_) => return Err(Fault::NoMemory),
-            },
+        match added(&mut parts, next_part(alloc, room, left)) {
+            Ok(after) => left = after,
             Err(fault) => return Err(fault),
         }
     }
     let span = span(tokens, left);
-    let parts = Seq::of(parts);
     Ok((Balanced { parts, span }, left))
 }
 
@@ -208,13 +205,7 @@ pub fn bracketed(
     ensures shorter { IfOk result (λ read. length read.1.now < length tokens.now) }
 {
     match open(room, opener, tokens) {
-        Ok(behind) => match balanced(alloc, room - 1, behind) {
-            Ok((inner, after)) => match sign(room - 1, closer, after) {
-                Ok(left) => Ok((inner, left)),
-                Err(fault) => Err(fault),
-            },
-            Err(fault) => Err(fault),
-        },
+        Ok(behind) => ended(room - 1, balanced(alloc, room - 1, behind), closer),
         Err(fault) => Err(fault),
     }
 }

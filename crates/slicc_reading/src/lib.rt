@@ -6,6 +6,8 @@
 mod attributes;
 mod brackets;
 mod fault;
+mod heads;
+mod kept;
 mod leaf;
 mod numbers;
 mod places;
@@ -13,6 +15,8 @@ mod places;
 pub use attributes::{assigned, next_pair, pair, pairs};
 pub use brackets::{balanced, bracketed};
 pub use fault::{Fault, SyntaxFault};
+pub use heads::{called, name_after};
+pub use kept::{added, ended, ended_call, joined};
 pub use leaf::{
     is_name, is_sign, is_string, is_word, name, open, refuse, sign, span, split_first, string,
     type_name, word,

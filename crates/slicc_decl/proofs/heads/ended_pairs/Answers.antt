@@ -1,19 +1,12 @@
-use Rattle.std.proofs.Common.{◌≤◌, ◌<◌, length, arith}
-use Rattle.slicc_grammar.specs.Parts.{sign}
-use Rattle.slicc_reading.proofs.Parts.{◌then◌, as_part, at_first, behind}
+use Rattle.slicc_ast.specs.Declarations.{pairs as pairs_of}
+use Rattle.slicc_grammar.specs.Parts.{pairs}
+use Rattle.slicc_reading.proofs.GoingOn.{at_most}
+use Rattle.slicc_reading.proofs.Parts.{as_part, match_map}
 use Rattle.slicc_decl.proofs.heads.ended_pairs.Goals as goal
 
-pub returns-in-Ok-sign-clause-read : goal.returns-in-Ok-sign-clause-read
-returns-in-Ok-sign-clause-read c = as_part c.in-Ok.ensures then c.in-Ok-sign.ensures.read
+pub returns-clause-read : goal.returns-clause-read
+returns-clause-read c = c.ended.ensures.read pairs pairs_of _ (match_map c.pairs.result c.pairs.ensures (λ read is. as_part is) (λ fault is. is))
 
-pub returns-in-Ok-sign-clause-shorter : goal.returns-in-Ok-sign-clause-shorter
-returns-in-Ok-sign-clause-shorter c =
-    let some : length c.in-Ok-sign.left.now < length c.in-Ok.behind.now = c.in-Ok-sign.ensures.shorter in
-    let few : length c.in-Ok.behind.now ≤ length c.args.tokens.now = c.in-Ok.ensures.within in
-    omega arith
-
-pub returns-in-Err-sign-clause-read : goal.returns-in-Err-sign-clause-read
-returns-in-Err-sign-clause-read c = behind (as_part c.in-Ok.ensures) c.in-Err-sign.ensures.read
-
-pub returns-in-Err-clause-read : goal.returns-in-Err-clause-read
-returns-in-Err-clause-read c = at_first (sign c.args.end) c.in-Err.ensures
+pub returns-clause-shorter : goal.returns-clause-shorter
+returns-clause-shorter c =
+    c.ended.ensures.shorter _ (at_most c.args.room pairs c.args.tokens.now pairs_of c.pairs.result (match_map c.pairs.result c.pairs.ensures (λ read is. as_part is) (λ fault is. is)))

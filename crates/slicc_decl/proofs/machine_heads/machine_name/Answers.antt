@@ -21,15 +21,15 @@ returns-then-not-is_sign c =
     by_alternative machine_name 0 refl (sym c.if-not-is_machine_type.ensures)
     (as_part (narrowed (machine_type ∷ []) (sym c.if-not-is_machine_type.ensures) c.in-Ok.ensures.read) then absent ((colon ▸ name) done) (sym c.if-not-is_sign.ensures))
 
-pub returns-in-Ok-colon_name : goal.returns-in-Ok-colon_name
-returns-in-Ok-colon_name c =
+pub returns-in-Ok-name_after : goal.returns-in-Ok-name_after
+returns-in-Ok-name_after c =
     by_alternative machine_name 0 refl (sym c.if-not-is_machine_type.ensures)
-    (type_token (sym c.if-not-is_machine_type.ensures) c.in-Ok.ensures.read then present (sym c.if-not-is_sign.ensures) c.in-Ok-colon_name.ensures)
+    (type_token (sym c.if-not-is_machine_type.ensures) c.in-Ok.ensures.read then present (sym c.if-not-is_sign.ensures) c.in-Ok-name_after.ensures.read)
 
-pub returns-in-Ok : goal.returns-in-Ok
-returns-in-Ok c =
+pub returns-in-Err-name_after : goal.returns-in-Err-name_after
+returns-in-Err-name_after c =
     in_alternative machine_name 0 refl (sym c.if-not-is_machine_type.ensures)
-    (behind (type_token (sym c.if-not-is_machine_type.ensures) c.in-Ok.ensures.read) (fault_in_present (sym c.if-not-is_sign.ensures) c.in-Err-colon_name.ensures))
+    (behind (type_token (sym c.if-not-is_machine_type.ensures) c.in-Ok.ensures.read) (fault_in_present (sym c.if-not-is_sign.ensures) c.in-Err-name_after.ensures.read))
 
-pub returns : goal.returns
-returns c = only_memory (of machine_name) (sym c.if-not-is_name.ensures) c.in-Err.ensures.read
+pub returns-in-Err : goal.returns-in-Err
+returns-in-Err c = only_memory (of machine_name) (sym c.if-not-is_name.ensures) c.in-Err.ensures.read

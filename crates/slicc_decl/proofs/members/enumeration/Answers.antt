@@ -10,9 +10,8 @@ returns-then-not-is_word c = at_no_alternative enumeration (sym c.if-not-is_word
 
 pub returns-in-Ok-symbol_block : goal.returns-in-Ok-symbol_block
 returns-in-Ok-symbol_block c =
-    rw c.of-members.ensures
-    (of_alternative enumeration 0 refl (sym c.if-not-is_word.ensures)
-    (as_node c.span-span.result c.span-span.ensures (c.in-Ok.ensures.read then c.in-Ok-head.ensures then c.in-Ok-symbol_block.ensures)))
+    of_alternative enumeration 0 refl (sym c.if-not-is_word.ensures)
+    (as_node c.span-span.result c.span-span.ensures (c.in-Ok.ensures.read then c.in-Ok-head.ensures then c.in-Ok-symbol_block.ensures))
 
 pub returns-in-Err-symbol_block : goal.returns-in-Err-symbol_block
 returns-in-Err-symbol_block c =

@@ -1,31 +1,32 @@
 use Rattle.std.proofs.Common.{sym}
 use Rattle.slicc_ast.specs.Declarations.{state_list}
 use Rattle.slicc_ast.specs.declared.tree.token.Sign.TheVariants.{CloseBrace}
-use Rattle.slicc_grammar.specs.Parts.{sign}
-use Rattle.slicc_reading.specs.Reading.Refuses.{no_memory}
-use Rattle.slicc_reading.proofs.Parts.{◌then◌, at_first, behind}
+use Rattle.slicc_grammar.specs.Parts.{repeated, sign}
+use Rattle.slicc_reading.proofs.GoingOn.{of_read, of_value, on_fault}
+use Rattle.slicc_reading.proofs.Parts.{at_first}
 use Rattle.slicc_decl.specs.Members.{state_parts, state_row}
 use Rattle.slicc_decl.proofs.Lists.{each_state}
 use Rattle.slicc_reading.proofs.Repeats.{none_yet, one_more, fault_in_one, all_read}
 use Rattle.slicc_decl.proofs.members.state_members.Goals as goal
 
 pub members-init : goal.members-init
-members-init c = none_yet state_parts c.args.room state_row c.args.tokens.now c.new-items.result.items c.new-items.ensures.items
-
-pub returns-in-Err-push : goal.returns-in-Err-push
-returns-in-Err-push c = no_memory
+members-init c =
+    none_yet state_parts c.args.room state_row c.args.tokens.now c.new-items.result c.new-items.ensures
 
 pub members-preserved : goal.members-preserved
 members-preserved c =
-    one_more c.members.items.items c.in-Ok.next c.push.new.self.items c.in-Ok-push.ensures.items (sym c.members-test.ensures) c.in-Ok.ensures.read c.members.invariant
+    let a = c.in-Ok.ensures.added in
+    one_more c.members.items a.0 c.added.new.items a.1 (sym c.members-test.ensures) (of_read _ _ c.state.result c.state.ensures.read a.2) c.members.invariant
 
 pub returns-in-Err : goal.returns-in-Err
-returns-in-Err c = at_first (sign CloseBrace) (fault_in_one (sym c.members-test.ensures) c.in-Err.ensures.read c.members.invariant)
-
-pub returns-in-Ok-sign : goal.returns-in-Ok-sign
-returns-in-Ok-sign c =
-    all_read (state_list c.members.items.items) (each_state c.members.items.items) (sym c.members-test.ensures) c.members.invariant then c.in-Ok-sign.ensures.read
+returns-in-Err c =
+    at_first (sign CloseBrace) (fault_in_one (sym c.members-test.ensures) (c.in-Err.ensures.refused _ _ _ (on_fault _ _ c.state.result c.state.ensures.read)) c.members.invariant)
 
 pub returns : goal.returns
 returns c =
-    behind (all_read (state_list c.members.items.items) (each_state c.members.items.items) (sym c.members-test.ensures) c.members.invariant) c.in-Err-sign.ensures.read
+    c.ended.ensures.read (repeated state_row) state_list c.args.tokens.now
+    (all_read (state_list c.members.items) (each_state c.members.items) (sym c.members-test.ensures) c.members.invariant)
+
+pub members-smaller : goal.members-smaller
+members-smaller c =
+    of_value _ c.state.result c.state.ensures.shorter c.in-Ok.ensures.added.2

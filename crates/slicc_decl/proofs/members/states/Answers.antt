@@ -10,9 +10,8 @@ returns-then-not-is_word c = at_no_alternative states (sym c.if-not-is_word.ensu
 
 pub returns-in-Ok-state_block : goal.returns-in-Ok-state_block
 returns-in-Ok-state_block c =
-    rw c.of-members.ensures
-    (of_alternative states 0 refl (sym c.if-not-is_word.ensures)
-    (as_node c.span-span.result c.span-span.ensures (c.in-Ok.ensures.read then c.in-Ok-head.ensures then c.in-Ok-state_block.ensures)))
+    of_alternative states 0 refl (sym c.if-not-is_word.ensures)
+    (as_node c.span-span.result c.span-span.ensures (c.in-Ok.ensures.read then c.in-Ok-head.ensures then c.in-Ok-state_block.ensures))
 
 pub returns-in-Err-state_block : goal.returns-in-Err-state_block
 returns-in-Err-state_block c =

@@ -6,7 +6,7 @@ use Rattle.slicc_reading.proofs.Repeats.{AreSeparated}
 use Rattle.slicc_decl.proofs.name_sets.closed_names.Given as goal
 
 abbrev pub invariant-commas : goal.invariant-commas
-invariant-commas l = AreSeparated name_of further_name l.room name (comma ▸ name) l.tokens l.items.items l.left
+invariant-commas l = AreSeparated name_of further_name l.room name (comma ▸ name) l.tokens l.items l.left
 
 abbrev pub decreases-commas : goal.decreases-commas
 decreases-commas l = length l.left

@@ -19,9 +19,8 @@ returns-then-not-is_sign c =
 
 pub returns-in-Ok-name_block : goal.returns-in-Ok-name_block
 returns-in-Ok-name_block c =
-    rw c.of.ensures
-    (by_alternative names 1 refl (sym c.if-not-is_sign.ensures)
-    (as_part (as_node c.span-span.result c.span-span.ensures (allow c.in-Ok-name_block.ensures.some c.in-Ok-name_block.ensures.read))))
+    by_alternative names 1 refl (sym c.if-not-is_sign.ensures)
+    (as_part (as_node c.span-span.result c.span-span.ensures (allow c.in-Ok-name_block.ensures.some c.in-Ok-name_block.ensures.read)))
 
 pub returns-in-Err-name_block : goal.returns-in-Err-name_block
 returns-in-Err-name_block c = in_alternative names 1 refl (sym c.if-not-is_sign.ensures) c.in-Err-name_block.ensures.read

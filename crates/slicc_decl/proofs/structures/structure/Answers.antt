@@ -9,9 +9,8 @@ returns-then-not-is_word c = at_no_alternative structure (sym c.if-not-is_word.e
 
 pub returns-in-Ok-member_block : goal.returns-in-Ok-member_block
 returns-in-Ok-member_block c =
-    rw c.of-members.ensures
-    (of_alternative structure 0 refl (sym c.if-not-is_word.ensures)
-    (as_node c.span-span.result c.span-span.ensures (c.in-Ok.ensures.read then c.in-Ok-head.ensures then c.in-Ok-member_block.ensures)))
+    of_alternative structure 0 refl (sym c.if-not-is_word.ensures)
+    (as_node c.span-span.result c.span-span.ensures (c.in-Ok.ensures.read then c.in-Ok-head.ensures then c.in-Ok-member_block.ensures))
 
 pub returns-in-Err-member_block : goal.returns-in-Err-member_block
 returns-in-Err-member_block c =

@@ -6,7 +6,7 @@ use Rattle.slicc_reading.proofs.Repeats.{AreRepeated}
 use Rattle.slicc_decl.proofs.transitions.further_pairs.Given as goal
 
 abbrev pub invariant-commas : goal.invariant-commas
-invariant-commas l = AreRepeated pair_parts l.room (comma ▸ of pair) l.start l.tokens l.items.items l.left
+invariant-commas l = AreRepeated pair_parts l.room (comma ▸ of pair) l.start l.tokens l.items l.left
 
 abbrev pub decreases-commas : goal.decreases-commas
 decreases-commas l = length l.left

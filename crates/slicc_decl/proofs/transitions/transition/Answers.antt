@@ -10,9 +10,8 @@ returns-then-not-is_word c = at_no_alternative transition (sym c.if-not-is_word.
 
 pub returns-in-Ok-action_block : goal.returns-in-Ok-action_block
 returns-in-Ok-action_block c =
-    rw c.of-actions.ensures
-    (of_alternative transition 0 refl (sym c.if-not-is_word.ensures)
-    (as_node c.span-span.result c.span-span.ensures (c.in-Ok.ensures.read then c.in-Ok-transition_head.ensures then c.in-Ok-action_block.ensures)))
+    of_alternative transition 0 refl (sym c.if-not-is_word.ensures)
+    (as_node c.span-span.result c.span-span.ensures (c.in-Ok.ensures.read then c.in-Ok-transition_head.ensures then c.in-Ok-action_block.ensures))
 
 pub returns-in-Err-action_block : goal.returns-in-Err-action_block
 returns-in-Err-action_block c = in_alternative transition 0 refl (sym c.if-not-is_word.ensures) (behind (c.in-Ok.ensures.read then c.in-Ok-transition_head.ensures) c.in-Err-action_block.ensures)

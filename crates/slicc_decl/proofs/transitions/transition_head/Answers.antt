@@ -1,10 +1,21 @@
-use Rattle.slicc_reading.proofs.Choices.{in_nesting, fault_in_nesting}
-use Rattle.slicc_reading.proofs.Parts.{match_map}
+use Rattle.slicc_ast.specs.Declarations.{pairs as pairs_of}
+use Rattle.slicc_ast.specs.Machines.{names as names_of, next_parts}
+use Rattle.slicc_ast.specs.Names.{sign as sign_of}
+use Rattle.slicc_ast.specs.Outline.{Parts}
+use Rattle.slicc_ast.specs.declared.tree.token.Sign.TheVariants.{CloseParenthesis, Comma}
+use Rattle.slicc_grammar.specs.Parts.{◌▸◌, sign}
+use Rattle.slicc_reading.proofs.GoingOn.{nests}
+use Rattle.slicc_decl.specs.Members.{transition_inside}
+use Rattle.slicc_decl.specs.declared.transitions.TransitionHead.{TransitionHead}
 use Rattle.slicc_decl.proofs.transitions.transition_head.Goals as goal
+
+abbrev head_parts : TransitionHead → Parts → Parts
+head_parts head others = names_of head.states (sign_of Comma (names_of head.events (next_parts head.next (pairs_of head.pairs others))))
 
 pub returns-in-Ok : goal.returns-in-Ok
 returns-in-Ok c =
-    match_map c.closed_head.result c.closed_head.ensures (λ read is. in_nesting c.in-Ok.ensures.opened is) (λ fault is. fault_in_nesting c.in-Ok.ensures.opened is)
+    nests (transition_inside ▸ sign CloseParenthesis) (λ head others. head_parts head (sign_of CloseParenthesis others)) c.ended.result c.in-Ok.ensures.opened
+    (c.ended.ensures.read transition_inside head_parts c.in-Ok.inside.now c.transition_inside.ensures)
 
 pub returns-in-Err : goal.returns-in-Err
 returns-in-Err c = c.in-Err.ensures.refused _

@@ -1,39 +1,24 @@
 use Rattle.std.proofs.Common.{refl, sym, ◌<◌, length, arith, rules}
 use Rattle.grammar_rows.specs.Grammar.Row.{done}
 use Rattle.slicc_ast.specs.declared.tree.token.Sign.TheVariants.{CloseBrace}
-use Rattle.slicc_ast.specs.Statements.{stmt_list}
+use Rattle.slicc_ast.specs.Names.{word as word_of}
+use Rattle.slicc_ast.specs.Statements.{block, stmt_list}
 use Rattle.slicc_grammar.specs.Form.{Form}
-use Rattle.slicc_grammar.specs.Parts.{◌▸◌, of, sign, word}
+use Rattle.slicc_grammar.specs.Parts.{◌▸◌, of, repeated, sign, word}
 use Rattle.slicc_reading.specs.Reading.Refuses.{no_memory}
 use Rattle.slicc_reading.proofs.Parts.{◌then◌, as_node, as_part, as_tree, at_first, at_no_alternative, behind, in_alternative, match_map, of_alternative}
 use Rattle.slicc_reading.proofs.Choices.{absent, fault_in_nesting, fault_in_present, in_nesting, present}
+use Rattle.slicc_reading.proofs.GoingOn.{fewer, fewer_still, of_read, of_value, on_fault}
 use Rattle.slicc_reading.proofs.Repeats.{all_read, fault_in_one, none_yet, one_more}
-use Rattle.slicc_expr.specs.StatementParts.{branch, branches_end}
+use Rattle.slicc_expr.specs.StatementParts.{branch, branch_parts, branches_end, condition_parts, enqueue_head, enqueue_head_parts, other_branches_parts, peek_head, peek_head_parts}
 use Rattle.slicc_expr.proofs.Branches.{all_branches, calling_ahead, each_stmt, enqueue_ahead, enqueue_outline, fault_in_else_if, fault_on, if_is, no_else_if, no_if, no_otherwise, one_else_if, peek_outline, read_tree, stmt_parts}
 use Rattle.slicc_ast.specs.declared.tree.statement.Stmt.TheViews.{the_lemmas}
-use Rattle.slicc_ast.specs.declared.tree.token.Word.TheVariants.{Else}
+use Rattle.slicc_ast.specs.declared.tree.token.Word.TheVariants.{Else, If}
 use Rattle.slicc_expr.proofs.blocks.+block.Goals as goal
-
-pub if_branch-returns-in-Ok-statement_block-clause-read : goal.if_branch-returns-in-Ok-statement_block-clause-read
-if_branch-returns-in-Ok-statement_block-clause-read t c =
-    c.in-Ok.ensures.read then as_part c.in-Ok-statement_block.ensures.read
-
-pub if_branch-returns-in-Err-statement_block-clause-read : goal.if_branch-returns-in-Err-statement_block-clause-read
-if_branch-returns-in-Err-statement_block-clause-read t c =
-    behind c.in-Ok.ensures.read c.in-Err-statement_block.ensures.read
 
 pub if_branch-returns-in-Err-clause-read : goal.if_branch-returns-in-Err-clause-read
 if_branch-returns-in-Err-clause-read t c =
     at_first (of Form.block) c.in-Err.ensures.read
-
-pub conditional-returns-in-Ok-other_branches-clause-read : goal.conditional-returns-in-Ok-other_branches-clause-read
-conditional-returns-in-Ok-other_branches-clause-read t c =
-    let whole = as_node c.span-span.result c.span-span.ensures (c.in-Ok.ensures.read then c.in-Ok-other_branches.ensures) in
-    of_alternative Form.conditional 0 refl c.requires (read_tree whole (search (rules, the_lemmas, if_is, c.of-others.ensures)))
-
-pub conditional-returns-in-Err-other_branches-clause-read : goal.conditional-returns-in-Err-other_branches-clause-read
-conditional-returns-in-Err-other_branches-clause-read t c =
-    in_alternative Form.conditional 0 refl c.requires (behind c.in-Ok.ensures.read c.in-Err-other_branches.ensures)
 
 pub conditional-returns-in-Err-clause-read : goal.conditional-returns-in-Err-clause-read
 conditional-returns-in-Err-clause-read t c =
@@ -53,11 +38,11 @@ else_if-returns-in-Err-clause-read t c =
 
 pub else_ifs-branches-init : goal.else_ifs-branches-init
 else_ifs-branches-init t c =
-    no_else_if c.args.room c.args.tokens.now c.new-others.result.items c.new-others.ensures.items
+    no_else_if c.args.room c.args.tokens.now c.new-others.result c.new-others.ensures
 
 pub else_ifs-branches-preserved : goal.else_ifs-branches-preserved
 else_ifs-branches-preserved t c =
-    one_else_if c.branches.others.items c.in-Ok.next c.push.new.self.items c.in-Ok-push.ensures.items (sym c.branches-test.ensures) c.in-Ok.ensures.read c.branches.invariant
+    one_else_if c.branches.others c.in-Ok.next c.push.new.self c.in-Ok-push.ensures.ok (sym c.branches-test.ensures) c.in-Ok.ensures.read c.branches.invariant
 
 pub else_ifs-returns-in-Err-push-clause-read : goal.else_ifs-returns-in-Err-push-clause-read
 else_ifs-returns-in-Err-push-clause-read t c =
@@ -67,27 +52,9 @@ pub else_ifs-returns-in-Err-clause-read : goal.else_ifs-returns-in-Err-clause-re
 else_ifs-returns-in-Err-clause-read t c =
     fault_in_else_if (sym c.branches-test.ensures) c.in-Err.ensures.read c.branches.invariant
 
-pub enqueue-returns-in-Ok-statement_block-clause-read : goal.enqueue-returns-in-Ok-statement_block-clause-read
-enqueue-returns-in-Ok-statement_block-clause-read t c =
-    as_tree _ (enqueue_outline c.in-Ok.port c.in-Ok.message c.in-Ok.latency c.in-Ok-statement_block.body c.span-span.result)
-    (as_node c.span-span.result c.span-span.ensures (c.in-Ok.ensures.read then as_part c.in-Ok-statement_block.ensures.read))
-
-pub enqueue-returns-in-Err-statement_block-clause-read : goal.enqueue-returns-in-Err-statement_block-clause-read
-enqueue-returns-in-Err-statement_block-clause-read t c =
-    behind c.in-Ok.ensures.read c.in-Err-statement_block.ensures.read
-
 pub enqueue-returns-in-Err-clause-read : goal.enqueue-returns-in-Err-clause-read
 enqueue-returns-in-Err-clause-read t c =
     at_first (of Form.block) c.in-Err.ensures.read
-
-pub peek-returns-in-Ok-statement_block-clause-read : goal.peek-returns-in-Ok-statement_block-clause-read
-peek-returns-in-Ok-statement_block-clause-read t c =
-    as_tree _ (peek_outline c.in-Ok.port c.in-Ok.message c.in-Ok.pairs c.in-Ok-statement_block.body c.span-span.result)
-    (as_node c.span-span.result c.span-span.ensures (c.in-Ok.ensures.read then as_part c.in-Ok-statement_block.ensures.read))
-
-pub peek-returns-in-Err-statement_block-clause-read : goal.peek-returns-in-Err-statement_block-clause-read
-peek-returns-in-Err-statement_block-clause-read t c =
-    behind c.in-Ok.ensures.read c.in-Err-statement_block.ensures.read
 
 pub peek-returns-in-Err-clause-read : goal.peek-returns-in-Err-clause-read
 peek-returns-in-Err-clause-read t c =
@@ -197,20 +164,74 @@ statements-more-init t c =
 
 pub statements-more-preserved : goal.statements-more-preserved
 statements-more-preserved t c =
-    one_more c.more.items c.in-Ok.next c.push.new.self c.in-Ok-push.ensures.ok (sym c.more-test.ensures) (as_part c.in-Ok.ensures.read) c.more.invariant
-
-pub statements-returns-in-Err-push : goal.statements-returns-in-Err-push
-statements-returns-in-Err-push t c =
-    no_memory
+    let a = c.in-Ok.ensures.added in
+    one_more c.more.items a.0 c.added.new.items a.1 (sym c.more-test.ensures) (as_part (of_read _ _ c.statement.result c.statement.ensures.read a.2)) c.more.invariant
 
 pub statements-returns-in-Err : goal.statements-returns-in-Err
 statements-returns-in-Err t c =
-    at_first (sign CloseBrace) (fault_in_one (sym c.more-test.ensures) c.in-Err.ensures.read c.more.invariant)
-
-pub statements-returns-in-Ok-sign : goal.statements-returns-in-Ok-sign
-statements-returns-in-Ok-sign t c =
-    all_read (stmt_list c.more.items) (each_stmt c.more.items) (sym c.more-test.ensures) c.more.invariant then c.in-Ok-sign.ensures.read
+    at_first (sign CloseBrace) (fault_in_one (sym c.more-test.ensures) (c.in-Err.ensures.refused _ _ _ (on_fault _ _ c.statement.result c.statement.ensures.read)) c.more.invariant)
 
 pub statements-returns : goal.statements-returns
 statements-returns t c =
-    behind (all_read (stmt_list c.more.items) (each_stmt c.more.items) (sym c.more-test.ensures) c.more.invariant) c.in-Err-sign.ensures.read
+    c.ended.ensures.read (repeated (of Form.statement)) stmt_list c.args.tokens.now
+    (all_read (stmt_list c.more.items) (each_stmt c.more.items) (sym c.more-test.ensures) c.more.invariant)
+
+pub if_branch-returns-in-Ok : goal.if_branch-returns-in-Ok
+if_branch-returns-in-Ok t c =
+    record {
+      read = c.joined.ensures.read c.args.room _ _ (λ e others. word_of If (condition_parts e others)) block _ _ c.in-Ok.ensures.read
+          (match_map c.statement_block.result c.statement_block.ensures.read (λ read is. as_part is) (λ fault is. is));
+      shorter = c.joined.ensures.shorter _ (fewer_still c.statement_block.result c.in-Ok.ensures.shorter c.statement_block.ensures.shorter);
+    }
+
+pub conditional-returns-in-Ok-joined-clause-read : goal.conditional-returns-in-Ok-joined-clause-read
+conditional-returns-in-Ok-joined-clause-read t c =
+    let whole = as_node c.span-span.result c.span-span.ensures
+    (c.in-Ok-joined.ensures.read c.args.room branch branches_end branch_parts other_branches_parts c.args.tokens.now c.in-Ok.behind.now c.in-Ok.ensures.read c.other_branches.ensures) in
+    of_alternative Form.conditional 0 refl c.requires (read_tree whole (search (rules, the_lemmas, if_is)))
+
+pub conditional-returns-in-Ok-joined-clause-shorter : goal.conditional-returns-in-Ok-joined-clause-shorter
+conditional-returns-in-Ok-joined-clause-shorter t c =
+    c.in-Ok-joined.ensures.shorter (length c.args.tokens.now) (fewer c.args.room branches_end c.in-Ok.behind.now other_branches_parts c.other_branches.result c.in-Ok.ensures.shorter c.other_branches.ensures)
+
+pub conditional-returns-in-Err-joined-clause-read : goal.conditional-returns-in-Err-joined-clause-read
+conditional-returns-in-Err-joined-clause-read t c =
+    in_alternative Form.conditional 0 refl c.requires (c.in-Err-joined.ensures.read c.args.room _ _ branch_parts other_branches_parts _ _ c.in-Ok.ensures.read c.other_branches.ensures)
+
+pub enqueue-returns-in-Ok-joined-clause-read : goal.enqueue-returns-in-Ok-joined-clause-read
+enqueue-returns-in-Ok-joined-clause-read t c =
+    let read = c.in-Ok-joined.read in
+    as_tree _ (enqueue_outline read.0.0.0 read.0.0.1 read.0.1 read.1 c.span-span.result)
+    (as_node c.span-span.result c.span-span.ensures
+    (c.in-Ok-joined.ensures.read c.args.room enqueue_head (of Form.block) enqueue_head_parts block c.args.tokens.now c.in-Ok.behind.now c.in-Ok.ensures.read
+    (match_map c.statement_block.result c.statement_block.ensures.read (λ read is. as_part is) (λ fault is. is))))
+
+pub enqueue-returns-in-Ok-joined-clause-shorter : goal.enqueue-returns-in-Ok-joined-clause-shorter
+enqueue-returns-in-Ok-joined-clause-shorter t c =
+    c.in-Ok-joined.ensures.shorter (length c.args.tokens.now) (fewer_still c.statement_block.result c.in-Ok.ensures.shorter c.statement_block.ensures.shorter)
+
+pub enqueue-returns-in-Err-joined-clause-read : goal.enqueue-returns-in-Err-joined-clause-read
+enqueue-returns-in-Err-joined-clause-read t c =
+    c.in-Err-joined.ensures.read c.args.room _ _ enqueue_head_parts block _ _ c.in-Ok.ensures.read
+    (match_map c.statement_block.result c.statement_block.ensures.read (λ read is. as_part is) (λ fault is. is))
+
+pub peek-returns-in-Ok-joined-clause-read : goal.peek-returns-in-Ok-joined-clause-read
+peek-returns-in-Ok-joined-clause-read t c =
+    let read = c.in-Ok-joined.read in
+    as_tree _ (peek_outline read.0.0.0 read.0.0.1 read.0.1 read.1 c.span-span.result)
+    (as_node c.span-span.result c.span-span.ensures
+    (c.in-Ok-joined.ensures.read c.args.room peek_head (of Form.block) peek_head_parts block c.args.tokens.now c.in-Ok.behind.now c.in-Ok.ensures.read
+    (match_map c.statement_block.result c.statement_block.ensures.read (λ read is. as_part is) (λ fault is. is))))
+
+pub peek-returns-in-Ok-joined-clause-shorter : goal.peek-returns-in-Ok-joined-clause-shorter
+peek-returns-in-Ok-joined-clause-shorter t c =
+    c.in-Ok-joined.ensures.shorter (length c.args.tokens.now) (fewer_still c.statement_block.result c.in-Ok.ensures.shorter c.statement_block.ensures.shorter)
+
+pub peek-returns-in-Err-joined-clause-read : goal.peek-returns-in-Err-joined-clause-read
+peek-returns-in-Err-joined-clause-read t c =
+    c.in-Err-joined.ensures.read c.args.room _ _ peek_head_parts block _ _ c.in-Ok.ensures.read
+    (match_map c.statement_block.result c.statement_block.ensures.read (λ read is. as_part is) (λ fault is. is))
+
+pub statements-more-smaller : goal.statements-more-smaller
+statements-more-smaller t c =
+    of_value _ c.statement.result c.statement.ensures.shorter c.in-Ok.ensures.added.2

@@ -47,7 +47,7 @@ abbrev pub decreases-statements : goal.decreases-statements
 decreases-statements l = 8 * length l.tokens.now + 5
 
 abbrev pub invariant-else_ifs-branches : goal.invariant-else_ifs-branches
-invariant-else_ifs-branches l = AreElseIfs l.room l.tokens l.others.items l.left
+invariant-else_ifs-branches l = AreElseIfs l.room l.tokens l.others l.left
 
 abbrev pub decreases-else_ifs-branches : goal.decreases-else_ifs-branches
 decreases-else_ifs-branches l = length l.left

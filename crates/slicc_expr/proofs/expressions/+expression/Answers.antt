@@ -1,5 +1,6 @@
-use Rattle.std.proofs.Common.{refl, sym, arith, ◌∷◌, [], ◌∙◌}
+use Rattle.std.proofs.Common.{◌-◌, refl, sym, arith, ◌∷◌, []}
 use Rattle.grammar_rows.specs.Grammar.Row.{done, form}
+use Rattle.slicc_ast.specs.Names.{sign}
 use Rattle.slicc_ast.specs.declared.tree.token.Sign.TheVariants.{CloseParenthesis, Dot, OpenBracket}
 use Rattle.slicc_grammar.specs.TokenKinds.{sign_kind}
 use Rattle.slicc_grammar.specs.Form.Form.{arguments, constant, expression, name_end, opening, suffix, unary}
@@ -7,7 +8,9 @@ use Rattle.slicc_grammar.specs.Parts.{◌▸◌, of, optional, parentheses, repe
 use Rattle.slicc_reading.specs.Reading.Refuses.{no_memory}
 use Rattle.slicc_reading.proofs.Parts.{◌then◌, allow, as_node, as_node_behind, as_part, as_tree, at_first, behind, behind_read, in_alternative, match_map, of_alternative, read_behind}
 use Rattle.slicc_reading.proofs.Choices.{absent, absent_read, present, present_read, fault_in_present, fault_in_more, in_nesting, fault_in_nesting}
-use Rattle.slicc_expr.proofs.Loops.{more_items, items_begin, items_more, items_end, no_items, operands_begin, one_level, fault_in_level, all_operands, are_some, fault_in_operand, no_operand, no_operand_yet, no_suffix, one_operand, operands_end, operands_level, operation_read, operator_ahead, postfix_read, some_begin, some_end, some_more, suffix_parts, suffixes_end}
+use Rattle.slicc_expr.specs.Levels.{cast_head}
+use Rattle.slicc_expr.proofs.Loops.{args_parts, expr_parts, head_parts, more_items, items_begin, items_more, items_end, no_items, operands_begin, one_level, fault_in_level, all_operands, are_some, fault_in_operand, no_operand, no_operand_yet, no_suffix, one_operand, operands_end, operands_level, operation_read, operator_ahead, postfix_read, some_begin, some_end, some_more, suffix_parts, suffixes_end}
+use Rattle.slicc_reading.proofs.GoingOn.{calls, fewer, fewer_still, nests, of_read, of_value, on_fault, weaker}
 use Rattle.slicc_reading.proofs.Repeats.{fault_in_one}
 use Rattle.slicc_expr.proofs.Ahead.{bracket_ahead, colon_ahead, constant_ahead, invalid_ahead, level_read, fault_in_operators, fault_in_unary, neither_ahead, no_level, open_ahead, opening_ahead, unary_level}
 use Rattle.slicc_ast.specs.Expressions.{level_of}
@@ -24,7 +27,7 @@ after_name-returns-in-Err-clause-read t c =
 
 pub argument_list-returns-then-not-begins_expression : goal.argument_list-returns-then-not-begins_expression
 argument_list-returns-then-not-begins_expression t c =
-    no_items c.span-span.result c.of-items.result (c.of-items.ensures ∙ c.new-items.ensures.items) c.span-span.ensures (sym c.if-not-begins_expression.ensures)
+    no_items c.span-span.result c.new-items.result c.new-items.ensures c.span-span.ensures (sym c.if-not-begins_expression.ensures)
 
 pub argument_list-returns-in-Err : goal.argument_list-returns-in-Err
 argument_list-returns-in-Err t c =
@@ -34,37 +37,18 @@ pub argument_list-returns-in-Err-push : goal.argument_list-returns-in-Err-push
 argument_list-returns-in-Err-push t c =
     no_memory
 
-pub argument_list-returns-in-Err-push-2 : goal.argument_list-returns-in-Err-push-2
-argument_list-returns-in-Err-push-2 t c =
-    no_memory
-
 pub argument_list-commas-init : goal.argument_list-commas-init
 argument_list-commas-init t c =
-    items_begin c.in-Ok.first c.new-items.result.items c.push.new.self.items c.new-items.ensures.items c.in-Ok-push.ensures.items c.in-Ok.ensures.read
+    items_begin c.in-Ok.first c.new-items.result c.push.new.self c.new-items.ensures c.in-Ok-push.ensures.ok c.in-Ok.ensures.read
 
 pub argument_list-commas-preserved : goal.argument_list-commas-preserved
 argument_list-commas-preserved t c =
-    items_more c.commas.items.items c.in-Ok-next_argument.next c.push-in-Ok-next_argument.new.self.items c.in-Ok-push-2.ensures.items (sym c.commas-test.ensures) c.in-Ok-next_argument.ensures.read c.commas.invariant
-
-pub argument_list-returns-in-Err-next_argument : goal.argument_list-returns-in-Err-next_argument
-argument_list-returns-in-Err-next_argument t c =
-    fault_in_present (sym c.if-not-begins_expression.ensures) (in_alternative arguments 0 refl (sym c.if-not-begins_expression.ensures) (fault_in_more more_items (λ row. row) (sym c.commas-test.ensures) c.in-Err-next_argument.ensures.read c.commas.invariant.leads))
+    let a = c.in-Ok-added.ensures.added in
+    items_more c.commas.items a.0 c.added.new.items a.1 (sym c.commas-test.ensures) (of_read _ _ c.next_argument.result c.next_argument.ensures.read a.2) c.commas.invariant
 
 pub argument_list-returns : goal.argument_list-returns
 argument_list-returns t c =
-    rw c.of-items-2.ensures (items_end c.span-span-2.result c.commas.items.items (sym c.if-not-begins_expression.ensures) (sym c.commas-test.ensures) c.span-span-2.ensures c.commas.invariant)
-
-pub arguments-returns-in-Ok-sign-clause-read : goal.arguments-returns-in-Ok-sign-clause-read
-arguments-returns-in-Ok-sign-clause-read t c =
-    in_nesting c.in-Ok.ensures.opened (as_part c.in-Ok-argument_list.ensures then c.in-Ok-sign.ensures.read)
-
-pub arguments-returns-in-Err-sign-clause-read : goal.arguments-returns-in-Err-sign-clause-read
-arguments-returns-in-Err-sign-clause-read t c =
-    fault_in_nesting c.in-Ok.ensures.opened (behind (as_part c.in-Ok-argument_list.ensures) c.in-Err-sign.ensures.read)
-
-pub arguments-returns-in-Err-argument_list-clause-read : goal.arguments-returns-in-Err-argument_list-clause-read
-arguments-returns-in-Err-argument_list-clause-read t c =
-    fault_in_nesting c.in-Ok.ensures.opened (at_first (sign_part CloseParenthesis) c.in-Err-argument_list.ensures)
+    items_end c.span-span-2.result c.commas.items (sym c.if-not-begins_expression.ensures) (sym c.commas-test.ensures) c.span-span-2.ensures c.commas.invariant
 
 pub arguments-returns-in-Err-clause-read : goal.arguments-returns-in-Err-clause-read
 arguments-returns-in-Err-clause-read t c =
@@ -72,7 +56,8 @@ arguments-returns-in-Err-clause-read t c =
 
 pub cast-returns-in-Ok-cast-clause-read : goal.cast-returns-in-Ok-cast-clause-read
 cast-returns-in-Ok-cast-clause-read t c =
-    as_tree _ c.in-Ok-cast.ensures.spells (as_node c.span.result c.span.ensures (c.in-Ok.ensures.read then in_nesting c.in-Ok-open.ensures.opened c.in-Ok-converted.ensures.read))
+    as_tree _ c.in-Ok-cast.ensures.spells (as_node c.span.result c.span.ensures
+    (c.in-Ok.ensures.called.is_head then in_nesting c.in-Ok.ensures.called.opened c.in-Ok-converted.ensures.read))
 
 pub cast-returns-in-Err-cast-clause-read : goal.cast-returns-in-Err-cast-clause-read
 cast-returns-in-Err-cast-clause-read t c =
@@ -80,15 +65,11 @@ cast-returns-in-Err-cast-clause-read t c =
 
 pub cast-returns-in-Err-converted-clause-read : goal.cast-returns-in-Err-converted-clause-read
 cast-returns-in-Err-converted-clause-read t c =
-    behind c.in-Ok.ensures.read (fault_in_nesting c.in-Ok-open.ensures.opened c.in-Err-converted.ensures.read)
-
-pub cast-returns-in-Err-open-clause-read : goal.cast-returns-in-Err-open-clause-read
-cast-returns-in-Err-open-clause-read t c =
-    behind c.in-Ok.ensures.read (c.in-Err-open.ensures.refused _)
+    behind c.in-Ok.ensures.called.is_head (fault_in_nesting c.in-Ok.ensures.called.opened c.in-Err-converted.ensures.read)
 
 pub cast-returns-in-Err-clause-read : goal.cast-returns-in-Err-clause-read
 cast-returns-in-Err-clause-read t c =
-    at_first _ c.in-Err.ensures.read
+    c.in-Err.ensures.refused _
 
 pub constant-returns-then-is_word-clause-read : goal.constant-returns-then-is_word-clause-read
 constant-returns-then-is_word-clause-read t c =
@@ -102,18 +83,6 @@ pub constant-returns-then-is_sign-clause-read : goal.constant-returns-then-is_si
 constant-returns-then-is_sign-clause-read t c =
     match_map c.group.result c.group.ensures.read (λ read is. of_alternative constant 8 refl (sym c.if-is_sign.ensures) is) (λ fault is. in_alternative constant 8 refl (sym c.if-is_sign.ensures) is)
 
-pub converted-returns-in-Ok-sign-clause-read : goal.converted-returns-in-Ok-sign-clause-read
-converted-returns-in-Ok-sign-clause-read t c =
-    c.in-Ok.ensures.read then (as_part c.in-Ok-level.ensures.read then c.in-Ok-sign.ensures.read)
-
-pub converted-returns-in-Err-sign-clause-read : goal.converted-returns-in-Err-sign-clause-read
-converted-returns-in-Err-sign-clause-read t c =
-    behind c.in-Ok.ensures.read (behind (as_part c.in-Ok-level.ensures.read) c.in-Err-sign.ensures.read)
-
-pub converted-returns-in-Err-level-clause-read : goal.converted-returns-in-Err-level-clause-read
-converted-returns-in-Err-level-clause-read t c =
-    behind c.in-Ok.ensures.read (at_first (sign_part CloseParenthesis) c.in-Err-level.ensures.read)
-
 pub converted-returns-in-Err-clause-read : goal.converted-returns-in-Err-clause-read
 converted-returns-in-Err-clause-read t c =
     at_first (of expression ▸ sign_part CloseParenthesis) c.in-Err.ensures.read
@@ -125,18 +94,6 @@ dotted-returns-in-Err-arguments-clause-read t c =
 pub dotted-returns-in-Err-clause-read : goal.dotted-returns-in-Err-clause-read
 dotted-returns-in-Err-clause-read t c =
     at_first (optional (parentheses (optional (of arguments)))) c.in-Err.ensures.read
-
-pub enclosed-returns-in-Ok-sign-clause-read : goal.enclosed-returns-in-Ok-sign-clause-read
-enclosed-returns-in-Ok-sign-clause-read t c =
-    in_nesting c.in-Ok.ensures.opened (as_part c.in-Ok-level.ensures.read then c.in-Ok-sign.ensures.read)
-
-pub enclosed-returns-in-Err-sign-clause-read : goal.enclosed-returns-in-Err-sign-clause-read
-enclosed-returns-in-Err-sign-clause-read t c =
-    fault_in_nesting c.in-Ok.ensures.opened (behind (as_part c.in-Ok-level.ensures.read) c.in-Err-sign.ensures.read)
-
-pub enclosed-returns-in-Err-level-clause-read : goal.enclosed-returns-in-Err-level-clause-read
-enclosed-returns-in-Err-level-clause-read t c =
-    fault_in_nesting c.in-Ok.ensures.opened (at_first (sign_part c.args.closer) c.in-Err-level.ensures.read)
 
 pub enclosed-returns-in-Err-clause-read : goal.enclosed-returns-in-Err-clause-read
 enclosed-returns-in-Err-clause-read t c =
@@ -238,13 +195,9 @@ pub suffix-returns-then-is_sign-clause-read : goal.suffix-returns-then-is_sign-c
 suffix-returns-then-is_sign-clause-read t c =
     match_map c.dotted.result c.dotted.ensures.read (λ read is. of_alternative suffix 0 refl (sym c.if-is_sign.ensures) is) (λ fault is. in_alternative suffix 0 refl (sym c.if-is_sign.ensures) is)
 
-pub tested-returns-in-Ok-clause-read : goal.tested-returns-in-Ok-clause-read
-tested-returns-in-Ok-clause-read t c =
-    match_map c.enclosed.result c.enclosed.ensures.read (λ read is. c.in-Ok.ensures.read then is) (λ fault is. behind c.in-Ok.ensures.read is)
-
 pub tested-returns-in-Err-clause-read : goal.tested-returns-in-Err-clause-read
 tested-returns-in-Err-clause-read t c =
-    at_first (parentheses (of expression)) c.in-Err.ensures.read
+    c.in-Err.ensures.refused _
 
 pub unary-returns-then-not-is_name-clause-read : goal.unary-returns-then-not-is_name-clause-read
 unary-returns-then-not-is_name-clause-read t c =
@@ -300,11 +253,11 @@ suffix-returns-in-Err-clause-read t c =
 
 pub operands-more-init : goal.operands-more-init
 operands-more-init t c =
-    no_operand_yet c.args.room c.args.height c.args.tokens.now c.new-items.result.items c.new-items.ensures.items
+    no_operand_yet c.args.room c.args.height c.args.tokens.now c.new-items.result c.new-items.ensures
 
 pub operands-more-preserved : goal.operands-more-preserved
 operands-more-preserved t c =
-    one_operand c.more.items.items _ c.push.new.self.items c.in-Ok-push.ensures.items c.requires.within c.in-Some.ensures.operator c.in-Ok.ensures.read c.in-Ok.ensures.tight c.more.invariant
+    one_operand c.more.items _ c.push.new.self c.in-Ok-push.ensures.ok c.requires.within c.in-Some.ensures.operator c.in-Ok.ensures.read c.in-Ok.ensures.tight c.more.invariant
 
 pub operands-returns-in-Err-push-clause-read : goal.operands-returns-in-Err-push-clause-read
 operands-returns-in-Err-push-clause-read t c =
@@ -316,11 +269,11 @@ operands-returns-in-Err-clause-read t c =
 
 pub operands-returns-clause-read : goal.operands-returns-clause-read
 operands-returns-clause-read t c =
-    operands_end c.more.items.items c.in_default.ensures.operator c.more.invariant
+    operands_end c.more.items c.in_default.ensures.operator c.more.invariant
 
 pub operands-returns-clause-level : goal.operands-returns-clause-level
 operands-returns-clause-level t c =
-    operands_level c.more.items.items c.requires.begins c.in_default.ensures.operator c.more.invariant
+    operands_level c.more.items c.requires.begins c.in_default.ensures.operator c.more.invariant
 
 pub operation-returns-in_default-clause-read : goal.operation-returns-in_default-clause-read
 operation-returns-in_default-clause-read t c =
@@ -332,7 +285,7 @@ operation-operands-requires t c =
 
 pub operation-returns-in-Ok-operation-clause-read : goal.operation-returns-in-Ok-operation-clause-read
 operation-returns-in-Ok-operation-clause-read t c =
-    as_tree _ c.in-Ok-operation.ensures.spells (operation_read c.span.result c.args.first c.in-Ok.others.items c.requires.within c.span.ensures c.requires.first c.requires.tight c.in-Ok.ensures.level c.in-Ok.ensures.read)
+    as_tree _ c.in-Ok-operation.ensures.spells (operation_read c.span.result c.args.first c.in-Ok.others c.requires.within c.span.ensures c.requires.first c.requires.tight c.in-Ok.ensures.level c.in-Ok.ensures.read)
 
 pub operation-returns-in-Err-operation-clause-read : goal.operation-returns-in-Err-operation-clause-read
 operation-returns-in-Err-operation-clause-read t c =
@@ -356,27 +309,24 @@ operators-returns-clause-read t c =
 
 pub suffix_list-more-init : goal.suffix_list-more-init
 suffix_list-more-init t c =
-    some_begin suffix_parts c.args.room (of suffix) c.args.tokens.now c.new-items.result.items c.new-items.ensures.items
+    some_begin suffix_parts c.args.room (of suffix) c.args.tokens.now c.new-items.result c.new-items.ensures
 
 pub suffix_list-more-preserved : goal.suffix_list-more-preserved
 suffix_list-more-preserved t c =
-    some_more c.more.items.items _ c.push.new.self.items c.in-Ok-push.ensures.items (sym c.more-test.ensures) (as_part c.in-Ok.ensures.read) c.more.invariant
-
-pub suffix_list-returns-in-Err-push-clause-read : goal.suffix_list-returns-in-Err-push-clause-read
-suffix_list-returns-in-Err-push-clause-read t c =
-    no_memory
+    let a = c.in-Ok.ensures.added in
+    some_more c.more.items a.0 c.added.new.items a.1 (sym c.more-test.ensures) (as_part (of_read _ _ c.suffix.result c.suffix.ensures.read a.2)) c.more.invariant
 
 pub suffix_list-returns-in-Err-clause-read : goal.suffix_list-returns-in-Err-clause-read
 suffix_list-returns-in-Err-clause-read t c =
-    fault_in_one (sym c.more-test.ensures) c.in-Err.ensures.read c.more.invariant.read
+    fault_in_one (sym c.more-test.ensures) (c.in-Err.ensures.refused _ _ _ (on_fault _ _ c.suffix.result c.suffix.ensures.read)) c.more.invariant.read
 
 pub suffix_list-returns-clause-read : goal.suffix_list-returns-clause-read
 suffix_list-returns-clause-read t c =
-    suffixes_end c.more.items.items (sym c.more-test.ensures) c.more.invariant
+    suffixes_end c.more.items (sym c.more-test.ensures) c.more.invariant
 
 pub suffix_list-returns-clause-some : goal.suffix_list-returns-clause-some
 suffix_list-returns-clause-some t c =
-    are_some c.more.items.items (some_end (sign_kind Dot ∷ sign_kind OpenBracket ∷ []) c.more.items.items c.requires (sym c.more-test.ensures) c.more.invariant)
+    are_some c.more.items (some_end (sign_kind Dot ∷ sign_kind OpenBracket ∷ []) c.more.items c.requires (sym c.more-test.ensures) c.more.invariant)
 
 pub suffixes-returns-then-not-begins_suffix-clause-read : goal.suffixes-returns-then-not-begins_suffix-clause-read
 suffixes-returns-then-not-begins_suffix-clause-read t c =
@@ -384,8 +334,54 @@ suffixes-returns-then-not-begins_suffix-clause-read t c =
 
 pub suffixes-returns-in-Ok-postfix-clause-read : goal.suffixes-returns-in-Ok-postfix-clause-read
 suffixes-returns-in-Ok-postfix-clause-read t c =
-    as_tree _ c.in-Ok-postfix.ensures.spells (postfix_read c.span.result c.args.value c.in-Ok.suffixes.items c.span.ensures c.requires.value c.requires.tight c.in-Ok.ensures.some c.in-Ok.ensures.read)
+    as_tree _ c.in-Ok-postfix.ensures.spells (postfix_read c.span.result c.args.value c.in-Ok.suffixes c.span.ensures c.requires.value c.requires.tight c.in-Ok.ensures.some c.in-Ok.ensures.read)
 
 pub suffixes-returns-in-Err-postfix-clause-read : goal.suffixes-returns-in-Err-postfix-clause-read
 suffixes-returns-in-Err-postfix-clause-read t c =
     no_memory
+
+pub argument_list-commas-smaller : goal.argument_list-commas-smaller
+argument_list-commas-smaller t c =
+    of_value _ c.next_argument.result c.next_argument.ensures.shorter c.in-Ok-added.ensures.added.2
+
+pub argument_list-returns-in-Err-added : goal.argument_list-returns-in-Err-added
+argument_list-returns-in-Err-added t c =
+    fault_in_present (sym c.if-not-begins_expression.ensures) (in_alternative arguments 0 refl (sym c.if-not-begins_expression.ensures)
+    (fault_in_more more_items (λ row. row) (sym c.commas-test.ensures) (c.in-Err-added.ensures.refused _ _ _ (on_fault _ _ c.next_argument.result c.next_argument.ensures.read)) c.commas.invariant.leads))
+
+pub arguments-returns-in-Ok : goal.arguments-returns-in-Ok
+arguments-returns-in-Ok t c =
+    let read = c.ended.ensures.read (optional (of arguments)) args_parts c.in-Ok.inner.now (match_map c.argument_list.result c.argument_list.ensures (λ read is. as_part is) (λ fault is. is)) in
+    record {
+      read = nests ((optional (of arguments)) ▸ sign_part CloseParenthesis) (λ inside others. args_parts inside (sign CloseParenthesis others)) c.ended.result c.in-Ok.ensures.opened read;
+      shorter = fewer (c.args.room - 1) ((optional (of arguments)) ▸ sign_part CloseParenthesis) c.in-Ok.inner.now (λ inside others. args_parts inside (sign CloseParenthesis others)) c.ended.result c.in-Ok.ensures.shorter read;
+    }
+
+pub converted-returns-in-Ok : goal.converted-returns-in-Ok
+converted-returns-in-Ok t c =
+    let read = c.joined.ensures.read c.args.room cast_head (of expression) head_parts expr_parts c.args.tokens.now c.in-Ok.behind.now c.in-Ok.ensures.read
+    (match_map c.level.result c.level.ensures.read (λ read is. as_part is) (λ fault is. is)) in
+    record {
+      read = c.ended.ensures.read (cast_head ▸ of expression) (λ inside others. head_parts inside.0 (expr_parts inside.1 others)) c.args.tokens.now read;
+      shorter = c.ended.ensures.shorter _ (weaker _ c.joined.result (c.joined.ensures.shorter _ (fewer_still c.level.result c.in-Ok.ensures.shorter c.level.ensures.shorter)));
+    }
+
+pub enclosed-returns-in-Ok : goal.enclosed-returns-in-Ok
+enclosed-returns-in-Ok t c =
+    let read = c.ended.ensures.read (of expression) expr_parts c.in-Ok.behind.now (match_map c.level.result c.level.ensures.read (λ read is. as_part is) (λ fault is. is)) in
+    record {
+      read = nests ((of expression) ▸ sign_part c.args.closer) (λ inside others. expr_parts inside (sign c.args.closer others)) c.ended.result c.in-Ok.ensures.opened read;
+      shorter = fewer (c.args.room - 1) ((of expression) ▸ sign_part c.args.closer) c.in-Ok.behind.now (λ inside others. expr_parts inside (sign c.args.closer others)) c.ended.result c.in-Ok.ensures.shorter read;
+    }
+
+pub tested-returns-in-Ok : goal.tested-returns-in-Ok
+tested-returns-in-Ok t c =
+    let read = c.ended.ensures.read (of expression) expr_parts c.in-Ok.inside.now (match_map c.level.result c.level.ensures.read (λ read is. as_part is) (λ fault is. is)) in
+    record {
+      read = calls ((of expression) ▸ sign_part CloseParenthesis) (λ inside others. expr_parts inside (sign CloseParenthesis others)) c.ended.result c.in-Ok.ensures.called read;
+      shorter = fewer (c.args.room - 1) ((of expression) ▸ sign_part CloseParenthesis) c.in-Ok.inside.now (λ inside others. expr_parts inside (sign CloseParenthesis others)) c.ended.result c.in-Ok.ensures.shorter read;
+    }
+
+pub suffix_list-more-smaller : goal.suffix_list-more-smaller
+suffix_list-more-smaller t c =
+    of_value _ c.suffix.result c.suffix.ensures.shorter c.in-Ok.ensures.added.2

@@ -78,7 +78,7 @@ abbrev pub decreases-validity : goal.decreases-validity
 decreases-validity l = 16 * length l.tokens.now + 3
 
 abbrev pub invariant-argument_list-commas : goal.invariant-argument_list-commas
-invariant-argument_list-commas l = AreItems l.room l.tokens l.items.items l.left
+invariant-argument_list-commas l = AreItems l.room l.tokens l.items l.left
 
 abbrev pub decreases-argument_list-commas : goal.decreases-argument_list-commas
 decreases-argument_list-commas l = length l.left
@@ -90,13 +90,13 @@ abbrev pub decreases-operators-levels : goal.decreases-operators-levels
 decreases-operators-levels l = l.height - l.at
 
 abbrev pub invariant-operands-more : goal.invariant-operands-more
-invariant-operands-more l = AreOperands l.room l.height l.tokens l.items.items l.left
+invariant-operands-more l = AreOperands l.room l.height l.tokens l.items l.left
 
 abbrev pub decreases-operands-more : goal.decreases-operands-more
 decreases-operands-more l = length l.left
 
 abbrev pub invariant-suffix_list-more : goal.invariant-suffix_list-more
-invariant-suffix_list-more l = AreSome suffix_parts l.room (of suffix) l.tokens l.items.items l.left
+invariant-suffix_list-more l = AreSome suffix_parts l.room (of suffix) l.tokens l.items l.left
 
 abbrev pub decreases-suffix_list-more : goal.decreases-suffix_list-more
 decreases-suffix_list-more l = length l.left

@@ -1,13 +1,6 @@
-use Rattle.slicc_grammar.specs.Parts.{name}
-use Rattle.slicc_reading.proofs.Parts.{◌then◌, as_node_behind, as_part, at_first, behind}
+use Rattle.slicc_reading.proofs.Parts.{as_node_behind}
 use Rattle.slicc_expr.proofs.expressions.member.Goals as goal
 
-pub returns-in-Ok-name-clause-read : goal.returns-in-Ok-name-clause-read
-returns-in-Ok-name-clause-read c =
-    as_node_behind c.span-span.result c.span-span.ensures c.requires (c.in-Ok.ensures.read then as_part c.in-Ok-name.ensures.read)
-
-pub returns-in-Err-name-clause-read : goal.returns-in-Err-name-clause-read
-returns-in-Err-name-clause-read c = behind c.in-Ok.ensures.read c.in-Err-name.ensures.read
-
-pub returns-in-Err-clause-read : goal.returns-in-Err-clause-read
-returns-in-Err-clause-read c = at_first name c.in-Err.ensures.read
+pub returns-in-Ok-clause-read : goal.returns-in-Ok-clause-read
+returns-in-Ok-clause-read c =
+    as_node_behind c.span-span.result c.span-span.ensures c.requires c.in-Ok.ensures.read

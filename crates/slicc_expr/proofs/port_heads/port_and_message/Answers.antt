@@ -1,15 +1,15 @@
-use Rattle.slicc_grammar.specs.Parts.{type}
-use Rattle.slicc_reading.proofs.Parts.{◌then◌, as_part, at_first, behind}
+use Rattle.slicc_ast.specs.Names.{name as name_parts, sign as sign_of, type_name}
+use Rattle.slicc_ast.specs.declared.tree.token.Sign.TheVariants.{Comma}
+use Rattle.slicc_grammar.specs.Parts.{name, type}
+use Rattle.slicc_reading.proofs.Parts.{as_part, at_first, match_map}
 use Rattle.slicc_expr.proofs.port_heads.port_and_message.Goals as goal
 
-pub returns-in-Ok-type_name : goal.returns-in-Ok-type_name
-returns-in-Ok-type_name c =
-    c.in-Ok.ensures then as_part c.in-Ok-type_name.ensures.read
-
-pub returns-in-Err-type_name : goal.returns-in-Err-type_name
-returns-in-Err-type_name c =
-    behind c.in-Ok.ensures c.in-Err-type_name.ensures.read
+pub returns-in-Ok : goal.returns-in-Ok
+returns-in-Ok c =
+    c.joined.ensures.read c.args.room _ type (λ port others. name_parts port (sign_of Comma others)) type_name _ _
+    (c.in-Ok.ensures.read name name_parts _ (match_map c.name.result c.name.ensures.read (λ read is. as_part is) (λ fault is. is)))
+    (match_map c.type_name.result c.type_name.ensures.read (λ read is. as_part is) (λ fault is. is))
 
 pub returns-in-Err : goal.returns-in-Err
 returns-in-Err c =
-    at_first type c.in-Err.ensures
+    at_first type (c.in-Err.ensures.read name name_parts _ (match_map c.name.result c.name.ensures.read (λ read is. as_part is) (λ fault is. is)))

@@ -1,12 +1,13 @@
 use Rattle.std.proofs.Common.{sym}
 use Rattle.grammar_rows.specs.Grammar.Row.{done}
 use Rattle.slicc_reading.proofs.Choices.{absent, fault_in_present, present}
-use Rattle.slicc_expr.specs.StatementParts.{comma_value}
+use Rattle.slicc_ast.specs.declared.tree.token.Sign.TheVariants.{Comma}
+use Rattle.slicc_expr.specs.StatementParts.{value_after}
 use Rattle.slicc_expr.proofs.statement_values.latency.Goals as goal
 
 pub returns-then-not-is_sign : goal.returns-then-not-is_sign
 returns-then-not-is_sign c =
-    absent (comma_value done) (sym c.if-not-is_sign.ensures)
+    absent (value_after Comma done) (sym c.if-not-is_sign.ensures)
 
 pub returns-in-Ok : goal.returns-in-Ok
 returns-in-Ok c =

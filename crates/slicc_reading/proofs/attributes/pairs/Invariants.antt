@@ -3,7 +3,7 @@ use Rattle.slicc_reading.proofs.PairLists.{ArePairs}
 use Rattle.slicc_reading.proofs.attributes.pairs.Given as goal
 
 abbrev pub invariant-commas : goal.invariant-commas
-invariant-commas l = ArePairs l.room l.tokens l.items.items l.left
+invariant-commas l = ArePairs l.room l.tokens l.items l.left
 
 abbrev pub decreases-commas : goal.decreases-commas
 decreases-commas l = length l.left

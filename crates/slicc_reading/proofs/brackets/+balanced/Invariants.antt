@@ -25,7 +25,7 @@ abbrev pub decreases-next_part : goal.decreases-next_part
 decreases-next_part l = 4 * length l.tokens.now + 2
 
 abbrev pub invariant-balanced-parts : goal.invariant-balanced-parts
-invariant-balanced-parts l = AreRepeated balanced_part l.room (of Form.balanced_part) l.tokens l.tokens l.parts.items l.left
+invariant-balanced-parts l = AreRepeated balanced_part l.room (of Form.balanced_part) l.tokens l.tokens l.parts l.left
 
 abbrev pub decreases-balanced-parts : goal.decreases-balanced-parts
 decreases-balanced-parts l = length l.left

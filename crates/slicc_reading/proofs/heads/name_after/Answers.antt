@@ -1,6 +1,6 @@
 use Rattle.slicc_grammar.specs.Parts.{name}
 use Rattle.slicc_reading.proofs.Parts.{◌then◌, as_part, at_first, behind, match_map}
-use Rattle.slicc_decl.proofs.name_sets.next_name.Goals as goal
+use Rattle.slicc_reading.proofs.heads.name_after.Goals as goal
 
 pub returns-in-Ok-clause-read : goal.returns-in-Ok-clause-read
 returns-in-Ok-clause-read c =

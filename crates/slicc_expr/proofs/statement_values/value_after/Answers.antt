@@ -1,7 +1,7 @@
 use Rattle.slicc_grammar.specs.Form.{Form}
 use Rattle.slicc_grammar.specs.Parts.{of}
 use Rattle.slicc_reading.proofs.Parts.{◌then◌, as_part, at_first, behind, match_map}
-use Rattle.slicc_expr.proofs.statement_values.assigned_value.Goals as goal
+use Rattle.slicc_expr.proofs.statement_values.value_after.Goals as goal
 
 pub returns-in-Ok : goal.returns-in-Ok
 returns-in-Ok c =
