@@ -11,7 +11,7 @@ use crate::waking::WORKER;
 use ruby_base::Seq;
 use ruby_options::Options;
 use ruby_value::NoMemory;
-use run_journal::{Account, Tally, finals};
+use run_journal::{Account, Tally};
 use run_record::RunRecord;
 use sequencer::Driver;
 use std::alloc::Global;
@@ -66,8 +66,7 @@ pub fn into_record<D: Driver>(
     ended.law();
     let sums = sums(alloc, &ended)?;
     let verdict = ended.ending();
-    let (plan, topology, history, journal) = ended.into_parts();
-    let finals = finals(alloc, &journal)?;
+    let (plan, topology, history, journal, finals) = ended.into_parts(alloc)?;
     Ok(RunRecord {
         plan,
         topology,

@@ -7,12 +7,9 @@ ghost use Rattle.world_events.specs.Worlds.{InWorld, rules_in};
 
 use crate::accounting::account;
 use crate::world::World;
-use ruby_base::Seq;
-use ruby_topology::Topology;
 use ruby_value::NoMemory;
-use run_journal::{Account, Entry, Event, Tally, Verdict, tally_of};
+use run_journal::{Account, Tally, Verdict, tally_of};
 use sequencer::Driver;
-use slicc_plan::Plan;
 
 impl<D: Driver> World<D> {
     /// How many events of each kind the worker has in the history.
@@ -41,22 +38,5 @@ impl<D: Driver> World<D> {
             unreachable!()
         };
         *verdict
-    }
-
-    /// The protocol, the topology, what has happened and the entries of that. It takes no memory.
-    pub fn into_parts(self) -> (Plan, Topology, Seq<Event>, Seq<Entry>)
-        ensures plan { result.0 ≡ self.trees }
-        ensures topology { result.1 ≡ self.topology }
-        ensures history { result.2 ≡ self.history }
-        ensures journal { result.3 ≡ self.journal }
-    {
-        let World {
-            plan,
-            topology,
-            state,
-            ..
-        } = self;
-        let (history, journal) = state.book.into_parts();
-        (plan, topology, history, journal)
     }
 }

@@ -14,7 +14,6 @@ use ruby_value::NoMemory;
 use run_journal::{End, Verdict};
 use sequencer::Driver;
 use std::alloc::Global;
-use world_places::Kept;
 use world_state::copies_can_arrive;
 use world_turns::turn;
 
@@ -101,21 +100,17 @@ impl<D: Driver> World<D> {
         ensures err_held { IfErr result (λ e. IsSameHeld held e.1) }
         ensures err_end { IfErr result (λ e. e.2 ≡ end) }
     {
-        let Held {
-            controller,
-            machine,
-            cycle,
-            seed,
-            limit,
-            fired,
-            stalled,
-            store,
-            routes,
-        } = held;
         meanings_are_lawful();
         settings_are_lawful::<D>();
         controllers_fit::<D>();
-        let kept = Kept { store, routes };
+        let controller = held.controller;
+        let machine = held.machine;
+        let cycle = held.cycle;
+        let seed = held.seed;
+        let limit = held.limit;
+        let fired = held.fired;
+        let stalled = held.stalled;
+        let kept = held.into_kept();
         match self.state.finish(worker, controller, kept, stalled, end) {
             Ok(place) => Ok(place),
             Err((e, kept, end)) => Err((
@@ -144,14 +139,8 @@ impl<D: Driver> World<D> {
         ensures nobody { InWorld D.drive self.new (IsNobodyHeld D.drive self.new) }
         ensures goes_on { InWorld D.drive self.new (λ w. w.verdict ≡ None) }
     {
-        let Held {
-            controller,
-            store,
-            routes,
-            ..
-        } = held;
-        self.state
-            .release(worker, controller, Kept { store, routes });
+        let controller = held.controller;
+        self.state.release(worker, controller, held.into_kept());
     }
 
     /// A turn of a world in which nobody is held and no controller is due: the run ends with the verdict that is answered, or goes on.

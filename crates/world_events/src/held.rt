@@ -1,10 +1,11 @@
 ghost use Rattle.std.specs.Prelude.{◌≡◌};
+ghost use Rattle.world_events.specs.Held.{kept_in};
 
 use ctl_face::Routes;
 use ctl_store::Store;
+use world_places::Kept;
 
 /// A controller that a worker holds: its store, and what a scan of it goes by.
-#[derive(Drop)]
 pub struct Held {
     /// The controller's number.
     pub controller: u32,
@@ -24,7 +25,42 @@ pub struct Held {
     pub routes: Routes,
 }
 
+// It is written out, as that of a world is.
+impl Drop for Held {
+    fn drop(self) {
+        let Held {
+            controller: _,
+            machine: _,
+            cycle: _,
+            seed: _,
+            limit: _,
+            fired: _,
+            stalled: _,
+            store: _,
+            routes: _,
+        } = self;
+    }
+}
+
 impl Held {
+    // What goes back to the world.
+    pub(crate) fn into_kept(self) -> Kept
+        ensures { result ≡ kept_in self }
+    {
+        let Held {
+            controller: _,
+            machine: _,
+            cycle: _,
+            seed: _,
+            limit: _,
+            fired: _,
+            stalled: _,
+            store,
+            routes,
+        } = self;
+        Kept { store, routes }
+    }
+
     /// Keeps whether the last scan stalled a transition.
     pub fn rest(&mut self, stalled: bool)
         ensures { self.new ≡ record self.old { stalled = stalled } }

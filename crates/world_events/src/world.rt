@@ -1,20 +1,24 @@
 //! A world, and what is read off it.
-ghost use Rattle.std.specs.Prelude.{◌≡◌, ◌≤◌, length, position};
+ghost use Rattle.std.specs.Prelude.{◌≡◌, ◌≤◌, IfOk, length, position};
 ghost use Rattle.std.specs.List.{list_any};
 ghost use Rattle.std.specs.Option.{option_copied};
 ghost use Rattle.ruby_runs.specs.World.{World as WorldRecord, is_free, is_held};
 ghost use Rattle.ctl_face.specs.Ctl.{Ctl};
 ghost use Rattle.ctl_face.specs.Fits.{last_cycle};
+ghost use Rattle.run_journal.specs.AreFinals.{AreFinals};
 ghost use Rattle.topology_fit.specs.FitsPlan.{FitsPlan};
 ghost use Rattle.world_events.specs.Worlds.{InWorld, IsWorldOf, is_free_at as is_free_in, rules_in};
 
 use crate::limits::RunLimits;
 use protocol_meaning::{meanings_are_lawful, settings_are_lawful};
 use protocol_runs::controllers_fit;
+use ruby_base::Seq;
 use ruby_topology::Topology;
-use run_journal::{Entry, Event, Verdict};
+use ruby_value::NoMemory;
+use run_journal::{Entry, Event, Final, Verdict, finals};
 use sequencer::Driver;
 use slicc_plan::Plan;
+use std::alloc::Global;
 use std::marker::Model;
 use world_places::{any_held, first_free, is_free_at};
 use world_seats::SeatAt;
@@ -22,7 +26,6 @@ use world_state::State;
 
 /// All controllers of a protocol over a topology, with a driver, as a run has led them here. A contract sees what the run began with, and
 /// its history and journal: these lead to one world, which always is one of a run. One controller at most is held at a time.
-#[derive(Drop)]
 pub struct World<D: Driver> {
     pub(crate) plan: Plan,
     pub(crate) topology: Topology,
@@ -44,6 +47,19 @@ impl<D: Driver> Model for World<D> {
 
     ghost invariant = { λ w. IsData D.least D.drive
         (view_of D.opening w.plan w.topology w.limits w.state) w.seats.items w.state };
+}
+
+// It is written out, since each crate that lets a world go would prove a derived one anew, down to the trees.
+impl<D: Driver> Drop for World<D> {
+    fn drop(self) {
+        let World {
+            plan: _,
+            topology: _,
+            limits: _,
+            seats: _,
+            state: _,
+        } = self;
+    }
 }
 
 impl<D: Driver> World<D> {
@@ -70,20 +86,6 @@ impl<D: Driver> World<D> {
         ensures { result.now ≡ self.now.topology }
     {
         &self.topology
-    }
-
-    /// What has happened so far.
-    pub fn history(&self) -> &[Event]
-        ensures { result.now ≡ self.now.history }
-    {
-        self.state.book.history()
-    }
-
-    /// The entries of what has happened so far.
-    pub fn journal(&self) -> &[Entry]
-        ensures { result.now ≡ self.now.journal }
-    {
-        self.state.book.journal()
     }
 
     /// The least controller that is due and not held, or `None` exactly where there is none.
@@ -116,5 +118,28 @@ impl<D: Driver> World<D> {
         ensures { InWorld D.drive self.now (λ w. option_copied result ≡ w.verdict) }
     {
         self.state.verdict.as_ref()
+    }
+
+    /// The protocol, the topology, what has happened, the entries of that and their final states.
+    pub fn into_parts(
+        self,
+        alloc: Global,
+    ) -> Result<(Plan, Topology, Seq<Event>, Seq<Entry>, Seq<Final>), NoMemory>
+        ensures plan { IfOk result (λ p. p.0 ≡ self.trees) }
+        ensures topology { IfOk result (λ p. p.1 ≡ self.topology) }
+        ensures history { IfOk result (λ p. p.2 ≡ self.history) }
+        ensures journal { IfOk result (λ p. p.3 ≡ self.journal) }
+        ensures finals { IfOk result (λ p. AreFinals p.3 p.4) }
+    {
+        let World {
+            plan,
+            topology,
+            limits: _,
+            seats: _,
+            state,
+        } = self;
+        let (history, journal) = state.book.into_parts();
+        let finals = finals(alloc, &journal)?;
+        Ok((plan, topology, history, journal, finals))
     }
 }

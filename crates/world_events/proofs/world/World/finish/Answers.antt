@@ -1,6 +1,7 @@
-use Rattle.std.proofs.Common.{arith, refl}
+use Rattle.std.proofs.Common.{ap, arith, refl}
 use Rattle.protocol_meaning.specs.Meaning.{meaning_of}
 use Rattle.protocol_meaning.specs.Setting.{setting_of}
+use Rattle.world_places.specs.Places.{Made}
 use Rattle.world_events.proofs.Stays.{same-facts}
 use Rattle.world_events.proofs.Steps.{back-there, early, finish-facts, finish-goes, finish-nobody}
 use Rattle.world_events.proofs.world.World.finish.Goals.{in-Ok, in-Err}
@@ -32,7 +33,7 @@ invariant_of-self g c =
     let is_end = rw (← c.self.view_is) at c.requires.ended in
     let new = c.finish.new.self in
     elim c.match-finish.branch [
-      | in-Ok w ↦ finish-facts g.D.Driver.least g.D.Driver.drive g.D.Driver.opening i.plan i.topology i.limits i.seats.items i.state new c.args.worker c.args.held facts holds c.finish.ensures.cycle c.args.end is_end w.in-Ok.ensures.places w.in-Ok.ensures.writes
+      | in-Ok w ↦ finish-facts g.D.Driver.least g.D.Driver.drive g.D.Driver.opening i.plan i.topology i.limits i.seats.items i.state new c.args.worker c.args.held facts holds c.finish.ensures.cycle c.args.end is_end (rw c.into_kept-kept.ensures at w.in-Ok.ensures.places) w.in-Ok.ensures.writes
       | in-Err w ↦ same-facts g.D.Driver.least g.D.Driver.drive g.D.Driver.opening i.plan i.topology i.limits i.seats.items i.state new w.in-Err.ensures.err facts
     ]
 
@@ -44,7 +45,7 @@ returns-clause-nobody g c =
     let is_end = rw (← c.self.view_is) at c.requires.ended in
     let new = c.finish.new.self in
     elim c.match-finish.branch [
-      | in-Ok w ↦ rw w.result-is (finish-nobody g.D.Driver.least g.D.Driver.drive g.D.Driver.opening i.plan i.topology i.limits i.seats.items i.state new c.args.worker c.args.held facts holds c.finish.ensures.cycle c.args.end is_end w.in-Ok.ensures.places w.in-Ok.ensures.writes)
+      | in-Ok w ↦ rw w.result-is (finish-nobody g.D.Driver.least g.D.Driver.drive g.D.Driver.opening i.plan i.topology i.limits i.seats.items i.state new c.args.worker c.args.held facts holds c.finish.ensures.cycle c.args.end is_end (rw c.into_kept-kept.ensures at w.in-Ok.ensures.places) w.in-Ok.ensures.writes)
       | in-Err w ↦ rw w.result-is tt
     ]
 
@@ -56,6 +57,27 @@ returns-clause-goes_on g c =
     let is_end = rw (← c.self.view_is) at c.requires.ended in
     let new = c.finish.new.self in
     elim c.match-finish.branch [
-      | in-Ok w ↦ rw w.result-is (finish-goes g.D.Driver.least g.D.Driver.drive g.D.Driver.opening i.plan i.topology i.limits i.seats.items i.state new c.args.worker c.args.held facts holds c.finish.ensures.cycle c.args.end is_end w.in-Ok.ensures.places w.in-Ok.ensures.writes)
+      | in-Ok w ↦ rw w.result-is (finish-goes g.D.Driver.least g.D.Driver.drive g.D.Driver.opening i.plan i.topology i.limits i.seats.items i.state new c.args.worker c.args.held facts holds c.finish.ensures.cycle c.args.end is_end (rw c.into_kept-kept.ensures at w.in-Ok.ensures.places) w.in-Ok.ensures.writes)
       | in-Err w ↦ rw w.result-is tt
+    ]
+
+pub returns-clause-err_held : goal.returns-clause-err_held
+returns-clause-err_held g c =
+    elim c.match-finish.branch [
+      | in-Ok w ↦ rw w.result-is tt
+      | in-Err w ↦
+          let ctl = rw c.into_kept-kept.ensures at w.in-Err.ensures.ctl in
+          let made = rw c.into_kept-kept.ensures at w.in-Err.ensures.made in
+          rw w.result-is (record {
+            controller = refl;
+            machine = refl;
+            cycle = refl;
+            seed = refl;
+            limit = refl;
+            fired = refl;
+            stalled = refl;
+            ctl = ctl;
+            store = record { machine = ap (λ (m : Made). m.machine) made; me = ap (λ (m : Made). m.me) made };
+            routes = ap (λ (m : Made). m.routes) made;
+          })
     ]

@@ -21,7 +21,7 @@ invariant_of-self g c =
     let facts = c.self.invariant in
     let holds = rw (← c.self.view_is) at c.requires in
     let new = c.release.new.self in
-    release-facts g.D.Driver.least g.D.Driver.drive g.D.Driver.opening w.plan w.topology w.limits w.seats.items w.state new c.args.worker c.args.held facts holds c.release.ensures.cycle c.release.ensures.places c.release.ensures.writes
+    release-facts g.D.Driver.least g.D.Driver.drive g.D.Driver.opening w.plan w.topology w.limits w.seats.items w.state new c.args.worker c.args.held facts holds c.release.ensures.cycle (rw c.into_kept.ensures at c.release.ensures.places) c.release.ensures.writes
 
 pub returns-clause-added : goal.returns-clause-added
 returns-clause-added g c =
@@ -29,7 +29,7 @@ returns-clause-added g c =
     let facts = c.self.invariant in
     let holds = rw (← c.self.view_is) at c.requires in
     let new = c.release.new.self in
-    rw (← c.self.view_is) (release-added g.D.Driver.least g.D.Driver.drive g.D.Driver.opening w.plan w.topology w.limits w.seats.items w.state new c.args.worker c.args.held facts holds c.release.ensures.cycle c.release.ensures.places c.release.ensures.writes)
+    rw (← c.self.view_is) (release-added g.D.Driver.least g.D.Driver.drive g.D.Driver.opening w.plan w.topology w.limits w.seats.items w.state new c.args.worker c.args.held facts holds c.release.ensures.cycle (rw c.into_kept.ensures at c.release.ensures.places) c.release.ensures.writes)
 
 pub returns-clause-nobody : goal.returns-clause-nobody
 returns-clause-nobody g c =
@@ -37,7 +37,7 @@ returns-clause-nobody g c =
     let facts = c.self.invariant in
     let holds = rw (← c.self.view_is) at c.requires in
     let new = c.release.new.self in
-    release-nobody g.D.Driver.least g.D.Driver.drive g.D.Driver.opening w.plan w.topology w.limits w.seats.items w.state new c.args.worker c.args.held facts holds c.release.ensures.cycle c.release.ensures.places c.release.ensures.writes
+    release-nobody g.D.Driver.least g.D.Driver.drive g.D.Driver.opening w.plan w.topology w.limits w.seats.items w.state new c.args.worker c.args.held facts holds c.release.ensures.cycle (rw c.into_kept.ensures at c.release.ensures.places) c.release.ensures.writes
 
 pub returns-clause-goes_on : goal.returns-clause-goes_on
 returns-clause-goes_on g c =
@@ -45,7 +45,7 @@ returns-clause-goes_on g c =
     let facts = c.self.invariant in
     let holds = rw (← c.self.view_is) at c.requires in
     let new = c.release.new.self in
-    release-goes g.D.Driver.least g.D.Driver.drive g.D.Driver.opening w.plan w.topology w.limits w.seats.items w.state new c.args.worker c.args.held facts holds c.release.ensures.cycle c.release.ensures.places c.release.ensures.writes
+    release-goes g.D.Driver.least g.D.Driver.drive g.D.Driver.opening w.plan w.topology w.limits w.seats.items w.state new c.args.worker c.args.held facts holds c.release.ensures.cycle (rw c.into_kept.ensures at c.release.ensures.places) c.release.ensures.writes
 
 pub returns-clause-journal : goal.returns-clause-journal
 returns-clause-journal g c =
@@ -53,4 +53,4 @@ returns-clause-journal g c =
     let facts = c.self.invariant in
     let holds = rw (← c.self.view_is) at c.requires in
     let new = c.release.new.self in
-    rw (← c.self.view_is) (release-journal g.D.Driver.least g.D.Driver.drive g.D.Driver.opening w.plan w.topology w.limits w.seats.items w.state new c.args.worker c.args.held facts holds c.release.ensures.cycle c.release.ensures.places c.release.ensures.writes)
+    rw (← c.self.view_is) (release-journal g.D.Driver.least g.D.Driver.drive g.D.Driver.opening w.plan w.topology w.limits w.seats.items w.state new c.args.worker c.args.held facts holds c.release.ensures.cycle (rw c.into_kept.ensures at c.release.ensures.places) c.release.ensures.writes)
