@@ -5,6 +5,7 @@
 #![tactic(auto)]
 
 mod calls;
+mod lists;
 mod pairs;
 mod protocols;
 mod symbols;

@@ -1,26 +1,31 @@
 // The symbols of protocols, so that the files in the folder `symbols` and what is written of them are rows of a table: each says what a
 // protocol declares, by its names and numbers. What is expected was worked out by hand.
+mod list;
 mod machines;
-mod parts;
 mod types;
 
 use crate::protocols::plan_in;
-use machines::add_machines;
+use list::add_list;
 use row_text::RowText;
 use ruby_outside::Library;
+use ruby_symbols::Symbols;
 use sample_stores::let_go;
-use types::add_types;
 
 // The protocols, in the folder `symbols`.
 const FILES: &[&str] = &["tick.sm", "msi.sm", "tables.sm", "values.sm", "shared.sm"];
+
+fn add_symbols(rows: &mut RowText, symbols: &Symbols) {
+    add_list(rows, "enumeration ", symbols.enumerations.as_slice());
+    add_list(rows, "structure ", symbols.structures.as_slice());
+    add_list(rows, "machine ", symbols.machines.as_slice());
+}
 
 fn add_file<L: Library>(rows: &mut RowText, library: &mut L, file: &str) {
     rows.show("== ", &file);
     rows.add("\n");
     match plan_in(rows, library, "symbols", file) {
         Some(plan) => {
-            add_types(rows, plan.symbols());
-            add_machines(rows, plan.symbols());
+            add_symbols(rows, plan.symbols());
             let_go(plan);
         }
         None => rows.add("no plan\n"),

@@ -22,4 +22,5 @@ pub(crate) fn add<L: Library>(rows: &mut RowText, library: &mut L) {
         Ok(list) => add_rows(rows, library, list),
         Err(_) => rows.lose(),
     }
+    drop(list);
 }

@@ -1,6 +1,8 @@
 // Calls over libraries and sinks in memory: those that fail where a line says so, those that never fail, and calls with long texts. They are
 // the rows of a list, and of each are printed a line `== LINE`, what the sink then holds, the status, and whether a record is kept.
-use crate::row::row_of;
+use crate::row::{add, row_of};
+use crate::table::end_of;
+use row_text::RowText;
 use ruby_base::{NoMemory, Seq, Text};
 use ruby_cli::ruby;
 use ruby_outside::{Got, Library, MemLibrary, MemSink, OpenGate, Sink, SureLibrary, SureSink};
@@ -45,40 +47,26 @@ fn last_lines(text: &[u8], count: u64) -> &[u8] {
     text
 }
 
-// Adds spaces to a text that is shorter than so many bytes.
-fn pad(alloc: Global, text: &mut Text, length: usize) -> Result<(), NoMemory> {
-    let spaces = vec![in alloc; b' '; length.saturating_sub(text.len())]?;
-    text.append(&spaces)
-}
-
 // Adds so many lines, each with a number from 0 on between these.
-fn add_lines(
-    alloc: Global,
-    text: &mut Text,
-    before: &str,
-    after: &str,
-    count: u64,
-) -> Result<(), NoMemory> {
+fn add_lines(made: &mut RowText, before: &str, after: &str, count: u64) {
     for number in 0..count {
-        let line = format!(in alloc; "{before}{number}{after}\n")?;
-        text.append(line.as_bytes())?;
+        made.show(before, &number);
+        made.add(after);
+        made.add("\n");
     }
-    Ok(())
 }
 
-// A text in which a line with an `@` is there so many times, with the numbers from 0 in place of that.
-fn repeated(alloc: Global, text: &[u8], count: u64) -> Result<Text, NoMemory> {
-    let mut all = Text::new(alloc);
+// Adds a text in which a line with an `@` is there so many times, with the numbers from 0 in place of that.
+fn add_repeated(made: &mut RowText, text: &[u8], count: u64) {
     for line in str::from_utf8(text).unwrap_or("").lines() {
         match line.split_once('@') {
-            Some((before, after)) => add_lines(alloc, &mut all, before, after, count)?,
+            Some((before, after)) => add_lines(made, before, after, count),
             None => {
-                all.append(line.as_bytes())?;
-                all.append(b"\n")?;
+                made.add(line);
+                made.add("\n");
             }
         }
     }
-    Ok(all)
 }
 
 // A file of a list: its name, and what is made of it.
@@ -107,12 +95,23 @@ fn file_of(word: &str) -> File<'_> {
     }
 }
 
-fn made_of(alloc: Global, mut bytes: Text, file: &File<'_>) -> Result<Text, NoMemory> {
+// What is made of a file's text.
+fn made_of(alloc: Global, text: &[u8], file: &File<'_>) -> RowText {
+    let mut made = RowText::new(alloc);
     if file.count > 0 {
-        return repeated(alloc, bytes.as_slice(), file.count);
+        add_repeated(&mut made, text, file.count);
+    } else {
+        made.add_bytes(text);
+        for _ in text.len()..file.length {
+            made.add(" ");
+        }
     }
-    pad(alloc, &mut bytes, file.length)?;
-    Ok(bytes)
+    made
+}
+
+fn named(alloc: Global, name: &str, text: &[u8]) -> Result<(Text, Text), NoMemory> {
+    let name = Text::copied(alloc, name.as_bytes())?;
+    Ok((name, Text::copied(alloc, text)?))
 }
 
 // Adds a file that is there.
@@ -122,27 +121,30 @@ fn add_file<L: Library>(
     file: &File<'_>,
     files: &mut Seq<(Text, Text)>,
 ) -> Result<(), NoMemory> {
-    let Got::Bytes(bytes) = library.read(file.name, LIMIT) else {
+    let Got::Bytes(text) = library.read(file.name, LIMIT) else {
         return Ok(());
     };
-    let name = Text::copied(alloc, file.name.as_bytes())?;
-    files.push((name, made_of(alloc, bytes, file)?))
+    let made = made_of(alloc, &text, file);
+    let named = named(alloc, file.name, made.bytes());
+    drop(made);
+    drop(text);
+    files.push(named?)
 }
 
-// The files of a list, with commas between them.
-fn files_of<L: Library>(
+// Adds the files of a list, with commas between them.
+fn add_files<L: Library>(
     alloc: Global,
     library: &mut L,
     list: &str,
-) -> Result<Seq<(Text, Text)>, NoMemory> {
-    let mut files = Seq::new(alloc);
+    files: &mut Seq<(Text, Text)>,
+) -> Result<(), NoMemory> {
     for word in list.split(',') {
-        add_file(alloc, library, &file_of(word), &mut files)?;
+        add_file(alloc, library, &file_of(word), files)?;
     }
-    Ok(files)
+    Ok(())
 }
 
-// The status of a call, and whether a record is kept.
+// Makes a call, and answers its status and whether a record is kept.
 fn made<R: Threads + Wait + Sync, L: Library, S: Sink>(
     rt: &R,
     alloc: Global,
@@ -150,59 +152,78 @@ fn made<R: Threads + Wait + Sync, L: Library, S: Sink>(
     library: &mut L,
     sink: &mut S,
 ) -> (u8, bool) {
-    let done = ruby(rt, alloc, call, library, sink, &OpenGate);
-    let answer = (done.status, done.kept.is_some());
-    drop(done);
-    answer
+    end_of(ruby(rt, alloc, call, library, sink, &OpenGate))
 }
 
-// The row of a call that is made.
-fn row_of_made(alloc: Global, line: &str, text: &[u8], made: (u8, bool)) -> Result<Text, NoMemory> {
+// Adds the row of a call that was made.
+fn add_made(rows: &mut RowText, line: &str, text: &[u8], made: (u8, bool)) {
     let (status, kept) = made;
-    let last = if kept {
+    add(rows, row_of(rows.alloc(), line, text, status));
+    rows.add(if kept {
         "a record is kept\n"
     } else {
         "no record is kept\n"
-    };
-    let mut row = row_of(alloc, line, text, status)?;
-    row.append(last.as_bytes())?;
-    Ok(row)
+    });
 }
 
-fn one(alloc: Global, number: u64) -> Result<Seq<u64>, NoMemory> {
-    Seq::copied(alloc, &[number])
+fn sink_of(alloc: Global, planned: &Planned) -> Result<MemSink, NoMemory> {
+    let fails = Seq::copied(alloc, &[planned.write])?;
+    MemSink::new(alloc, fails, planned.most, planned.room)
 }
 
-// The row of a call over a library and a sink with planned faults.
-fn planned_row<R: Threads + Wait + Sync>(
+// Adds the row of a call over a library and a sink with planned faults.
+fn add_by<R: Threads + Wait + Sync>(
     rt: &R,
-    alloc: Global,
+    rows: &mut RowText,
     line: &str,
-    planned: Planned,
+    planned: &Planned,
+    library: &mut MemLibrary,
+    call: &[String],
+) {
+    match sink_of(rows.alloc(), planned) {
+        Ok(mut sink) => {
+            let made = made(rt, rows.alloc(), call, library, &mut sink);
+            add_made(rows, line, last_lines(sink.bytes(), planned.lines), made);
+            drop(sink);
+        }
+        Err(NoMemory) => rows.lose(),
+    }
+}
+
+// The same, over a library with these files.
+fn add_planned<R: Threads + Wait + Sync>(
+    rt: &R,
+    rows: &mut RowText,
+    line: &str,
+    planned: &Planned,
     files: Seq<(Text, Text)>,
     call: &[String],
-) -> Result<Text, NoMemory> {
-    let mut library = MemLibrary::new(alloc, files, one(alloc, planned.read)?);
-    let fails = one(alloc, planned.write)?;
-    let mut sink = MemSink::new(alloc, fails, planned.most, planned.room)?;
-    let made = made(rt, alloc, call, &mut library, &mut sink);
-    drop(library);
-    let text = last_lines(sink.bytes(), planned.lines);
-    row_of_made(alloc, line, text, made)
+) {
+    match Seq::copied(rows.alloc(), &[planned.read]) {
+        Ok(reads) => {
+            let mut library = MemLibrary::new(rows.alloc(), files, reads);
+            add_by(rt, rows, line, planned, &mut library, call);
+            drop(library);
+        }
+        Err(NoMemory) => {
+            drop(files);
+            rows.lose();
+        }
+    }
 }
 
-// The row of a call over a library and a sink that never fail. Such a sink tells nothing of what it takes.
-fn sure_row<R: Threads + Wait + Sync>(
+// Adds the row of a call over a library and a sink that never fail. Such a sink tells nothing of what it takes.
+fn add_sure<R: Threads + Wait + Sync>(
     rt: &R,
-    alloc: Global,
+    rows: &mut RowText,
     line: &str,
     files: Seq<(Text, Text)>,
     call: &[String],
-) -> Result<Text, NoMemory> {
-    let mut library = SureLibrary::new(alloc, files);
-    let made = made(rt, alloc, call, &mut library, &mut SureSink::new());
+) {
+    let mut library = SureLibrary::new(rows.alloc(), files);
+    let made = made(rt, rows.alloc(), call, &mut library, &mut SureSink::new());
     drop(library);
-    row_of_made(alloc, line, b"", made)
+    add_made(rows, line, b"", made);
 }
 
 // What the words of a line say: the faults that are planned, if any are, the list of the files, and the words of the call.
@@ -233,20 +254,24 @@ fn said(words: &[String]) -> Option<(Option<Planned>, &String, &[String])> {
     }
 }
 
-/// The row of a line.
-pub(crate) fn row<R: Threads + Wait + Sync, L: Library>(
+/// Adds the row of a line with these words.
+pub(crate) fn add_row<R: Threads + Wait + Sync, L: Library>(
     rt: &R,
-    alloc: Global,
+    rows: &mut RowText,
     line: &str,
     words: &[String],
     library: &mut L,
-) -> Result<Text, NoMemory> {
-    let Some((planned, files, call)) = said(words) else {
-        return Text::copied(alloc, b"no row\n");
+) {
+    let Some((planned, list, call)) = said(words) else {
+        return rows.add("no row\n");
     };
-    let files = files_of(alloc, library, files.as_str())?;
+    let mut files = Seq::new(rows.alloc());
+    if add_files(rows.alloc(), library, list.as_str(), &mut files).is_err() {
+        drop(files);
+        return rows.lose();
+    }
     match planned {
-        Some(planned) => planned_row(rt, alloc, line, planned, files, call),
-        None => sure_row(rt, alloc, line, files, call),
+        Some(planned) => add_planned(rt, rows, line, &planned, files, call),
+        None => add_sure(rt, rows, line, files, call),
     }
 }

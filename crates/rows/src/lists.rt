@@ -1,107 +1,108 @@
 // The lists of rows, each a file with a row in each line.
-use crate::table::words;
-use crate::{faults, table, worlds};
-use ruby_base::{NoMemory, Text};
-use ruby_outside::{Got, Library, Sink, put};
+use crate::row::add;
+use crate::{faults, table};
+use row_text::RowText;
+use ruby_base::NoMemory;
+use ruby_outside::{Got, Library};
 use std::alloc::Global;
 use std::sync::Wait;
 use std::thread::Threads;
 
-/// A list of rows.
+/// A list of calls.
 #[derive(Clone, Copy)]
 pub(crate) enum List {
-    /// Whole calls of the program.
+    /// Over the files of a library.
     Calls,
-    /// Calls over libraries and sinks in memory.
+    /// Over libraries and sinks in memory.
     Faults,
-    /// Runs under a script of requests.
-    Runs,
 }
 
-impl List {
-    fn file(self) -> &'static str {
-        match self {
-            List::Calls => "calls",
-            List::Faults => "faults",
-            List::Runs => "worlds/rows",
-        }
-    }
-}
+/// The most bytes that a list may have.
+pub(crate) const LIST_LIMIT: u64 = 1_048_576;
 
-// The most bytes that a list may have.
-const LIST_LIMIT: u64 = 1_048_576;
-
-// Whether a line is a row: it has a word, and the first one doesn't begin a comment.
-fn is_row(line: &str) -> bool {
+/// Whether a line is a row: it has a word, and the first one doesn't begin a comment.
+pub(crate) fn is_row(line: &str) -> bool {
     match line.split_whitespace().next() {
         Some(first) => !first.starts_with('#'),
         None => false,
     }
 }
 
-// The row of a call.
-fn row_of<R: Threads + Wait + Sync, L: Library>(
-    rt: &R,
+/// Adds the words of a line, which are separated by blanks.
+pub(crate) fn add_words(
     alloc: Global,
+    line: &str,
+    words: &mut Vec<String>,
+) -> Result<(), NoMemory> {
+    for word in line.split_whitespace() {
+        words.push(String::from_str(alloc, word)?)?;
+    }
+    Ok(())
+}
+
+fn add_call<R: Threads + Wait + Sync, L: Library>(
+    rt: &R,
+    rows: &mut RowText,
     list: List,
     line: &str,
+    words: &[String],
     library: &mut L,
-) -> Result<Text, NoMemory> {
-    let words = words(alloc, line)?;
+) {
     match list {
-        List::Faults => faults::row(rt, alloc, line, words.as_slice(), library),
-        List::Calls | List::Runs => table::row(rt, alloc, line, words.as_slice(), library),
+        List::Calls => add(rows, table::row(rt, rows.alloc(), line, words, library)),
+        List::Faults => faults::add_row(rt, rows, line, words, library),
     }
 }
 
-// Writes the row of a line, and answers whether it was written whole.
-fn write_row<R: Threads + Wait + Sync, L: Library, S: Sink>(
+// Adds the row of a line.
+fn add_line<R: Threads + Wait + Sync, L: Library>(
     rt: &R,
-    alloc: Global,
+    rows: &mut RowText,
     list: List,
     line: &str,
     library: &mut L,
-    sink: &mut S,
-) -> Result<bool, NoMemory> {
-    match list {
-        List::Runs => worlds::write_row(alloc, line, library, sink),
-        List::Calls | List::Faults => {
-            let row = row_of(rt, alloc, list, line, library)?;
-            Ok(put(sink, row.as_slice()))
-        }
+) {
+    let mut words = Vec::new(rows.alloc());
+    match add_words(rows.alloc(), line, &mut words) {
+        Ok(()) => add_call(rt, rows, list, line, words.as_slice(), library),
+        Err(NoMemory) => rows.lose(),
     }
+    drop(words);
 }
 
-// Writes the rows of lines until one isn't written whole.
-fn write_lines<R: Threads + Wait + Sync, L: Library, S: Sink>(
+fn add_lines<R: Threads + Wait + Sync, L: Library>(
     rt: &R,
-    alloc: Global,
+    rows: &mut RowText,
     list: List,
     lines: &str,
     library: &mut L,
-    sink: &mut S,
-) -> Result<bool, NoMemory> {
+) {
     for line in lines.lines() {
-        if is_row(line) && !write_row(rt, alloc, list, line, library, sink)? {
-            return Ok(false);
+        if is_row(line) {
+            add_line(rt, rows, list, line, library);
         }
     }
-    Ok(true)
 }
 
-/// Writes the rows of a list until one isn't written whole, and answers whether all were.
-pub(crate) fn write_list<R: Threads + Wait + Sync, L: Library, S: Sink>(
+/// Adds the rows of a list, which is in the file of this name.
+pub(crate) fn add_list<R: Threads + Wait + Sync, L: Library>(
     rt: &R,
-    alloc: Global,
+    rows: &mut RowText,
     list: List,
+    file: &str,
     library: &mut L,
-    sink: &mut S,
-) -> Result<bool, NoMemory> {
-    let Got::Bytes(bytes) = library.read(list.file(), LIST_LIMIT) else {
-        return Ok(false);
-    };
-    match str::from_utf8(bytes.as_slice()) {
-        Ok(lines) => write_lines(rt, alloc, list, lines, library, sink),
-        Err(_) => Ok(false),
+) {
+    match library.read(file, LIST_LIMIT) {
+        Got::Bytes(lines) => {
+            add_lines(
+                rt,
+                rows,
+                list,
+                str::from_utf8(&lines).unwrap_or(""),
+                library,
+            );
+            drop(lines);
+        }
+        _ => rows.lose(),
     }
 }

@@ -1,7 +1,8 @@
 // One row: what is printed of a call.
-ghost use Rattle.std.specs.Prelude.{◌≡◌, IfOk};
-ghost use Rattle.rows.specs.Row.{ending_of, row_of as row_of_call, status_line as status_line_of};
+ghost use Rattle.std.specs.Prelude.{◌≡◌, ◌++◌, IfOk, OnOk};
+ghost use Rattle.rows.specs.Row.{ending_of, row_of as row_of_call, status_line};
 
+use row_text::RowText;
 use ruby_base::{NoMemory, Text};
 use std::alloc::Global;
 
@@ -15,23 +16,30 @@ fn ending(text: &[u8]) -> &'static [u8]
     }
 }
 
-fn status_line(alloc: Global, status: u8) -> Result<Text, NoMemory>
-    ensures { IfOk result (λ text. text ≡ status_line_of status) }
+fn add_status(alloc: Global, row: &mut Text, status: u8) -> Result<(), NoMemory>
+    ensures { OnOk result (row.new ≡ row.old ++ status_line status) }
 {
     let line = format!(in alloc; "status {status}\n")?;
-    Text::copied(alloc, line.as_bytes())
+    row.append(line.as_bytes())
 }
 
 /// What is printed of a call, by its text and its status.
 pub(crate) fn row_of(alloc: Global, call: &str, text: &[u8], status: u8) -> Result<Text, NoMemory>
     ensures { IfOk result (λ row. row ≡ row_of_call call.now text.now status) }
 {
-    let last = status_line(alloc, status)?;
     let mut row = Text::copied(alloc, b"== ")?;
     row.append(call.as_bytes())?;
     row.append(b"\n")?;
     row.append(text)?;
     row.append(ending(text))?;
-    row.append(last.as_slice())?;
+    add_status(alloc, &mut row, status)?;
     Ok(row)
+}
+
+/// Adds a row, if there was memory for it.
+pub(crate) fn add(rows: &mut RowText, row: Result<Text, NoMemory>) {
+    match row {
+        Ok(row) => rows.add_bytes(&row),
+        Err(NoMemory) => rows.lose(),
+    }
 }

@@ -1,10 +1,10 @@
 // Calls of the program, and what they answer.
-ghost use Rattle.std.specs.Prelude.{IfOk, map, string_bytes};
+ghost use Rattle.std.specs.Prelude.{◌≡◌, IfOk, map, string_bytes};
 ghost use Rattle.rows.specs.Call.{IsRow};
 
 use crate::row::row_of;
 use ruby_base::{NoMemory, Seq, Text};
-use ruby_cli::ruby;
+use ruby_cli::{Done, ruby};
 use ruby_outside::{Library, MemSink, OpenGate};
 use std::alloc::Global;
 use std::sync::Wait;
@@ -13,13 +13,13 @@ use std::thread::Threads;
 // The most bytes of a call's text. A longer one is cut off there, and the call ends with status 7.
 const ROOM: u64 = 65_536;
 
-/// The words of a line, which are separated by blanks.
-pub(crate) fn words(alloc: Global, line: &str) -> Result<Vec<String>, NoMemory> {
-    let mut words = Vec::new(alloc);
-    for word in line.split_whitespace() {
-        words.push(String::from_str(alloc, word)?)?;
-    }
-    Ok(words)
+/// The status of a call, and whether a record is kept.
+pub(crate) fn end_of(done: Done) -> (u8, bool)
+    ensures { result.0 ≡ done.status }
+{
+    let end = (done.status, done.kept.is_some());
+    drop(done);
+    end
 }
 
 /// Makes the call with these words over a library, and answers what is printed of it.
@@ -34,5 +34,8 @@ pub(crate) fn row<R: Threads + Wait + Sync, L: Library>(
 {
     let mut sink = MemSink::new(alloc, Seq::new(alloc), ROOM, ROOM)?;
     let done = ruby(rt, alloc, words, library, &mut sink, &OpenGate);
-    row_of(alloc, line, sink.bytes(), done.status)
+    let end = end_of(done);
+    let row = row_of(alloc, line, sink.bytes(), end.0);
+    drop(sink);
+    row
 }

@@ -1,41 +1,78 @@
 // Runs under a script of requests: the rows of a list, and of each a line `== NAME` and below it the whole journal of the run, or how
 // it ended alone.
-ghost use Rattle.std.specs.Prelude.{◌≤◌};
-ghost use Rattle.ctl_face.specs.Fits.{last_cycle};
-
 mod entries;
 mod row;
 mod run;
 mod script;
 
-use row::{Row, row_of};
+use crate::lists::{LIST_LIMIT, add_words, is_row};
+use row::row_of;
 use ruby_base::NoMemory;
-use ruby_outside::{Library, Sink, put};
+use ruby_outside::{Got, Library, Sink, put};
 use run::write_run;
 use std::alloc::Global;
 
-// Writes the run of a row, and answers whether it was written whole. A run whose files can't be read, or are refused, has no lines.
-fn write_named<L: Library, S: Sink>(
+/// Writes the row that these words say, or that they say no run, and answers whether it was written whole. A run whose files can't be
+/// read, or are refused, has no lines.
+pub(crate) fn write_row<L: Library, S: Sink>(
     alloc: Global,
+    words: &[String],
     library: &mut L,
     sink: &mut S,
-    row: &Row<'_>,
-) -> Result<bool, NoMemory>
-    requires { row.now.limits.cycles ≤ last_cycle }
-{
-    let head = format!(in alloc; "== {}\n", row.name)?;
-    Ok(put(sink, head.as_bytes()) && write_run(alloc, library, sink, row)?)
+) -> bool {
+    match row_of(words) {
+        Some(row) => {
+            put(sink, b"== ")
+                && put(sink, row.name.as_bytes())
+                && put(sink, b"\n")
+                && write_run(alloc, library, sink, &row)
+        }
+        None => put(sink, b"no run\n"),
+    }
 }
 
-/// Writes the row of a line, or that the line says no run, and answers whether it was written whole.
-pub(crate) fn write_row<L: Library, S: Sink>(
+// Writes the row of a line.
+fn write_line<L: Library, S: Sink>(
     alloc: Global,
     line: &str,
     library: &mut L,
     sink: &mut S,
-) -> Result<bool, NoMemory> {
-    match row_of(line) {
-        Some(row) => write_named(alloc, library, sink, &row),
-        None => Ok(put(sink, b"no run\n")),
+) -> bool {
+    let mut words = Vec::new(alloc);
+    let is_written = match add_words(alloc, line, &mut words) {
+        Ok(()) => write_row(alloc, words.as_slice(), library, sink),
+        Err(NoMemory) => false,
+    };
+    drop(words);
+    is_written
+}
+
+// Writes the rows of lines until one isn't written whole.
+fn write_lines<L: Library, S: Sink>(
+    alloc: Global,
+    lines: &str,
+    library: &mut L,
+    sink: &mut S,
+) -> bool {
+    for line in lines.lines() {
+        if is_row(line) && !write_line(alloc, line, library, sink) {
+            return false;
+        }
+    }
+    true
+}
+
+/// Writes the rows of the list until one isn't written whole, and answers whether all were.
+pub(crate) fn write_list<L: Library, S: Sink>(
+    alloc: Global,
+    library: &mut L,
+    sink: &mut S,
+) -> bool {
+    match library.read("worlds/rows", LIST_LIMIT) {
+        Got::Bytes(lines) => {
+            let lines = str::from_utf8(&lines).unwrap_or("");
+            write_lines(alloc, lines, library, sink)
+        }
+        _ => false,
     }
 }

@@ -70,7 +70,10 @@ pub(crate) fn add_after(
     requires done { IsEndOf store.old now end }
 {
     match leave(rows.alloc(), store, routes, now, end) {
-        Ok(copies) => add_left(rows, store, routes, now, &copies),
+        Ok(copies) => {
+            add_left(rows, store, routes, now, &copies);
+            drop(copies);
+        }
         Err(NoMemory) => rows.lose(),
     }
     rows.add("\n");

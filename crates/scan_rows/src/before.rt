@@ -56,13 +56,18 @@ fn prepared(
     ensures { IfOk result (IsDone store.now now) }
 {
     let mut draft = Draft::on(alloc, store, routes, 0, now);
-    prepare(&mut draft, before)?;
-    Ok(draft.seal(FireNote {
-        address: 0,
-        state: 0,
-        event: 0,
-        next: 0,
-    }))
+    match prepare(&mut draft, before) {
+        Ok(()) => Ok(draft.seal(FireNote {
+            address: 0,
+            state: 0,
+            event: 0,
+            next: 0,
+        })),
+        Err(trouble) => {
+            drop(draft);
+            Err(trouble)
+        }
+    }
 }
 
 /// Does it to the controller, in a draft of its own.
@@ -83,6 +88,7 @@ pub(crate) fn make_ready(
         return Ok(());
     }
     let outcome = prepared(alloc, store, routes, now, before)?;
-    let _posted = apply(store, routes, now, outcome)?;
+    let posted = apply(store, routes, now, outcome)?;
+    drop(posted);
     Ok(())
 }

@@ -20,18 +20,21 @@ const DRIVER: u32 = 2;
 
 // A cache, if the machine has one, has one line.
 fn sizes(alloc: Global) -> Result<Sizes, NoMemory> {
+    let machines = Seq::copied(alloc, &[(0, 2)])?;
     Ok(Sizes {
         caches: Seq::copied(alloc, &[(0, 1, 1)])?,
         tbes: Seq::new(alloc),
         parameters: Seq::new(alloc),
-        machines: Seq::copied(alloc, &[(0, 2)])?,
+        machines,
     })
 }
 
 // What the machine is to the controller.
 fn machine(alloc: Global, plan: &Plan) -> Result<Option<MachineSetup>, NoMemory> {
     let sizes = sizes(alloc)?;
-    setup(alloc, plan, 0, &sizes)
+    let machine = setup(alloc, plan, 0, &sizes);
+    drop(sizes);
+    machine
 }
 
 /// The routes: 3 cycles to the other controller, where this buffer takes the messages of network 0, as at this one.
@@ -116,7 +119,10 @@ pub(crate) fn is_begun(
     requires { GoesOn store.old routes.now now }
     ensures { GoesOn store.new routes.now now }
 {
-    let (Some(queue), Ok(fields)) = (queue, request(alloc, address)) else {
+    let Some(queue) = queue else {
+        return false;
+    };
+    let Ok(fields) = request(alloc, address) else {
         return false;
     };
     let number = MsgNo {

@@ -1,7 +1,7 @@
 // A scan for each built-in call.
 use crate::row::{ROW, Row};
 
-pub(crate) const CALLS: &[Row] = &[
+const CALLS: &[Row] = &[
     Row {
         name: "isReady",
         action: "assert(cpu.isReady(clockEdge())); assert(!inner_in.isReady(clockEdge()));",
@@ -202,3 +202,7 @@ pub(crate) const CALLS: &[Row] = &[
         ..ROW
     },
 ];
+
+pub(crate) fn table() -> &'static [Row] {
+    CALLS
+}

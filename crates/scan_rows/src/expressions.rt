@@ -1,7 +1,7 @@
 // A scan for each operator and form of expression.
 use crate::row::{ROW, Row};
 
-pub(crate) const EXPRESSIONS: &[Row] = &[
+const EXPRESSIONS: &[Row] = &[
     Row {
         name: "+ - *",
         action: "assert(number + 2 == 9); assert(2 - number == 0 - 5); assert(number * 3 == 21); assert(20 - 5 - 3 == 12);",
@@ -131,3 +131,7 @@ pub(crate) const EXPRESSIONS: &[Row] = &[
         ..ROW
     },
 ];
+
+pub(crate) fn table() -> &'static [Row] {
+    EXPRESSIONS
+}

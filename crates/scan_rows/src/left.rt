@@ -152,7 +152,10 @@ fn add_copy(rows: &mut RowText, machine: &MachineSetup, copy: &Delivery<Message>
         return rows.lose();
     };
     match Fields::of_kinds(rows.alloc(), &buffer.kinds) {
-        Ok(initial) => add_message(rows, &copy.message, &initial),
+        Ok(initial) => {
+            add_message(rows, &copy.message, &initial);
+            drop(initial);
+        }
         Err(NoMemory) => rows.lose(),
     }
 }

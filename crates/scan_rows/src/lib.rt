@@ -1,6 +1,6 @@
-//! Scans of small protocols on drafts of a controller, for the program `rows`: rows of what scans do, and what times them.
+//! Rows of scans of small protocols on drafts of a controller, for the program `rows`.
 //!
-//! The rows are a line for each scan: how it ended, that is the transition that fired with its lists of messages (`consumed 2:0`: sender
+//! There is a line for each scan: how it ended, that is the transition that fired with its lists of messages (`consumed 2:0`: sender
 //! and number), that it was idle or full, or where it stopped and why; and then, each after a semicolon, what is left: the marks, how many
 //! messages are queued, stalled and recycled, the states of lines that aren't the default, the lines of tables with the fields that differ
 //! from a new line's, the copies for another controller and the finished requests. What has fired is sealed and applied, and else the
@@ -20,18 +20,13 @@ mod scans;
 mod shown;
 mod statements;
 mod ticker;
-mod times;
 
-use calls::CALLS;
-use expressions::EXPRESSIONS;
 use row::Row;
 use row_text::RowText;
 use scans::{add_row, add_tick};
-use statements::STATEMENTS;
-use ticker::{TICKS, TickerRow};
-pub use times::{time_drafts, time_scans};
+use ticker::TickerRow;
 
-// The tables are handed over, since a loop that has a long one in it is dear to prove.
+// Each long table is answered by a function of its own, since whatever comes after it in one is dear to prove.
 fn add_ticks(rows: &mut RowText, table: &[TickerRow]) {
     for row in table {
         add_tick(rows, row);
@@ -46,8 +41,8 @@ fn add_table(rows: &mut RowText, table: &[Row]) {
 
 /// Adds the rows.
 pub fn add_scans(rows: &mut RowText) {
-    add_ticks(rows, TICKS);
-    add_table(rows, STATEMENTS);
-    add_table(rows, EXPRESSIONS);
-    add_table(rows, CALLS);
+    add_ticks(rows, ticker::table());
+    add_table(rows, statements::table());
+    add_table(rows, expressions::table());
+    add_table(rows, calls::table());
 }

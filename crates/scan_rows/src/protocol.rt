@@ -1,53 +1,42 @@
 // The protocols of the rows.
 use crate::row::{AFTER_ACTION, AFTER_PORT, BEFORE_ACTION, HEAD, Row, TAIL};
+use row_text::RowText;
 use ruby_base::{NoMemory, Seq, Text};
 use ruby_outside::SureLibrary;
 use sample_stores::plan_of;
 use slicc_plan::Plan;
 use std::alloc::Global;
 
-// Adds the parts of a text.
-fn add_all(text: &mut Text, parts: &[&str]) -> Result<(), NoMemory> {
+/// Adds the parts of a text.
+pub(crate) fn add_all(text: &mut RowText, parts: &[&str]) {
     for part in parts {
-        text.append(part.as_bytes())?;
+        text.add(part);
     }
-    Ok(())
 }
 
-/// The text with these parts.
-pub(crate) fn joined(alloc: Global, parts: &[&str]) -> Result<Text, NoMemory> {
-    let mut text = Text::new(alloc);
-    add_all(&mut text, parts)?;
-    Ok(text)
-}
-
-fn add_protocol(text: &mut Text, row: &Row) -> Result<(), NoMemory> {
+/// Adds the text of the protocol of a row.
+pub(crate) fn add_protocol(text: &mut RowText, row: &Row) {
     let before = [HEAD, row.port, AFTER_PORT, row.declarations, BEFORE_ACTION];
-    add_all(text, &before)?;
+    add_all(text, &before);
     for _ in 0..row.times {
-        text.append(row.action.as_bytes())?;
+        text.add(row.action);
     }
-    add_all(text, &[AFTER_ACTION, row.transitions, TAIL])
-}
-
-/// The text of the protocol of a row.
-pub(crate) fn protocol_of(alloc: Global, row: &Row) -> Result<Text, NoMemory> {
-    let mut text = Text::new(alloc);
-    add_protocol(&mut text, row)?;
-    Ok(text)
+    add_all(text, &[AFTER_ACTION, row.transitions, TAIL]);
 }
 
 // A library with one file, which has this text.
-fn library_of(alloc: Global, name: &str, text: Text) -> Result<SureLibrary, NoMemory> {
+fn library_of(alloc: Global, name: &str, text: &[u8]) -> Result<SureLibrary, NoMemory> {
     let name = Text::copied(alloc, name.as_bytes())?;
-    let mut files = Seq::new(alloc);
-    files.push((name, text))?;
-    Ok(SureLibrary::new(alloc, files))
+    let text = Text::copied(alloc, text)?;
+    let files = vec![in alloc; (name, text)]?;
+    Ok(SureLibrary::new(alloc, Seq::of(files)))
 }
 
 /// The plan of the protocol that has this text, if it keeps all rules.
-pub(crate) fn plan_by(alloc: Global, text: Text) -> Result<Option<Plan>, NoMemory> {
+pub(crate) fn plan_by(alloc: Global, text: &[u8]) -> Result<Option<Plan>, NoMemory> {
     let name = "rows.sm";
     let mut library = library_of(alloc, name, text)?;
-    plan_of(alloc, &mut library, name)
+    let plan = plan_of(alloc, &mut library, name);
+    drop(library);
+    plan
 }

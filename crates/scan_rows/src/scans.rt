@@ -5,14 +5,13 @@ ghost use Rattle.sample_stores.specs.Going.{GoesOn};
 use crate::after::add_after;
 use crate::before::{Before, make_ready};
 use crate::begun::{is_begun, queue, routes, store_of};
-use crate::protocol::{joined, plan_by, protocol_of};
+use crate::protocol::{add_all, add_protocol, plan_by};
 use crate::row::Row;
 use crate::shown::add_end;
 use crate::ticker::{TICKER, TickerRow};
 use ctl_face::{NoMemory, Routes};
 use ctl_store::Store;
 use row_text::RowText;
-use ruby_base::Text;
 use sample_stores::{begin, let_protocol_go, scan as scan_store};
 use slicc_interpreter::Interpreted;
 use slicc_plan::Plan;
@@ -28,7 +27,7 @@ const SEED: u64 = 42;
 struct Scan<'a> {
     name: &'a str,
     address: u64,
-    now: u64,
+    cycle: u64,
     before: Before,
     fired: u64,
     receiving: Option<u16>,
@@ -37,16 +36,16 @@ struct Scan<'a> {
 // Adds the line of a scan of a store's controller, whose queue of requests has this number.
 fn add_on(
     rows: &mut RowText,
-    scan: Scan<'_>,
+    scan: &Scan<'_>,
     protocol: &Interpreted,
     store: &mut Store,
     queue: Option<u16>,
     routes: &Routes,
 )
-    requires { GoesOn store.old routes.now (scan.now - 1) }
+    requires { GoesOn store.old routes.now (scan.now.cycle - 1) }
 {
     let alloc = rows.alloc();
-    let now = scan.now;
+    let now = scan.cycle;
     if now == 0 || now > 1000 || !is_begun(alloc, store, queue, routes, now - 1, scan.address) {
         return rows.lose();
     }
@@ -54,39 +53,50 @@ fn add_on(
     if make_ready(alloc, store, routes, now, scan.before).is_err() {
         return rows.lose();
     }
-    let Ok(end) = scan_store(
+    match scan_store(
         alloc, protocol, 0, store, routes, SEED, now, scan.fired, LIMIT,
-    ) else {
-        return rows.lose();
-    };
-    add_end(rows, scan.name, &end);
-    add_after(rows, store, routes, now, end);
+    ) {
+        Ok(end) => {
+            add_end(rows, scan.name, &end);
+            add_after(rows, store, routes, now, end);
+        }
+        Err(NoMemory) => rows.lose(),
+    }
 }
 
 // Adds the line of a scan of the controller of a protocol.
-fn add_scan(rows: &mut RowText, scan: Scan<'_>, plan: Plan, routes: &Routes) {
+fn add_scan(rows: &mut RowText, scan: &Scan<'_>, plan: Plan, routes: &Routes) {
     let queue = queue(plan.symbols());
-    let store = store_of(rows.alloc(), &plan, routes, scan.now);
+    let store = store_of(rows.alloc(), &plan, routes, scan.cycle);
     let protocol = Interpreted::new(plan);
     match store {
-        Ok(Some(mut store)) => add_on(rows, scan, &protocol, &mut store, queue, routes),
+        Ok(Some(mut store)) => {
+            add_on(rows, scan, &protocol, &mut store, queue, routes);
+            drop(store);
+        }
         Ok(None) | Err(NoMemory) => rows.lose(),
     }
     let_protocol_go(protocol);
 }
 
-// Adds the line of a scan of the protocol that has this text.
-fn add_by(rows: &mut RowText, scan: Scan<'_>, protocol: Text, routes: &Routes) {
-    match plan_by(rows.alloc(), protocol) {
+// Adds the line of a scan by these routes of the protocol that has this text.
+fn add_by(rows: &mut RowText, scan: &Scan<'_>, protocol: &RowText, routes: &Routes) {
+    if !protocol.is_whole() {
+        return rows.lose();
+    }
+    match plan_by(rows.alloc(), protocol.bytes()) {
         Ok(Some(plan)) => add_scan(rows, scan, plan, routes),
         Ok(None) | Err(NoMemory) => rows.lose(),
     }
 }
 
-fn add_line(rows: &mut RowText, scan: Scan<'_>, protocol: Result<Text, NoMemory>) {
-    match (protocol, routes(rows.alloc(), scan.receiving)) {
-        (Ok(protocol), Ok(routes)) => add_by(rows, scan, protocol, &routes),
-        _ => rows.lose(),
+fn add_line(rows: &mut RowText, scan: &Scan<'_>, protocol: &RowText) {
+    match routes(rows.alloc(), scan.receiving) {
+        Ok(routes) => {
+            add_by(rows, scan, protocol, &routes);
+            drop(routes);
+        }
+        Err(NoMemory) => rows.lose(),
     }
 }
 
@@ -95,12 +105,15 @@ pub(crate) fn add_row(rows: &mut RowText, row: &Row) {
     let scan = Scan {
         name: row.name,
         address: 64,
-        now: 10,
+        cycle: 10,
         before: Before::Nothing,
         fired: 0,
         receiving: Some(2),
     };
-    add_line(rows, scan, protocol_of(rows.alloc(), row));
+    let mut protocol = RowText::new(rows.alloc());
+    add_protocol(&mut protocol, row);
+    add_line(rows, &scan, &protocol);
+    drop(protocol);
 }
 
 /// Adds the line of a scan of the ticker.
@@ -108,10 +121,13 @@ pub(crate) fn add_tick(rows: &mut RowText, row: &TickerRow) {
     let scan = Scan {
         name: row.name,
         address: 0,
-        now: 1,
+        cycle: 1,
         before: row.before,
         fired: row.fired,
         receiving: None,
     };
-    add_line(rows, scan, joined(rows.alloc(), &[TICKER, row.end]));
+    let mut protocol = RowText::new(rows.alloc());
+    add_all(&mut protocol, &[TICKER, row.end]);
+    add_line(rows, &scan, &protocol);
+    drop(protocol);
 }

@@ -1,7 +1,7 @@
 // A scan for each statement, and for what ports and transitions do.
 use crate::row::{ROW, Row};
 
-pub(crate) const STATEMENTS: &[Row] = &[
+const STATEMENTS: &[Row] = &[
     Row {
         name: "nothing",
         ..ROW
@@ -168,3 +168,7 @@ pub(crate) const STATEMENTS: &[Row] = &[
         ..ROW
     },
 ];
+
+pub(crate) fn table() -> &'static [Row] {
+    STATEMENTS
+}

@@ -39,7 +39,7 @@ pub(crate) struct TickerRow {
     pub(crate) fired: u64,
 }
 
-pub(crate) const TICKS: &[TickerRow] = &[
+const TICKS: &[TickerRow] = &[
     TickerRow {
         name: "ticker in A",
         end: WHOLE,
@@ -65,3 +65,7 @@ pub(crate) const TICKS: &[TickerRow] = &[
         fired: 0,
     },
 ];
+
+pub(crate) fn table() -> &'static [TickerRow] {
+    TICKS
+}

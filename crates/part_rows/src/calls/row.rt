@@ -33,12 +33,22 @@ pub(crate) struct Row(
     pub(crate) &'static [Argument],
 );
 
-fn controllers(alloc: Global, numbers: &[u32]) -> Result<NetDest, NoMemory> {
-    let mut members = NetDest::new(alloc);
+fn add_controllers(members: &mut NetDest, numbers: &[u32]) -> Result<(), NoMemory> {
     for number in numbers {
         members.add(*number)?;
     }
-    Ok(members)
+    Ok(())
+}
+
+fn controllers(alloc: Global, numbers: &[u32]) -> Result<Value, NoMemory> {
+    let mut members = NetDest::new(alloc);
+    match add_controllers(&mut members, numbers) {
+        Ok(()) => Ok(Value::Dest(members)),
+        Err(NoMemory) => {
+            drop(members);
+            Err(NoMemory)
+        }
+    }
 }
 
 fn value(alloc: Global, argument: Argument) -> Result<Value, NoMemory> {
@@ -48,7 +58,7 @@ fn value(alloc: Global, argument: Argument) -> Result<Value, NoMemory> {
         Argument::Member(enumeration, member) => Value::Enum(enumeration, member),
         Argument::Address(address) => Value::Addr(address),
         Argument::Controller(number) => Value::Machine(number),
-        Argument::Controllers(numbers) => Value::Dest(controllers(alloc, numbers)?),
+        Argument::Controllers(numbers) => return controllers(alloc, numbers),
         Argument::Bytes(byte) => Value::Block(Block { bytes: [byte; 64] }),
         Argument::Entry(table, line) => Value::Entry(Some(Ref { table, line })),
         Argument::NoEntry => Value::Entry(None),
@@ -56,11 +66,14 @@ fn value(alloc: Global, argument: Argument) -> Result<Value, NoMemory> {
     })
 }
 
-/// The values of arguments.
-pub(crate) fn values(alloc: Global, arguments: &[Argument]) -> Result<Vec<Value>, NoMemory> {
-    let mut values = Vec::with_capacity(alloc, arguments.len())?;
+/// Adds the values of arguments.
+pub(crate) fn add_values(
+    alloc: Global,
+    values: &mut Vec<Value>,
+    arguments: &[Argument],
+) -> Result<(), NoMemory> {
     for argument in arguments {
         values.push(value(alloc, *argument)?)?;
     }
-    Ok(values)
+    Ok(())
 }

@@ -233,7 +233,7 @@ const PLAIN: &[Row] = &[
     Row(61, "no call", 0, &[]),
 ];
 
-pub(crate) const GROUPS: &[&[Row]] = &[
+const GROUPS: &[&[Row]] = &[
     MESSAGES,
     RECYCLE,
     RECYCLE_FOR,
@@ -245,3 +245,7 @@ pub(crate) const GROUPS: &[&[Row]] = &[
     LONGEST_CALLBACKS,
     PLAIN,
 ];
+
+pub(crate) fn groups() -> &'static [&'static [Row]] {
+    GROUPS
+}

@@ -79,7 +79,7 @@ fn word_of(fault: &Fault) -> &'static str {
     }
 }
 
-/// Adds what a call answers: its value, `done` where it has none, or its fault.
+/// Adds what a call answers, with the end of the line: its value, `done` where it has none, or its fault.
 pub(crate) fn add_answer(rows: &mut RowText, answer: &Result<Option<Value>, Trouble>) {
     match answer {
         Ok(Some(v)) => add_value(rows, v),
@@ -87,14 +87,16 @@ pub(crate) fn add_answer(rows: &mut RowText, answer: &Result<Option<Value>, Trou
         Err(Trouble::Fault(fault)) => rows.show("fault ", &word_of(fault)),
         Err(Trouble::NoMemory) => rows.add("no memory"),
     }
+    rows.add("\n");
 }
 
-/// Adds the arguments of a call.
+/// Adds the arguments of a call, in parentheses.
 pub(crate) fn add_arguments(rows: &mut RowText, values: &[Value]) {
-    for (i, v) in values.iter().enumerate() {
-        if i > 0 {
-            rows.add(", ");
-        }
+    let mut before = "(";
+    for v in values {
+        rows.add(before);
         add_value(rows, v);
+        before = ", ";
     }
+    rows.add(if values.is_empty() { "(): " } else { "): " });
 }

@@ -4,8 +4,8 @@ ghost use Rattle.sample_stores.specs.Going.{GoesOn};
 
 use crate::calls::node::{DRIVER, KEPT_NUMBERS, ME, PARAMETERS, QUEUE, machine, routes, setting};
 use crate::calls::requests::{load, store};
-use crate::calls::row::{Row, values};
-use crate::calls::rows::GROUPS;
+use crate::calls::row::{Row, add_values};
+use crate::calls::rows::groups;
 use crate::calls::shown::{add_answer, add_arguments};
 use acts::set;
 use built_in_acts::{CallSetting, built_in};
@@ -20,20 +20,30 @@ use std::alloc::Global;
 // The cycle of the calls.
 const NOW: u64 = 10;
 
-// Makes a call in a local, and adds its line.
-fn add_row<L: Local>(rows: &mut RowText, local: &mut L, setting: &CallSetting, row: &Row) {
-    let Row(number, name, on, arguments) = row;
-    let Ok(arguments) = values(rows.alloc(), arguments) else {
-        return rows.lose();
-    };
-    let answer = built_in(rows.alloc(), local, setting, *number, *on, &arguments);
+// Makes a call with these arguments in a local, and adds its line.
+fn add_call<L: Local>(
+    rows: &mut RowText,
+    local: &mut L,
+    setting: &CallSetting,
+    row: &Row,
+    arguments: &[Value],
+) {
+    let Row(number, name, on, _) = row;
+    let answer = built_in(rows.alloc(), local, setting, *number, *on, arguments);
     rows.show("", number);
     rows.show(" ", name);
-    rows.add("(");
-    add_arguments(rows, &arguments);
-    rows.add("): ");
+    add_arguments(rows, arguments);
     add_answer(rows, &answer);
-    rows.add("\n");
+    drop(answer);
+}
+
+fn add_row<L: Local>(rows: &mut RowText, local: &mut L, setting: &CallSetting, row: &Row) {
+    let mut arguments = Vec::new(rows.alloc());
+    match add_values(rows.alloc(), &mut arguments, row.3) {
+        Ok(()) => add_call(rows, local, setting, row, &arguments),
+        Err(NoMemory) => rows.lose(),
+    }
+    drop(arguments);
 }
 
 // Whether the numbers of the machines' controllers could be written.
@@ -59,7 +69,7 @@ fn add_group<L: Local>(rows: &mut RowText, local: &mut L, setting: &CallSetting,
     }
 }
 
-// The groups, each on a draft of its own, which is dropped. They are handed over, since a loop that has a long table in it is dear to prove.
+// The groups, each on a draft of its own, which is dropped.
 fn add_groups(
     rows: &mut RowText,
     node: &Store,
@@ -72,6 +82,7 @@ fn add_groups(
     for group in groups {
         let mut draft = Draft::on(rows.alloc(), node, routes, 42, NOW);
         add_group(rows, &mut draft, setting, group);
+        drop(draft);
     }
 }
 
@@ -99,7 +110,10 @@ fn add_on(rows: &mut RowText, node: &mut Store, routes: &Routes)
         return rows.lose();
     }
     match setting(rows.alloc()) {
-        Ok(setting) => add_groups(rows, node, routes, &setting, GROUPS),
+        Ok(setting) => {
+            add_groups(rows, node, routes, &setting, groups());
+            drop(setting);
+        }
         Err(NoMemory) => rows.lose(),
     }
 }
@@ -114,7 +128,10 @@ fn node_of(alloc: Global, routes: &Routes) -> Result<Option<Store>, NoMemory>
 
 fn add_by(rows: &mut RowText, routes: &Routes) {
     match node_of(rows.alloc(), routes) {
-        Ok(Some(mut node)) => add_on(rows, &mut node, routes),
+        Ok(Some(mut node)) => {
+            add_on(rows, &mut node, routes);
+            drop(node);
+        }
         Ok(None) | Err(NoMemory) => rows.lose(),
     }
 }
@@ -122,7 +139,10 @@ fn add_by(rows: &mut RowText, routes: &Routes) {
 /// Adds the lines of all calls.
 pub(crate) fn add(rows: &mut RowText) {
     match routes(rows.alloc()) {
-        Ok(routes) => add_by(rows, &routes),
+        Ok(routes) => {
+            add_by(rows, &routes);
+            drop(routes);
+        }
         Err(NoMemory) => rows.lose(),
     }
 }

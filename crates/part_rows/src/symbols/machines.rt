@@ -1,24 +1,22 @@
-//! The machines of a protocol.
-use crate::symbols::parts::add_numbers;
-use crate::symbols::types::add_fields;
+// The machines of a protocol.
+use crate::lists::show_all;
+use crate::symbols::list::{Declared, add_list, add_named};
 use row_text::RowText;
 use ruby_symbols::{
-    ActionSymbol, BufferSymbol, FormalSymbol, FunctionSymbol, MachineSymbols, PortSymbol, Symbols,
+    ActionSymbol, BufferSymbol, FormalSymbol, FunctionSymbol, MachineSymbols, PortSymbol,
     TableSort, TableSymbol, TransitionSymbol,
 };
 use ruby_value::BufferPlace;
 
-// The head of what is declared: a word, its number and its name.
-fn add_head(rows: &mut RowText, word: &str, number: usize, name: &[u8]) {
-    rows.show(word, &number);
-    rows.add(" ");
-    rows.add_bytes(name);
+// Numbers that may not be there, each after a word.
+fn add_numbers(rows: &mut RowText, numbers: &[(&str, Option<u16>)]) {
+    for (word, number) in numbers {
+        rows.debug(word, number);
+    }
 }
 
-fn add_table(rows: &mut RowText, number: usize, t: &TableSymbol) {
-    add_head(rows, "  table ", number, &t.name);
-    rows.show(" structure ", &t.structure);
-    match t.sort {
+fn add_sort(rows: &mut RowText, sort: TableSort) {
+    match sort {
         TableSort::Cache => rows.add(" cache\n"),
         TableSort::Directory => rows.add(" directory\n"),
         TableSort::Tbe { entries } => {
@@ -28,11 +26,16 @@ fn add_table(rows: &mut RowText, number: usize, t: &TableSymbol) {
     }
 }
 
-fn add_buffer(rows: &mut RowText, number: usize, b: &BufferSymbol) {
-    add_head(rows, "  buffer ", number, &b.name);
-    rows.debug(" message ", &b.message);
-    rows.show(" ordered ", &b.ordered);
-    match b.place {
+impl Declared for TableSymbol {
+    fn add(&self, rows: &mut RowText, word: &str, number: usize) {
+        add_named(rows, word, number, &self.name);
+        rows.show(" structure ", &self.structure);
+        add_sort(rows, self.sort);
+    }
+}
+
+fn add_place(rows: &mut RowText, place: BufferPlace) {
+    match place {
         BufferPlace::Local => rows.add(" local"),
         BufferPlace::To {
             network,
@@ -43,14 +46,23 @@ fn add_buffer(rows: &mut RowText, number: usize, b: &BufferSymbol) {
         }
         BufferPlace::From { network } => rows.show(" from ", &network),
     }
-    rows.add("\n");
 }
 
-fn add_ports(rows: &mut RowText, word: &str, ports: &[PortSymbol]) {
-    for (number, p) in ports.iter().enumerate() {
-        add_head(rows, word, number, &p.name);
-        rows.show(" on ", &p.buffer);
-        rows.show(" at ", &p.declaration);
+impl Declared for BufferSymbol {
+    fn add(&self, rows: &mut RowText, word: &str, number: usize) {
+        add_named(rows, word, number, &self.name);
+        rows.debug(" message ", &self.message);
+        rows.show(" ordered ", &self.ordered);
+        add_place(rows, self.place);
+        rows.add("\n");
+    }
+}
+
+impl Declared for PortSymbol {
+    fn add(&self, rows: &mut RowText, word: &str, number: usize) {
+        add_named(rows, word, number, &self.name);
+        rows.show(" on ", &self.buffer);
+        rows.show(" at ", &self.declaration);
         rows.add("\n");
     }
 }
@@ -63,44 +75,46 @@ fn add_formal(rows: &mut RowText, formal: &FormalSymbol) {
     rows.debug(" ", &formal.kind);
 }
 
-fn add_function(rows: &mut RowText, number: usize, f: &FunctionSymbol) {
-    add_head(rows, "  function ", number, &f.name);
-    rows.show(" at ", &f.declaration);
-    rows.debug(" gives ", &f.result);
-    rows.add(" takes");
-    for formal in &f.formals {
-        add_formal(rows, formal);
+impl Declared for FunctionSymbol {
+    fn add(&self, rows: &mut RowText, word: &str, number: usize) {
+        add_named(rows, word, number, &self.name);
+        rows.show(" at ", &self.declaration);
+        rows.debug(" gives ", &self.result);
+        rows.add(" takes");
+        for formal in &self.formals {
+            add_formal(rows, formal);
+        }
+        rows.add("\n");
     }
-    rows.add("\n");
 }
 
-fn add_action(rows: &mut RowText, number: usize, a: &ActionSymbol) {
-    add_head(rows, "  action ", number, &a.name);
-    rows.show(" at ", &a.declaration);
-    rows.add("\n");
+impl Declared for ActionSymbol {
+    fn add(&self, rows: &mut RowText, word: &str, number: usize) {
+        add_named(rows, word, number, &self.name);
+        rows.show(" at ", &self.declaration);
+        rows.add("\n");
+    }
 }
 
-fn add_transition(rows: &mut RowText, number: usize, t: &TransitionSymbol) {
-    rows.show("  transition ", &number);
-    rows.add(" from");
-    add_numbers(rows, &t.states);
-    rows.add(" on");
-    add_numbers(rows, &t.events);
-    rows.debug(" to ", &t.next);
-    rows.add(" does");
-    add_numbers(rows, &t.actions);
-    rows.add("\n");
+impl Declared for TransitionSymbol {
+    fn add(&self, rows: &mut RowText, word: &str, number: usize) {
+        rows.show(word, &number);
+        rows.add(" from");
+        show_all(rows, " ", self.states.as_slice());
+        rows.add(" on");
+        show_all(rows, " ", self.events.as_slice());
+        rows.debug(" to ", &self.next);
+        rows.add(" does");
+        show_all(rows, " ", self.actions.as_slice());
+        rows.add("\n");
+    }
 }
 
 fn add_objects(rows: &mut RowText, m: &MachineSymbols) {
-    for (number, t) in m.tables.iter().enumerate() {
-        add_table(rows, number, t);
-    }
-    add_fields(rows, "  value ", &m.values);
-    add_fields(rows, "  reference ", &m.references);
-    for (number, b) in m.buffers.iter().enumerate() {
-        add_buffer(rows, number, b);
-    }
+    add_list(rows, "  table ", m.tables.as_slice());
+    add_list(rows, "  value ", m.values.as_slice());
+    add_list(rows, "  reference ", m.references.as_slice());
+    add_list(rows, "  buffer ", m.buffers.as_slice());
     if let Some(sequencer) = &m.sequencer {
         rows.add("  sequencer ");
         rows.add_bytes(sequencer);
@@ -109,40 +123,45 @@ fn add_objects(rows: &mut RowText, m: &MachineSymbols) {
 }
 
 fn add_bodies(rows: &mut RowText, m: &MachineSymbols) {
-    add_ports(rows, "  in port ", &m.in_ports);
-    add_ports(rows, "  out port ", &m.out_ports);
-    for (number, f) in m.functions.iter().enumerate() {
-        add_function(rows, number, f);
-    }
-    for (number, a) in m.actions.iter().enumerate() {
-        add_action(rows, number, a);
-    }
-    for (number, t) in m.transitions.iter().enumerate() {
-        add_transition(rows, number, t);
-    }
+    add_list(rows, "  in port ", m.in_ports.as_slice());
+    add_list(rows, "  out port ", m.out_ports.as_slice());
+    add_list(rows, "  function ", m.functions.as_slice());
+    add_list(rows, "  action ", m.actions.as_slice());
+    add_list(rows, "  transition ", m.transitions.as_slice());
 }
 
-fn add_machine(rows: &mut RowText, number: usize, m: &MachineSymbols) {
-    add_head(rows, "machine ", number, &m.name);
-    rows.show(" states ", &m.states);
-    rows.show(" events ", &m.events);
-    rows.add("\n  permissions");
-    add_numbers(rows, &m.permissions);
-    rows.debug("\n  entry ", &m.entry);
-    rows.debug(" directory ", &m.directory);
-    rows.debug(" TBE ", &m.tbe);
-    rows.add("\n");
-    add_objects(rows, m);
-    add_bodies(rows, m);
-    rows.debug("  getState ", &m.get_state);
-    rows.debug(" setState ", &m.set_state);
-    rows.debug(" setAccessPermission ", &m.set_permission);
-    rows.debug(" z_stall ", &m.stall);
+// The numbers that a machine has of its structures, and of its functions and its action with a meaning of their own.
+fn add_structures(rows: &mut RowText, m: &MachineSymbols) {
+    let structures = [
+        ("\n  entry ", m.entry),
+        (" directory ", m.directory),
+        (" TBE ", m.tbe),
+    ];
+    add_numbers(rows, &structures);
     rows.add("\n");
 }
 
-pub(crate) fn add_machines(rows: &mut RowText, symbols: &Symbols) {
-    for (number, m) in symbols.machines.iter().enumerate() {
-        add_machine(rows, number, m);
+fn add_calls(rows: &mut RowText, m: &MachineSymbols) {
+    let calls = [
+        ("  getState ", m.get_state),
+        (" setState ", m.set_state),
+        (" setAccessPermission ", m.set_permission),
+        (" z_stall ", m.stall),
+    ];
+    add_numbers(rows, &calls);
+    rows.add("\n");
+}
+
+impl Declared for MachineSymbols {
+    fn add(&self, rows: &mut RowText, word: &str, number: usize) {
+        add_named(rows, word, number, &self.name);
+        rows.show(" states ", &self.states);
+        rows.show(" events ", &self.events);
+        rows.add("\n  permissions");
+        show_all(rows, " ", self.permissions.as_slice());
+        add_structures(rows, self);
+        add_objects(rows, self);
+        add_bodies(rows, self);
+        add_calls(rows, self);
     }
 }

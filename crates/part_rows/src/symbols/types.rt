@@ -1,47 +1,47 @@
-//! The types of a protocol.
-use crate::symbols::parts::add_value;
+// The types of a protocol.
+use crate::lists::add_names;
+use crate::symbols::list::{Declared, add_list, add_named};
 use row_text::RowText;
-use ruby_symbols::{EnumerationSymbol, FieldSymbol, StructureSymbol, Symbols};
+use ruby_symbols::{EnumerationSymbol, FieldSymbol, StructureSymbol};
+use ruby_value::Value;
 
-fn add_enumeration(rows: &mut RowText, number: usize, e: &EnumerationSymbol) {
-    rows.show("enumeration ", &number);
-    rows.add(" ");
-    rows.add_bytes(&e.name);
-    rows.debug(" of ", &e.machine);
-    rows.show(" default ", &e.default);
-    rows.add(":");
-    for member in &e.members {
-        rows.add(" ");
-        rows.add_bytes(member);
+impl Declared for EnumerationSymbol {
+    fn add(&self, rows: &mut RowText, word: &str, number: usize) {
+        add_named(rows, word, number, &self.name);
+        rows.debug(" of ", &self.machine);
+        rows.show(" default ", &self.default);
+        rows.add(":");
+        add_names(rows, self.members.as_slice());
+        rows.add("\n");
+    }
+}
+
+// A value that isn't empty by its kind, with the end of the line.
+fn add_value(rows: &mut RowText, value: &Value) {
+    match value {
+        Value::Bool(b) => rows.show(" = ", b),
+        Value::Int(n) => rows.show(" = ", n),
+        Value::Enum(_, member) => rows.show(" = ", member),
+        Value::Addr(address) => rows.show(" = ", address),
+        Value::Machine(controller) => rows.show(" = ", controller),
+        Value::Dest(_) | Value::Block(_) | Value::Entry(_) | Value::Tbe(_) => {}
     }
     rows.add("\n");
 }
 
-/// Fields with their numbers, each a line, which begins with a word.
-pub(crate) fn add_fields(rows: &mut RowText, word: &str, fields: &[FieldSymbol]) {
-    for (number, field) in fields.iter().enumerate() {
-        rows.show(word, &number);
-        rows.add(" ");
-        rows.add_bytes(&field.name);
-        rows.debug(" ", &field.kind);
-        add_value(rows, &field.initial);
+impl Declared for FieldSymbol {
+    fn add(&self, rows: &mut RowText, word: &str, number: usize) {
+        add_named(rows, word, number, &self.name);
+        rows.debug(" ", &self.kind);
+        add_value(rows, &self.initial);
     }
 }
 
-fn add_structure(rows: &mut RowText, number: usize, s: &StructureSymbol) {
-    rows.show("structure ", &number);
-    rows.add(" ");
-    rows.add_bytes(&s.name);
-    rows.debug(" of ", &s.machine);
-    rows.add("\n");
-    add_fields(rows, "  field ", &s.fields);
-}
-
-pub(crate) fn add_types(rows: &mut RowText, symbols: &Symbols) {
-    for (number, e) in symbols.enumerations.iter().enumerate() {
-        add_enumeration(rows, number, e);
-    }
-    for (number, s) in symbols.structures.iter().enumerate() {
-        add_structure(rows, number, s);
+impl Declared for StructureSymbol {
+    fn add(&self, rows: &mut RowText, word: &str, number: usize) {
+        add_named(rows, word, number, &self.name);
+        rows.debug(" of ", &self.machine);
+        rows.add("\n");
+        add_list(rows, "  field ", self.fields.as_slice());
     }
 }

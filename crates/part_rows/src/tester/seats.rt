@@ -27,13 +27,11 @@ fn seats_of(alloc: Global, sequencers: &mut [Sequencer]) -> Result<OwnedSeats, N
 }
 
 // Puts the sequencers back where they were.
-fn put_back(seats: Vec<OwnedSeat>, sequencers: &mut [Sequencer]) {
-    let mut k = 0;
-    for seat in seats {
-        if let Some(sequencer) = seat.sequencer {
+fn put_back(seats: &mut [OwnedSeat], sequencers: &mut [Sequencer]) {
+    for (k, seat) in seats.iter_mut().enumerate() {
+        if let Some(moved) = &mut seat.sequencer {
             if k < sequencers.len() {
-                sequencers[k] = sequencer;
-                k += 1;
+                mem::swap(moved, &mut sequencers[k]);
             }
         }
     }
@@ -58,11 +56,16 @@ pub(crate) fn turn(
     requires cycle { now ≤ 10 ^ 12 }
 {
     let mut seats = seats_of(rows.alloc(), sequencers)?;
-    tester.reserve(now, &mut seats)?;
+    if tester.reserve(now, &mut seats).is_err() {
+        drop(seats);
+        return Err(NoMemory);
+    }
     seats.fits();
     let end = tester.turn(now, &mut seats);
     add_requests(rows, now, seats.issued());
     let issued = seats.issued().len();
-    put_back(seats.into_seats(), sequencers);
+    let mut seats = seats.into_seats();
+    put_back(&mut seats, sequencers);
+    drop(seats);
     Ok(Turned { issued, end })
 }

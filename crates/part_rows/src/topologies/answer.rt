@@ -1,26 +1,17 @@
 // What is told of a topology, or of its fault.
+use crate::lists::{add_names, show_all};
 use row_text::RowText;
-use ruby_base::{Seq, Text};
+use ruby_base::Seq;
 use ruby_topology::{Routes, Seat, Sizes, TopoFault, Topology};
 
 // More controllers than these have their paths printed as a sum and a number that tells two tables apart.
 const FEW: usize = 4;
 
-fn add_names(rows: &mut RowText, names: &[Text]) {
-    rows.add("; names");
-    for name in names {
-        rows.add(" ");
-        rows.add_bytes(name);
-    }
-}
-
 fn add_paths(rows: &mut RowText, paths: &[Seq<u64>]) {
     rows.add("; paths");
     for row in paths {
         rows.add(" /");
-        for path in row {
-            rows.show(" ", path);
-        }
+        show_all(rows, " ", row.as_slice());
     }
 }
 
@@ -106,10 +97,9 @@ fn add_seats(rows: &mut RowText, seats: &[Seat]) {
 
 fn add_topology(rows: &mut RowText, topology: &Topology) {
     rows.add("counts");
-    for count in &topology.counts {
-        rows.show(" ", count);
-    }
+    show_all(rows, " ", topology.counts.as_slice());
     if topology.names().len() <= FEW {
+        rows.add("; names");
         add_names(rows, topology.names().as_slice());
     }
     add_routes(rows, &topology.routes);

@@ -2,7 +2,6 @@
 use crate::protocols::plan_in;
 use crate::topologies::answer::add_answer;
 use row_text::RowText;
-use ruby_base::{NoMemory, Seq, Text};
 use ruby_outside::Library;
 use ruby_topology::{TopoFault, Topology, plain, read_topology};
 use sample_stores::let_go;
@@ -21,39 +20,35 @@ fn meant(b: u8) -> u8 {
     }
 }
 
-// The topology of a row.
-fn file_of(alloc: Global, row: &[u8]) -> Result<Text, NoMemory> {
-    let mut file = Seq::new(alloc);
-    for b in row {
-        file.push(meant(*b))?;
+// Adds the file of a row: a topology, or one comment of the greatest size.
+fn add_file(file: &mut RowText, row: &str) {
+    if row == "comment" {
+        for _ in 0..LARGEST {
+            file.add("#");
+        }
+    } else {
+        for b in row.as_bytes() {
+            file.add_bytes(&[meant(*b)]);
+        }
     }
-    Ok(file)
 }
 
-// A file of the greatest size that is one comment.
-fn comment(alloc: Global) -> Result<Text, NoMemory> {
-    let bytes = vec![in alloc; b'#'; LARGEST]?;
-    Ok(Text::of(bytes))
-}
-
-fn read(alloc: Global, file: &[u8], plan: &Plan) -> Result<Topology, TopoFault> {
-    if LARGEST < file.len() {
+fn read(alloc: Global, file: &RowText, plan: &Plan) -> Result<Topology, TopoFault> {
+    let bytes = file.bytes();
+    if LARGEST < bytes.len() || !file.is_whole() {
         return Err(TopoFault::NoMemory);
     }
-    read_topology(alloc, file, plan)
+    read_topology(alloc, bytes, plan)
 }
 
-// The answer for a row: a plain run, a comment, or a topology.
+// The answer for a row: a plain run, or what the topology of its file is.
 fn answer(alloc: Global, row: &str, plan: &Plan) -> Result<Topology, TopoFault> {
     if row == "plain" {
         return plain(alloc, plan);
     }
-    let file = if row == "comment" {
-        comment(alloc)?
-    } else {
-        file_of(alloc, row.as_bytes())?
-    };
-    let topology = read(alloc, file.as_slice(), plan);
+    let mut file = RowText::new(alloc);
+    add_file(&mut file, row);
+    let topology = read(alloc, &file, plan);
     drop(file);
     topology
 }
@@ -62,7 +57,9 @@ fn answer(alloc: Global, row: &str, plan: &Plan) -> Result<Topology, TopoFault> 
 fn add_line<L: Library>(rows: &mut RowText, library: &mut L, protocol: &str, row: &str) {
     match plan_in(rows, library, "topologies", protocol) {
         Some(plan) => {
-            add_answer(rows, &answer(rows.alloc(), row, &plan));
+            let answer = answer(rows.alloc(), row, &plan);
+            add_answer(rows, &answer);
+            drop(answer);
             let_go(plan);
         }
         None => rows.add("no plan\n"),

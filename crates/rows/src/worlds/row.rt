@@ -18,32 +18,29 @@ pub(crate) struct Row<'a> {
 // The greatest bound on cycles.
 const LAST_CYCLE: u64 = 1_000_000_000_000;
 
-/// The row that a line says, if it says one.
-pub(crate) fn row_of<'a>(line: &'a str) -> Option<Row<'a>>
+/// The row that the words of a line say, if they say one.
+pub(crate) fn row_of(words: &[String]) -> Option<Row<'_>>
     ensures { IfSome result (λ row. row.limits.cycles ≤ last_cycle) }
 {
-    let mut words = line.split_whitespace();
-    let name = words.next()?;
-    let protocol = words.next()?;
-    let topology = words.next()?;
-    let script = words.next()?;
-    let seed = words.next()?.parse::<u64>().ok()?;
-    let cycles = words.next()?.parse::<u64>().ok()?;
-    let limit = words.next()?.parse::<u64>().ok()?;
-    let whole = words.next()? == "journal";
+    let [name, protocol, topology, script, seed, cycles, limit, shown] = words else {
+        return None;
+    };
+    let seed = seed.as_str().parse::<u64>().ok()?;
+    let cycles = cycles.as_str().parse::<u64>().ok()?;
+    let limit = limit.as_str().parse::<u64>().ok()?;
     if cycles > LAST_CYCLE {
         return None;
     }
     Some(Row {
-        name,
-        protocol,
-        topology,
-        script,
+        name: name.as_str(),
+        protocol: protocol.as_str(),
+        topology: topology.as_str(),
+        script: script.as_str(),
         limits: RunLimits {
             seed,
             cycles,
             limit,
         },
-        whole,
+        whole: shown.as_str() == "journal",
     })
 }

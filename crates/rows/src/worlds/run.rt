@@ -12,7 +12,7 @@ use ruby_options::{Command, Options};
 use ruby_outside::{Got, Library, Sink};
 use ruby_topology::{TopoFault, Topology, read_topology};
 use ruby_world::{RunLimits, RunRecord, run_whole};
-use sample_stores::plan_of;
+use sample_stores::{let_go, plan_of};
 use scripted_driver::Script;
 use slicc_interpreter::Interpreted;
 use slicc_plan::{Plan, copy_plan};
@@ -111,44 +111,61 @@ fn run_of(
     )
 }
 
-// The run of a plan over the topology that a file's bytes say.
-fn write_over<S: Sink>(
+// The run of a plan over the topology that a file's bytes say, if they say one.
+fn run_over(
     alloc: Global,
-    sink: &mut S,
-    row: &Row<'_>,
+    limits: &RunLimits,
     plan: Plan,
     bytes: &[u8],
     script: Script,
-) -> Result<bool, NoMemory>
-    requires cycles { row.now.limits.cycles ≤ last_cycle }
+) -> Option<RunRecord>
+    requires cycles { limits.now.cycles ≤ last_cycle }
     requires length { length bytes.now ≤ 1048576 }
     requires opening { opening script ≡ script }
 {
     match topology_of(alloc, bytes, &plan) {
-        Ok(topology) => {
-            let record = run_of(alloc, &row.limits, plan, topology, script)?;
-            Ok(write_record(alloc, sink, &record, row.whole))
+        Ok(topology) => run_of(alloc, limits, plan, topology, script).ok(),
+        Err(_) => {
+            let_go(plan);
+            drop(script);
+            None
         }
-        Err(_) => Ok(false),
     }
 }
 
 // The run of a protocol over these bytes of a topology's file, by these of a script's.
-fn write_by<L: Library, S: Sink>(
+fn run_by<L: Library>(
     alloc: Global,
     library: &mut L,
-    sink: &mut S,
     row: &Row<'_>,
     topology: &[u8],
     script: &[u8],
-) -> Result<bool, NoMemory>
+) -> Option<RunRecord>
     requires cycles { row.now.limits.cycles ≤ last_cycle }
     requires length { length topology.now ≤ 1048576 }
 {
-    let script = script_of(alloc, script)?;
-    match plan_of(alloc, library, row.protocol)? {
-        Some(plan) => write_over(alloc, sink, row, plan, topology, script),
-        None => Ok(false),
+    let Ok(script) = script_of(alloc, script) else {
+        return None;
+    };
+    match plan_of(alloc, library, row.protocol) {
+        Ok(Some(plan)) => run_over(alloc, &row.limits, plan, topology, script),
+        Ok(None) | Err(NoMemory) => {
+            drop(script);
+            None
+        }
+    }
+}
+
+// The run of a row, if its files can be read and aren't refused.
+fn record_of<L: Library>(alloc: Global, library: &mut L, row: &Row<'_>) -> Option<RunRecord>
+    requires { row.now.limits.cycles ≤ last_cycle }
+{
+    let Some(topology) = bytes_of(library, row.topology, FILE_LIMIT) else {
+        return None;
+    };
+    match bytes_of(library, row.script, SCRIPT_LIMIT) {
+        Some(script) => run_by(alloc, library, row, topology.as_slice(), script.as_slice()),
+        None => None,
     }
 }
 
@@ -158,22 +175,15 @@ pub(crate) fn write_run<L: Library, S: Sink>(
     library: &mut L,
     sink: &mut S,
     row: &Row<'_>,
-) -> Result<bool, NoMemory>
+) -> bool
     requires { row.now.limits.cycles ≤ last_cycle }
 {
-    let topology = bytes_of(library, row.topology, FILE_LIMIT);
-    let script = bytes_of(library, row.script, SCRIPT_LIMIT);
-    match (topology, script) {
-        (Some(topology), Some(script)) => {
-            write_by(
-                alloc,
-                library,
-                sink,
-                row,
-                topology.as_slice(),
-                script.as_slice(),
-            )
+    match record_of(alloc, library, row) {
+        Some(record) => {
+            let is_written = write_record(alloc, sink, &record, row.whole);
+            drop(record);
+            is_written
         }
-        _ => Ok(false),
+        None => false,
     }
 }
