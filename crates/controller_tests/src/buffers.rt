@@ -1,8 +1,8 @@
+use crate::answers::is_done;
 use crate::copies::{copy, is_count, number};
-use crate::players::{Plays, first_wrong};
+use crate::players::Plays;
 use msg_buffer::{Buffer, NotReady};
 use std::alloc::Global;
-use std::test::Fail;
 
 /// A call on a buffer, and its answer. Messages are named by their counts.
 pub(crate) enum Step {
@@ -25,17 +25,23 @@ pub(crate) enum Step {
 }
 
 impl Plays for Buffer {
+    type Setup = &'static str;
+
     type Step = Step;
+
+    fn begun(alloc: Global, _shown: &&'static str) -> Option<Buffer> {
+        Some(Buffer::new(alloc))
+    }
 
     fn is_so(&mut self, alloc: Global, step: &Step) -> bool {
         match step {
             Step::Put(count, arrival) => {
                 let number = number(*count);
-                self.is_new(number) && self.put(copy(alloc, number, *arrival)).is_ok()
+                self.is_new(number) && is_done(self.put(copy(alloc, number, *arrival)))
             }
             Step::Back(count, arrival) => {
                 let number = number(*count);
-                self.is_new(number) && self.back(copy(alloc, number, *arrival)).is_ok()
+                self.is_new(number) && is_done(self.back(copy(alloc, number, *arrival)))
             }
             Step::PutReserved(count, arrival) => {
                 let number = number(*count);
@@ -46,8 +52,12 @@ impl Plays for Buffer {
                 true
             }
             Step::Front(now, count) => is_count(self.front(*now), *count),
-            Step::Popped(now, count) => match &self.pop(*now) {
-                Ok(m) => is_count(Some(m), *count),
+            Step::Popped(now, count) => match self.pop(*now) {
+                Ok(m) => {
+                    let number = m.number;
+                    drop(m);
+                    *count == Some(number.count)
+                }
                 Err(NotReady) => count.is_none(),
             },
             Step::Recycled(now, arrival, count) => match self.recycle(*now, *arrival) {
@@ -110,21 +120,8 @@ const RECYCLED: &[Step] = &[
     Step::Counts(0, 0),
 ];
 
-const BUFFERS: &[(&str, &[Step])] = &[
+pub(crate) const LISTS: &[(&str, &[Step])] = &[
     ("messages become ready by arrival and number", ORDER),
     ("a woken message is first again", WOKEN),
     ("a recycled message arrives again later", RECYCLED),
 ];
-
-#[test]
-fn a_buffer_gives_its_messages_by_arrival_and_number(rt: HostRuntime) -> Result<(), Fail> {
-    for (name, steps) in BUFFERS {
-        let mut buffer = Buffer::new(rt.alloc());
-        assert_eq!(rt;
-            first_wrong(rt.alloc(), &mut buffer, *steps),
-            None,
-            "{name}"
-        );
-    }
-    Ok(())
-}

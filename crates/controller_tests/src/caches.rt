@@ -1,10 +1,9 @@
-use crate::answers::is_answer;
-use crate::players::{Plays, first_wrong};
+use crate::answers::{is_answer, left_number};
+use crate::players::Plays;
 use cache_array::{CacheArray, CacheFault};
 use ruby_value::Value;
 use sample_controllers::{number_of, one_field};
 use std::alloc::Global;
-use std::test::Fail;
 
 /// A call on a cache, and its answer.
 pub(crate) enum Step {
@@ -29,7 +28,18 @@ pub(crate) enum Step {
 }
 
 impl Plays for CacheArray {
+    type Setup = (u32, u32);
+
     type Step = Step;
+
+    fn begun(alloc: Global, sets_of_ways: &(u32, u32)) -> Option<CacheArray> {
+        let (sets, ways) = *sets_of_ways;
+        let lines = sets.checked_mul(ways)?;
+        if sets == 0 || ways == 0 || lines > 65536 {
+            return None;
+        }
+        CacheArray::new(alloc, sets, ways).ok()
+    }
 
     fn is_so(&mut self, alloc: Global, step: &Step) -> bool {
         match step {
@@ -37,9 +47,9 @@ impl Plays for CacheArray {
                 let Ok(fields) = one_field(alloc, Value::Int(*n)) else {
                     return false;
                 };
-                match &self.allocate(*line, fields) {
+                match self.allocate(*line, fields) {
                     Ok(()) => refused.is_none(),
-                    Err((fault, back)) => *refused == Some(*fault) && number_of(back) == Some(*n),
+                    Err((fault, back)) => *refused == Some(fault) && left_number(back) == Some(*n),
                 }
             }
             Step::Recent(line, is_there) => match self.set_mru(*line) {
@@ -50,12 +60,12 @@ impl Plays for CacheArray {
             Step::Used(line, place, found) => self.used(*line, *place) == *found,
             Step::Available(line, want) => self.avail(*line) == *want,
             Step::Present(line, want) => self.is_tag_present(*line) == *want,
-            Step::Deallocated(line, n) => match &self.deallocate(*line) {
-                Ok(fields) => n.is_some() && number_of(fields) == *n,
-                Err(fault) => n.is_none() && *fault == CacheFault::NotThere,
+            Step::Deallocated(line, n) => match self.deallocate(*line) {
+                Ok(fields) => left_number(fields) == *n && n.is_some(),
+                Err(fault) => n.is_none() && fault == CacheFault::NotThere,
             },
             Step::Written(line, n, is_taken) => {
-                is_answer(&self.set_field(*line, 0, Value::Int(*n)), *n, *is_taken)
+                is_answer(self.set_field(*line, 0, Value::Int(*n)), *n, *is_taken)
             }
             Step::Held(line, n) => match self.lookup(*line) {
                 Some(fields) => n.is_some() && number_of(fields) == *n,
@@ -63,15 +73,6 @@ impl Plays for CacheArray {
             },
         }
     }
-}
-
-/// A cache, if one may be so.
-fn cache(alloc: Global, sets: u32, ways: u32) -> Option<CacheArray> {
-    let lines = sets.checked_mul(ways)?;
-    if sets == 0 || ways == 0 || lines > 65536 {
-        return None;
-    }
-    CacheArray::new(alloc, sets, ways).ok()
 }
 
 const TWO_WAYS: &[Step] = &[
@@ -132,23 +133,10 @@ const MANY_WAYS: &[Step] = &[
 ];
 
 /// Sets and ways of caches, and what is played on each.
-const CACHES: &[(u32, u32, &[Step])] = &[
-    (1, 2, TWO_WAYS),
-    (3, 1, THREE_SETS),
-    (4, 1, FOUR_SETS),
-    (65536, 1, MANY_SETS),
-    (1, 65536, MANY_WAYS),
+pub(crate) const LISTS: &[((u32, u32), &[Step])] = &[
+    ((1, 2), TWO_WAYS),
+    ((3, 1), THREE_SETS),
+    ((4, 1), FOUR_SETS),
+    ((65536, 1), MANY_SETS),
+    ((1, 65536), MANY_WAYS),
 ];
-
-#[test]
-fn a_set_replaces_its_least_recently_used_line(rt: HostRuntime) -> Result<(), Fail> {
-    for (sets, ways, steps) in CACHES {
-        let mut cache = cache(rt.alloc(), *sets, *ways).ok_or("no such cache")?;
-        assert_eq!(rt;
-            first_wrong(rt.alloc(), &mut cache, *steps),
-            None,
-            "{sets} sets of {ways}"
-        );
-    }
-    Ok(())
-}

@@ -24,14 +24,11 @@ pub(crate) fn is_count(lent: Option<&Message>, count: Option<u64>) -> bool {
 }
 
 /// Whether the copies have these counts and arrivals, in this order.
-pub(crate) fn are_copies(messages: &Seq<Message>, wanted: &[(u64, u64)]) -> bool {
-    if messages.len() != wanted.len() {
-        return false;
-    }
+pub(crate) fn are_copies(messages: Seq<Message>, wanted: &[(u64, u64)]) -> bool {
+    let mut are_so = messages.len() == wanted.len();
     for (m, (count, arrival)) in messages.as_slice().iter().zip(wanted) {
-        if m.number.count != *count || m.arrival != *arrival {
-            return false;
-        }
+        are_so &= m.number.count == *count && m.arrival == *arrival;
     }
-    true
+    drop(messages);
+    are_so
 }

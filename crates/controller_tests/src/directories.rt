@@ -1,10 +1,9 @@
-use crate::answers::is_answer;
-use crate::players::{Plays, first_wrong};
+use crate::answers::{is_answer, is_done};
+use crate::players::Plays;
 use cache_array::DirMemory;
 use ruby_value::Value;
 use sample_controllers::{number_of, one_field};
 use std::alloc::Global;
-use std::test::Fail;
 
 /// A call on a directory, and its answer.
 pub(crate) enum Step {
@@ -19,18 +18,27 @@ pub(crate) enum Step {
 }
 
 impl Plays for DirMemory {
+    type Setup = i64;
+
     type Step = Step;
+
+    fn begun(alloc: Global, initial: &i64) -> Option<DirMemory> {
+        match one_field(alloc, Value::Int(*initial)) {
+            Ok(fields) => Some(DirMemory::new(alloc, fields)),
+            Err(_) => None,
+        }
+    }
 
     fn is_so(&mut self, alloc: Global, step: &Step) -> bool {
         match step {
             Step::Held(line, n) => number_of(self.lookup(*line)) == Some(*n),
             Step::Written(line, n) => match one_field(alloc, Value::Int(*n)) {
-                Ok(fields) => self.write(*line, fields).is_ok(),
+                Ok(fields) => is_done(self.write(*line, fields)),
                 Err(_) => false,
             },
             Step::Reserved(more) => self.reserve(*more).is_ok(),
             Step::FieldWritten(line, n, is_taken) => {
-                is_answer(&self.set_field(*line, 0, Value::Int(*n)), *n, *is_taken)
+                is_answer(self.set_field(*line, 0, Value::Int(*n)), *n, *is_taken)
             }
         }
     }
@@ -48,9 +56,5 @@ const STEPS: &[Step] = &[
     Step::Held(0x40, 5),
 ];
 
-#[test]
-fn each_line_of_a_directory_has_fields(rt: HostRuntime) -> Result<(), Fail> {
-    let mut memory = DirMemory::new(rt.alloc(), one_field(rt.alloc(), Value::Int(0))?);
-    assert_eq!(rt; first_wrong(rt.alloc(), &mut memory, STEPS), None);
-    Ok(())
-}
+/// The number of a line that wasn't written, and what is played on a directory.
+pub(crate) const LISTS: &[(i64, &[Step])] = &[(0, STEPS)];

@@ -1,32 +1,21 @@
 // The entries of one controller, for which the program never asks.
-use run_journal::{End, Entry, Fault, FireNote, MsgNo, NoMemory, Sent, Seq, StopAt, part};
+use crate::answers::is_done;
+use crate::players::Plays;
+use run_journal::{End, Entry, FireNote, MsgNo, NoMemory, Sent, Seq, part};
 use std::alloc::Global;
-use std::test::Fail;
 
 /// An entry of a journal.
-enum Row {
+pub(crate) enum Row {
     /// The turn of a cycle.
     Turned(u64),
     /// A controller's transition, which consumes a request and sends two copies.
     Fired(u32),
-    Idle(u32),
-    /// A controller without a transition.
-    Stopped(u32),
+    /// The end of a controller's wake-up.
+    Ended(u32),
 }
 
-/// Two controllers: number 1 gets a request and sends a copy to both, for which neither has a transition.
-const BROADCAST: &[Row] = &[
-    Row::Turned(0),
-    Row::Fired(1),
-    Row::Idle(1),
-    Row::Turned(1),
-    Row::Stopped(0),
-    Row::Stopped(1),
-    Row::Turned(2),
-];
-
-/// Controllers, and the places of their entries.
-const PARTS: &[(u32, &[usize])] = &[(0, &[4]), (1, &[1, 2, 5]), (2, &[])];
+/// A controller, and how many entries of a journal are its own.
+pub(crate) struct Step(u32, usize);
 
 const ASKED: MsgNo = MsgNo {
     sender: 2,
@@ -65,23 +54,6 @@ fn fired(alloc: Global, controller: u32) -> Result<Entry, NoMemory> {
     })
 }
 
-fn stop() -> End {
-    End::Stop(StopAt {
-        address: Some(64),
-        state: None,
-        event: Some(1),
-        fault: Fault::Invalid,
-    })
-}
-
-fn ended(cycle: u64, controller: u32, end: End) -> Entry {
-    Entry::Ended {
-        cycle,
-        controller,
-        end,
-    }
-}
-
 fn entry(alloc: Global, row: &Row) -> Result<Entry, NoMemory> {
     match row {
         Row::Turned(cycle) => Ok(Entry::Turned {
@@ -91,55 +63,61 @@ fn entry(alloc: Global, row: &Row) -> Result<Entry, NoMemory> {
             verdict: None,
         }),
         Row::Fired(controller) => fired(alloc, *controller),
-        Row::Idle(controller) => Ok(ended(1, *controller, End::Idle)),
-        Row::Stopped(controller) => Ok(ended(2, *controller, stop())),
+        Row::Ended(controller) => Ok(Entry::Ended {
+            cycle: 1,
+            controller: *controller,
+            end: End::Idle,
+        }),
     }
 }
 
-fn journal(alloc: Global) -> Result<Seq<Entry>, NoMemory> {
-    let mut entries = Seq::new(alloc);
-    for row in BROADCAST {
-        entries.push(entry(alloc, row)?)?;
+/// Adds an entry, and tells whether it did.
+fn add(alloc: Global, entries: &mut Seq<Entry>, row: &Row) -> bool {
+    match entry(alloc, row) {
+        Ok(entry) => is_done(entries.push(entry)),
+        Err(NoMemory) => false,
     }
-    Ok(entries)
 }
 
-/// Whether both are written alike, as equal entries are.
-fn are_alike(alloc: Global, a: &Entry, b: &Entry) -> Result<bool, NoMemory> {
-    let text = format!(in alloc; "{a:?}")?;
-    let other = format!(in alloc; "{b:?}")?;
-    Ok(text == other)
-}
+impl Plays for Seq<Entry> {
+    type Setup = &'static [Row];
 
-/// Whether these are the entries at these places of a journal.
-fn are_at(
-    alloc: Global,
-    entries: &Seq<Entry>,
-    all: &Seq<Entry>,
-    places: &[usize],
-) -> Result<bool, NoMemory> {
-    let mut are_so = entries.len() == places.len();
-    for (found, place) in entries.iter().zip(places) {
-        if let Some(wanted) = all.get(*place) {
-            are_so &= are_alike(alloc, found, wanted)?;
+    type Step = Step;
+
+    fn begun(alloc: Global, rows: &&'static [Row]) -> Option<Seq<Entry>> {
+        let mut entries = Seq::new(alloc);
+        for row in *rows {
+            if !add(alloc, &mut entries, row) {
+                break;
+            }
+        }
+        Some(entries)
+    }
+
+    fn is_so(&mut self, alloc: Global, step: &Step) -> bool {
+        match part(alloc, self, step.0) {
+            Ok(entries) => {
+                let count = entries.len();
+                drop(entries);
+                count == step.1
+            }
+            Err(NoMemory) => false,
         }
     }
-    Ok(are_so)
 }
 
-/// Whether each part of a journal has the entries at its places.
-fn are_parts(alloc: Global, all: &Seq<Entry>) -> Result<bool, NoMemory> {
-    let mut are_so = true;
-    for (controller, places) in PARTS {
-        let entries = part(alloc, all, *controller)?;
-        are_so &= are_at(alloc, &entries, all, *places)?;
-    }
-    Ok(are_so)
-}
+/// Two controllers: number 1 gets a request and sends a copy to both, for which neither has a transition.
+const BROADCAST: &[Row] = &[
+    Row::Turned(0),
+    Row::Fired(1),
+    Row::Ended(1),
+    Row::Turned(1),
+    Row::Ended(0),
+    Row::Ended(1),
+    Row::Turned(2),
+];
 
-#[test]
-fn a_part_has_the_entries_of_one_controller(rt: HostRuntime) -> Result<(), Fail> {
-    let all = journal(rt.alloc())?;
-    assert!(rt; are_parts(rt.alloc(), &all)?);
-    Ok(())
-}
+pub(crate) const LISTS: &[(&[Row], &[Step])] = &[(
+    BROADCAST,
+    &[Step(0, 1), Step(1, 3), Step(2, 0)],
+)];

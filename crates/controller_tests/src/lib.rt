@@ -1,5 +1,5 @@
-//! Examples of a controller's parts, worked out by hand: values, their kinds and lists, buffers, stall maps, caches, directories, TBE
-//! tables and sequencers, of random words, and of entries of a journal. Those of a part are lists of steps with their answers.
+//! Examples of a controller's parts, worked out by hand: fields and sets of controllers, buffers, stall maps, caches, directories, TBE
+//! tables and sequencers, of random words, and of a journal. Those of a part are lists of steps with their answers.
 #![tactic(auto)]
 
 #[cfg(test)]
@@ -17,13 +17,13 @@ mod fields;
 #[cfg(test)]
 mod journals;
 #[cfg(test)]
-mod kinds;
-#[cfg(test)]
-mod lists;
+mod parts;
 #[cfg(test)]
 mod players;
 #[cfg(test)]
 mod sequencers;
+#[cfg(test)]
+mod sets;
 #[cfg(test)]
 mod stalls;
 #[cfg(test)]

@@ -2,21 +2,48 @@ use std::alloc::Global;
 
 /// A part of a controller on which steps are played, each a call with its answer.
 pub(crate) trait Plays {
+    /// What the part is begun with, or else what its steps show.
+    type Setup;
+
     type Step;
+
+    /// The part before the first step, if it can be begun.
+    fn begun(alloc: Global, setup: &Self::Setup) -> Option<Self>;
 
     /// Whether the call has this answer.
     fn is_so(&mut self, alloc: Global, step: &Self::Step) -> bool;
 }
 
 /// The first step whose call has another answer.
-pub(crate) fn first_wrong<P: Plays>(
-    alloc: Global,
-    part: &mut P,
-    steps: &[P::Step],
-) -> Option<usize> {
+fn first_wrong<P: Plays>(alloc: Global, part: &mut P, steps: &[P::Step]) -> Option<usize> {
     for (i, step) in steps.iter().enumerate() {
         if !part.is_so(alloc, step) {
             return Some(i);
+        }
+    }
+    None
+}
+
+/// The first step of a list whose call has another answer, or 0 where the part can't be begun.
+fn wrong_step<P: Plays + Drop>(alloc: Global, list: &(P::Setup, &[P::Step])) -> Option<usize> {
+    match P::begun(alloc, &list.0) {
+        Some(mut part) => {
+            let step = first_wrong(alloc, &mut part, list.1);
+            drop(part);
+            step
+        }
+        None => Some(0),
+    }
+}
+
+/// The first list that has such a step, and that step.
+pub(crate) fn wrong<P: Plays + Drop>(
+    alloc: Global,
+    lists: &[(P::Setup, &[P::Step])],
+) -> Option<(usize, usize)> {
+    for (i, list) in lists.iter().enumerate() {
+        if let Some(step) = wrong_step::<P>(alloc, list) {
+            return Some((i, step));
         }
     }
     None

@@ -1,10 +1,9 @@
 ghost use Rattle.std.specs.Prelude.{◌^◌, ◌<◌};
 ghost use Rattle.ruby_value.specs.Requests.{IsRequest};
 
-use crate::players::{Plays, first_wrong};
+use crate::players::Plays;
 use sequencer::{Ask, Asked, BackFault, Block, IssueFault, Sequencer};
 use std::alloc::Global;
-use std::test::Fail;
 
 /// A call on a sequencer, and its answer. Lines and cycles are numbers; of an answer that is taken, the line, the cycle of its issue
 /// and the second byte of its block are told.
@@ -42,7 +41,13 @@ const fn block_of(byte: u8) -> Block {
 }
 
 impl Plays for Sequencer {
+    type Setup = &'static str;
+
     type Step = Step;
+
+    fn begun(alloc: Global, _shown: &&'static str) -> Option<Sequencer> {
+        Some(Sequencer::new(alloc))
+    }
 
     fn is_so(&mut self, _alloc: Global, step: &Step) -> bool {
         match step {
@@ -130,7 +135,7 @@ const OUTSTANDING: &[Step] = &[
     Step::Oldest(Some(3)),
 ];
 
-const SEQUENCERS: &[(&str, &[Step])] = &[
+pub(crate) const LISTS: &[(&str, &[Step])] = &[
     ("a line has one request, and callbacks fit its kind", FAULTS),
     (
         "answers are taken by line and then as they were finished",
@@ -141,16 +146,3 @@ const SEQUENCERS: &[(&str, &[Step])] = &[
         OUTSTANDING,
     ),
 ];
-
-#[test]
-fn a_sequencer_has_one_request_of_a_line(rt: HostRuntime) -> Result<(), Fail> {
-    for (name, steps) in SEQUENCERS {
-        let mut sequencer = Sequencer::new(rt.alloc());
-        assert_eq!(rt;
-            first_wrong(rt.alloc(), &mut sequencer, *steps),
-            None,
-            "{name}"
-        );
-    }
-    Ok(())
-}

@@ -1,9 +1,9 @@
+use crate::answers::is_done;
 use crate::copies::{are_copies, copy, number};
-use crate::players::{Plays, first_wrong};
+use crate::players::Plays;
 use ruby_value::NoMemory;
 use stall_map::StallMap;
 use std::alloc::Global;
-use std::test::Fail;
 
 /// A call on a stall map, and its answer. Messages are named by their counts.
 pub(crate) enum Step {
@@ -33,13 +33,19 @@ fn is_next(map: &StallMap, after: Option<u64>, wanted: Option<(u64, u64)>) -> bo
 }
 
 impl Plays for StallMap {
+    type Setup = &'static str;
+
     type Step = Step;
+
+    fn begun(alloc: Global, _shown: &&'static str) -> Option<StallMap> {
+        Some(StallMap::new(alloc))
+    }
 
     fn is_so(&mut self, alloc: Global, step: &Step) -> bool {
         match step {
             Step::Put(line, count, arrival) => {
                 let number = number(*count);
-                self.is_new(number) && self.put(*line, copy(alloc, number, *arrival)).is_ok()
+                self.is_new(number) && is_done(self.put(*line, copy(alloc, number, *arrival)))
             }
             Step::PutReserved(line, count, arrival) => {
                 let number = number(*count);
@@ -49,8 +55,8 @@ impl Plays for StallMap {
                 self.put_reserved(*line, copy(alloc, number, *arrival));
                 true
             }
-            Step::Woken(line, wanted) => are_copies(&self.wake(*line), wanted),
-            Step::AllWoken(wanted) => match &self.wake_all() {
+            Step::Woken(line, wanted) => are_copies(self.wake(*line), wanted),
+            Step::AllWoken(wanted) => match self.wake_all() {
                 Ok(all) => are_copies(all, wanted),
                 Err(NoMemory) => false,
             },
@@ -92,16 +98,7 @@ const ALL: &[Step] = &[
     Step::Woken(7, &[(1, 6)]),
 ];
 
-const STALLS: &[(&str, &[Step])] = &[
+pub(crate) const LISTS: &[(&str, &[Step])] = &[
     ("a line wakes its messages in increasing number", LINES),
     ("all messages wake in increasing number", ALL),
 ];
-
-#[test]
-fn stalled_messages_wake_in_increasing_number(rt: HostRuntime) -> Result<(), Fail> {
-    for (name, steps) in STALLS {
-        let mut map = StallMap::new(rt.alloc());
-        assert_eq!(rt; first_wrong(rt.alloc(), &mut map, *steps), None, "{name}");
-    }
-    Ok(())
-}

@@ -1,9 +1,8 @@
-use crate::answers::is_answer;
-use crate::players::{Plays, first_wrong};
+use crate::answers::{is_answer, left_number};
+use crate::players::Plays;
 use ruby_value::Value;
 use sample_controllers::{number_of, one_field};
 use std::alloc::Global;
-use std::test::Fail;
 use tbe_table::{TbeFault, TbeTable};
 
 /// A call on a TBE table, and its answer.
@@ -23,7 +22,13 @@ pub(crate) enum Step {
 }
 
 impl Plays for TbeTable {
+    type Setup = u32;
+
     type Step = Step;
+
+    fn begun(alloc: Global, entries: &u32) -> Option<TbeTable> {
+        Some(TbeTable::new(alloc, *entries))
+    }
 
     fn is_so(&mut self, alloc: Global, step: &Step) -> bool {
         match step {
@@ -32,18 +37,18 @@ impl Plays for TbeTable {
                 let Ok(fields) = one_field(alloc, Value::Int(*n)) else {
                     return false;
                 };
-                match &self.allocate(*line, fields) {
+                match self.allocate(*line, fields) {
                     Ok(()) => refused.is_none(),
-                    Err((fault, back)) => *refused == Some(*fault) && number_of(back) == Some(*n),
+                    Err((fault, back)) => *refused == Some(fault) && left_number(back) == Some(*n),
                 }
             }
             Step::Written(line, n, is_taken) => {
-                is_answer(&self.set_field(*line, 0, Value::Int(*n)), *n, *is_taken)
+                is_answer(self.set_field(*line, 0, Value::Int(*n)), *n, *is_taken)
             }
             Step::Reserved(more) => self.reserve(*more).is_ok(),
-            Step::Deallocated(line, n) => match &self.deallocate(*line) {
-                Ok(fields) => n.is_some() && number_of(fields) == *n,
-                Err(fault) => n.is_none() && *fault == TbeFault::NotThere,
+            Step::Deallocated(line, n) => match self.deallocate(*line) {
+                Ok(fields) => left_number(fields) == *n && n.is_some(),
+                Err(fault) => n.is_none() && fault == TbeFault::NotThere,
             },
             Step::Held(line, n) => match self.lookup(*line) {
                 Some(fields) => n.is_some() && number_of(fields) == *n,
@@ -77,17 +82,4 @@ const TWO_ENTRIES: &[Step] = &[
 ];
 
 /// How many entries tables have, and what is played on each.
-const TABLES: &[(u32, &[Step])] = &[(1, ONE_ENTRY), (2, TWO_ENTRIES)];
-
-#[test]
-fn a_table_holds_as_many_lines_as_it_has_entries(rt: HostRuntime) -> Result<(), Fail> {
-    for (entries, steps) in TABLES {
-        let mut table = TbeTable::new(rt.alloc(), *entries);
-        assert_eq!(rt;
-            first_wrong(rt.alloc(), &mut table, *steps),
-            None,
-            "{entries} entries"
-        );
-    }
-    Ok(())
-}
+pub(crate) const LISTS: &[(u32, &[Step])] = &[(1, ONE_ENTRY), (2, TWO_ENTRIES)];

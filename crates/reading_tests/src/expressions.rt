@@ -1,93 +1,151 @@
 ghost use Rattle.std.specs.Prelude.{◌≤◌, length};
 ghost use Rattle.slicc_lex.specs.Syntax.{AreEnded};
 
-use crate::texts::tokens_of;
+use crate::texts::{IsRow, tokens_of, wrong_row};
 use ruby_base::Seq;
 use slicc_ast::tree::{Expr, Operand, Operator, Span, Suffix};
-use slicc_expr::expr;
+use slicc_expr::SyntaxFault::{Deep, Syntax};
+use slicc_expr::{SyntaxFault, expr};
 use slicc_lex::Token;
 use std::alloc::Global;
-use std::test::Fail;
 
-/// A text, how many tokens the expression at its front has, what it is, by its last operator or suffix where it has any, and where the last
-/// expression or name in it begins.
-type Row = (&'static [u8], u32, &'static str, u32);
+/// A text, the place to read from and how many nestings are open before it; and how many tokens there are up to the end of the expression,
+/// what it is, by its last operator or suffix where it has any, and where the last expression or name in it begins, or the fault.
+struct Row(
+    &'static [u8],
+    u32,
+    u32,
+    Result<(u32, &'static str, u32), SyntaxFault>,
+);
 
 const OPERATORS: &[Row] = &[
     // operators of one level are one node
-    (b"a - b - c", 5, "-", 8),
-    (b"a + b - c + d", 7, "+", 12),
-    (b"a - b + c", 5, "+", 8),
-    (b"a * b * c", 5, "*", 8),
-    (b"a || b || c", 5, "||", 10),
-    (b"a && b && c", 5, "&&", 10),
-    (b"a == b != c", 5, "!=", 10),
-    (b"a < b >= c", 5, ">=", 9),
-    (b"a > b <= c", 5, "<=", 9),
+    Row(b"a - b - c", 0, 0, Ok((5, "-", 8))),
+    Row(b"a + b - c + d", 0, 0, Ok((7, "+", 12))),
+    Row(b"a - b + c", 0, 0, Ok((5, "+", 8))),
+    Row(b"a * b * c", 0, 0, Ok((5, "*", 8))),
+    Row(b"a || b || c", 0, 0, Ok((5, "||", 10))),
+    Row(b"a && b && c", 0, 0, Ok((5, "&&", 10))),
+    Row(b"a == b != c", 0, 0, Ok((5, "!=", 10))),
+    Row(b"a < b >= c", 0, 0, Ok((5, ">=", 9))),
+    Row(b"a > b <= c", 0, 0, Ok((5, "<=", 9))),
     // tighter operators come first
-    (b"a || b && c", 5, "||", 5),
-    (b"a && b || c", 5, "||", 10),
-    (b"a && b == c", 5, "&&", 5),
-    (b"a == b && c", 5, "&&", 10),
-    (b"a == b < c", 5, "==", 5),
-    (b"a < b == c", 5, "==", 9),
-    (b"a <= b + c", 5, "<=", 5),
-    (b"a + b <= c", 5, "<=", 9),
-    (b"a + b * c", 5, "+", 4),
-    (b"a * b + c", 5, "+", 8),
-    (b"(a || b) && c", 7, "&&", 12),
+    Row(b"a || b && c", 0, 0, Ok((5, "||", 5))),
+    Row(b"a && b || c", 0, 0, Ok((5, "||", 10))),
+    Row(b"a && b == c", 0, 0, Ok((5, "&&", 5))),
+    Row(b"a == b && c", 0, 0, Ok((5, "&&", 10))),
+    Row(b"a == b < c", 0, 0, Ok((5, "==", 5))),
+    Row(b"a < b == c", 0, 0, Ok((5, "==", 9))),
+    Row(b"a <= b + c", 0, 0, Ok((5, "<=", 5))),
+    Row(b"a + b <= c", 0, 0, Ok((5, "<=", 9))),
+    Row(b"a + b * c", 0, 0, Ok((5, "+", 4))),
+    Row(b"a * b + c", 0, 0, Ok((5, "+", 8))),
+    Row(b"(a || b) && c", 0, 0, Ok((7, "&&", 12))),
     // unary operators bind tighter than those between two operands, and looser than suffixes
-    (b"- a * b", 4, "*", 6),
-    (b"! a && b", 4, "&&", 7),
-    (b"! - a", 3, "!", 2),
-    (b"- a.b", 4, "negate", 2),
-    (b"a - - b", 4, "-", 4),
+    Row(b"- a * b", 0, 0, Ok((4, "*", 6))),
+    Row(b"! a && b", 0, 0, Ok((4, "&&", 7))),
+    Row(b"! - a", 0, 0, Ok((3, "!", 2))),
+    Row(b"- a.b", 0, 0, Ok((4, "negate", 2))),
+    Row(b"a - - b", 0, 0, Ok((4, "-", 4))),
 ];
 
 /// Primary expressions and suffixes.
 const PRIMARIES: &[Row] = &[
-    (b"12", 1, "number", 0),
-    (b"true", 1, "true", 0),
-    (b"false", 1, "false", 0),
-    (b"OOD", 1, "OOD", 0),
-    (b"a", 1, "name", 0),
-    (b"E:m", 3, "member", 2),
-    (b"new Entry", 2, "new", 4),
-    (b"f()", 3, "call", 0),
-    (b"f(a, b + c)", 8, "call", 2),
-    (b"is_valid(a)", 4, "is_valid", 9),
-    (b"is_invalid(a)", 4, "is_invalid", 11),
-    (b"static_cast(T, a)", 6, "static_cast", 15),
-    (b"static_cast(T, \"p\", a)", 8, "static_cast", 20),
-    (b"a.b.c", 5, ".", 4),
-    (b"a.f(b).c", 8, ".", 7),
-    (b"a.f(b)", 6, ".()", 4),
-    (b"a.f()", 5, ".()", 0),
-    (b"a[b][c]", 7, "[]", 5),
-    (b"f(a)[b].g()", 11, ".()", 0),
-    (b"(a)", 3, "()", 1),
+    Row(b"12", 0, 0, Ok((1, "number", 0))),
+    Row(b"true", 0, 0, Ok((1, "true", 0))),
+    Row(b"false", 0, 0, Ok((1, "false", 0))),
+    Row(b"OOD", 0, 0, Ok((1, "OOD", 0))),
+    Row(b"a", 0, 0, Ok((1, "name", 0))),
+    Row(b"E:m", 0, 0, Ok((3, "member", 2))),
+    Row(b"new Entry", 0, 0, Ok((2, "new", 4))),
+    Row(b"f()", 0, 0, Ok((3, "call", 0))),
+    Row(b"f(a, b + c)", 0, 0, Ok((8, "call", 2))),
+    Row(b"is_valid(a)", 0, 0, Ok((4, "is_valid", 9))),
+    Row(b"is_invalid(a)", 0, 0, Ok((4, "is_invalid", 11))),
+    Row(b"static_cast(T, a)", 0, 0, Ok((6, "static_cast", 15))),
+    Row(
+        b"static_cast(T, \"p\", a)",
+        0,
+        0,
+        Ok((8, "static_cast", 20)),
+    ),
+    Row(b"a.b.c", 0, 0, Ok((5, ".", 4))),
+    Row(b"a.f(b).c", 0, 0, Ok((8, ".", 7))),
+    Row(b"a.f(b)", 0, 0, Ok((6, ".()", 4))),
+    Row(b"a.f()", 0, 0, Ok((5, ".()", 0))),
+    Row(b"a[b][c]", 0, 0, Ok((7, "[]", 5))),
+    Row(b"f(a)[b].g()", 0, 0, Ok((11, ".()", 0))),
+    Row(b"(a)", 0, 0, Ok((3, "()", 1))),
 ];
 
 const LONGEST: &[Row] = &[
     // the longest front
-    (b"a b", 1, "name", 0),
-    (b"a := b", 1, "name", 0),
-    (b"a ) + b", 1, "name", 0),
-    (b"a { b", 1, "name", 0),
-    (b"12 ( b", 1, "number", 0),
+    Row(b"a b", 0, 0, Ok((1, "name", 0))),
+    Row(b"a := b", 0, 0, Ok((1, "name", 0))),
+    Row(b"a ) + b", 0, 0, Ok((1, "name", 0))),
+    Row(b"a { b", 0, 0, Ok((1, "name", 0))),
+    Row(b"12 ( b", 0, 0, Ok((1, "number", 0))),
     // 64 nestings
-    (
+    Row(
         b"((((((((((((((((((((((((((((((((((((((((((((((((((((((((((((((((a))))))))))))))))))))))))))))))))))))))))))))))))))))))))))))))))",
-        129,
-        "()",
-        1,
+        0,
+        0,
+        Ok((129, "()", 1)),
     ),
-    (
+    Row(
         b"!-!-!-!-!-!-!-!-!-!-!-!-!-!-!-!-!-!-!-!-!-!-!-!-!-!-!-!-!-!-!-!-a",
-        65,
-        "!",
-        1,
+        0,
+        0,
+        Ok((65, "!", 1)),
     ),
+];
+
+const REFUSED: &[Row] = &[
+    // no expression begins so, at the first token or behind one that goes on
+    Row(b"", 0, 0, Err(Syntax(0))),
+    Row(b";", 0, 0, Err(Syntax(0))),
+    Row(b"a + ;", 0, 0, Err(Syntax(2))),
+    Row(b"a && || b", 0, 0, Err(Syntax(2))),
+    Row(b"(a", 0, 0, Err(Syntax(2))),
+    Row(b"(a]", 0, 0, Err(Syntax(2))),
+    Row(b"f(a,)", 0, 0, Err(Syntax(4))),
+    Row(b"f(a b)", 0, 0, Err(Syntax(3))),
+    Row(b"a.", 0, 0, Err(Syntax(2))),
+    Row(b"a.7", 0, 0, Err(Syntax(2))),
+    Row(b"a[]", 0, 0, Err(Syntax(2))),
+    Row(b"E:", 0, 0, Err(Syntax(2))),
+    Row(b"new 7", 0, 0, Err(Syntax(1))),
+    Row(b"is_valid a", 0, 0, Err(Syntax(1))),
+    Row(b"static_cast(T a)", 0, 0, Err(Syntax(3))),
+    Row(b"static_cast(\"p\", a)", 0, 0, Err(Syntax(2))),
+    // places count from the first token of all
+    Row(b"x y + ;", 1, 0, Err(Syntax(3))),
+    // a nesting above 64, of each kind
+    Row(
+        b"(((((((((((((((((((((((((((((((((((((((((((((((((((((((((((((((((a)))))))))))))))))))))))))))))))))))))))))))))))))))))))))))))))))",
+        0,
+        0,
+        Err(Deep(64)),
+    ),
+    Row(
+        b"!-!-!-!-!-!-!-!-!-!-!-!-!-!-!-!-!-!-!-!-!-!-!-!-!-!-!-!-!-!-!-!-!a",
+        0,
+        0,
+        Err(Deep(64)),
+    ),
+    Row(b"(a)", 0, 64, Err(Deep(0))),
+    Row(b"!a", 0, 64, Err(Deep(0))),
+    Row(b"-a", 0, 64, Err(Deep(0))),
+    Row(b"f(a)", 0, 64, Err(Deep(1))),
+    Row(b"a.f(a)", 0, 64, Err(Deep(3))),
+    Row(b"a[b]", 0, 64, Err(Deep(1))),
+    Row(b"is_valid(a)", 0, 64, Err(Deep(1))),
+    Row(b"static_cast(T, a)", 0, 64, Err(Deep(1))),
+    Row(b"a + ((b))", 0, 63, Err(Deep(3))),
+    // an opening sign where none may stand is too deep where as many are open as may be
+    Row(b"a + [", 0, 64, Err(Deep(2))),
+    Row(b"a + [", 0, 63, Err(Syntax(2))),
+    Row(b"a + {", 0, 64, Err(Deep(2))),
 ];
 
 fn operator_text(operator: Operator) -> &'static str {
@@ -167,46 +225,49 @@ fn root(e: &Expr) -> (&'static str, u32) {
     }
 }
 
-/// Whether the tokens are read as the row says.
+/// Whether the tokens are read or refused as the row says.
 fn are_read(alloc: Global, tokens: &Seq<Token>, row: &Row) -> bool
     requires ended { AreEnded tokens.now }
     requires size { length tokens.now ≤ 1048577 }
 {
-    if tokens.is_empty() {
+    if row.1 as usize >= tokens.len() || row.2 > 64 {
         return false;
     }
-    match expr(alloc, tokens, 0, 0) {
+    match expr(alloc, tokens, row.1, row.2) {
         Ok((tree, next)) => {
-            let (word, start) = root(&tree);
+            let (what, start) = root(&tree);
             drop(tree);
-            next == row.1 && word == row.2 && start == row.3
+            matches!(&row.3, Ok(wanted) if next == wanted.0 && what == wanted.1 && start == wanted.2)
         }
-        Err(_) => false,
+        Err(fault) => matches!(&row.3, Err(wanted) if fault == *wanted),
     }
 }
 
-/// Whether the text is read as the row says.
-fn is_read(alloc: Global, row: &Row) -> bool {
-    match &tokens_of(alloc, row.0) {
-        Some(tokens) => are_read(alloc, tokens, row),
-        None => false,
-    }
-}
-
-/// The first row whose text is read otherwise, or none.
-fn wrong_row(alloc: Global, rows: &[Row]) -> Option<usize> {
-    for (place, row) in rows.iter().enumerate() {
-        if !is_read(alloc, row) {
-            return Some(place);
+impl IsRow for Row {
+    fn is_so(&self, alloc: Global) -> bool {
+        match tokens_of(alloc, self.0) {
+            Some(tokens) => {
+                let are_so = are_read(alloc, &tokens, self);
+                drop(tokens);
+                are_so
+            }
+            None => false,
         }
     }
-    None
 }
 
-#[test]
-fn expressions_are_read_to_their_ends(rt: HostRuntime) -> Result<(), Fail> {
-    assert_eq!(rt; wrong_row(rt.alloc(), OPERATORS), None);
-    assert_eq!(rt; wrong_row(rt.alloc(), PRIMARIES), None);
-    assert_eq!(rt; wrong_row(rt.alloc(), LONGEST), None);
-    Ok(())
+pub(crate) fn wrong_operator(alloc: Global) -> Option<usize> {
+    wrong_row(alloc, OPERATORS)
+}
+
+pub(crate) fn wrong_primary(alloc: Global) -> Option<usize> {
+    wrong_row(alloc, PRIMARIES)
+}
+
+pub(crate) fn wrong_end(alloc: Global) -> Option<usize> {
+    wrong_row(alloc, LONGEST)
+}
+
+pub(crate) fn wrong_fault(alloc: Global) -> Option<usize> {
+    wrong_row(alloc, REFUSED)
 }

@@ -13,7 +13,7 @@ mod file_rows;
 #[cfg(test)]
 mod files;
 #[cfg(test)]
-mod refusals;
+mod rows;
 #[cfg(test)]
 mod tables;
 #[cfg(test)]

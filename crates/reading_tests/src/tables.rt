@@ -1,5 +1,5 @@
 // Names by their numbers, rows of tables and lines that transitions need.
-use crate::texts::tree_of;
+use crate::texts::{IsRow, tree_of, wrong_row};
 use machine_table::{Tables, build};
 use ruby_base::Text;
 use slicc_ast::tree::Tree;
@@ -7,7 +7,7 @@ use slicc_flow::{Flow, flow_of_trees};
 use slicc_names::{Names, collect};
 use slicc_plan::Row;
 use std::alloc::Global;
-use std::test::Fail;
+use std::slice;
 
 const LAMP: &str =
     "machine(Lamp, '') : { state_declaration(State) { Off, AccessPermission:Invalid; On, AccessPermission:Read_Only; }\n\
@@ -15,7 +15,9 @@ const LAMP: &str =
      transition({Off, On, Off}, Push, On) { b; a; } transition(On, Pull) {} }";
 
 /// A scope, a name and its number in that scope. The protocol is scope 0.
-const NAMES: &[(u16, &str, Option<u16>)] = &[
+type NameRow = (u16, &'static str, Option<u16>);
+
+const NAMES: &[NameRow] = &[
     (0, "Lamp", Some(0)),
     (1, "State", Some(0)),
     (1, "Event", Some(1)),
@@ -26,7 +28,9 @@ const NAMES: &[(u16, &str, Option<u16>)] = &[
 ];
 
 /// A state and an event, and of their row the next state, the number of the transition, how many actions it has and the first.
-const ROWS: &[(u16, u16, Option<[u32; 4]>)] = &[
+type TableRow = (u16, u16, Option<[u32; 4]>);
+
+const ROWS: &[TableRow] = &[
     (0, 0, Some([1, 0, 2, 1])),
     (1, 0, Some([1, 0, 2, 1])),
     (1, 1, Some([1, 1, 0, 0])),
@@ -43,7 +47,9 @@ const NEEDS: &str = "machine(M, '') : CacheMemory * c; TBETable * a; int size; {
      machine(N, '') : { DirectoryMemory d; action(x) { check_allocate(d); } transition(S, E) { x; } }";
 
 /// A machine, a transition, a table, and how many lines the transition needs there.
-const LINES: &[(u16, u32, u16, u64)] = &[
+type Need = (u16, u32, u16, u64);
+
+const LINES: &[Need] = &[
     // an action that is listed twice counts twice
     (0, 0, 1, 3),
     // in both branches and in a block inside of one of them
@@ -62,11 +68,42 @@ const LINES: &[(u16, u32, u16, u64)] = &[
     (2, 0, 0, 0),
 ];
 
-fn is_number(alloc: Global, names: &Names, name: &(u16, &str, Option<u16>)) -> bool {
-    match &Text::copied(alloc, name.1.as_bytes()) {
-        Ok(text) => names.find(name.0, text) == name.2,
+/// A text, and what is so of its names, its rows and its needs.
+struct Protocol {
+    text: &'static str,
+    names: &'static [NameRow],
+    rows: &'static [TableRow],
+    needs: &'static [Need],
+}
+
+const PROTOCOLS: &[Protocol] = &[
+    Protocol {
+        text: LAMP,
+        names: NAMES,
+        rows: ROWS,
+        needs: &[],
+    },
+    Protocol {
+        text: NEEDS,
+        names: &[],
+        rows: &[],
+        needs: LINES,
+    },
+];
+
+fn is_number(alloc: Global, names: &Names, row: &NameRow) -> bool {
+    match &Text::copied(alloc, row.1.as_bytes()) {
+        Ok(text) => names.find(row.0, text) == row.2,
         Err(_) => false,
     }
+}
+
+fn are_numbers(alloc: Global, names: &Names, rows: &[NameRow]) -> bool {
+    let mut are_so = true;
+    for row in rows {
+        are_so &= is_number(alloc, names, row);
+    }
+    are_so
 }
 
 /// The next state, the transition, how many actions there are, up to 9, and the first of them or 0.
@@ -94,82 +131,71 @@ fn is_row(row: Option<&Row>, expected: Option<[u32; 4]>) -> bool {
     }
 }
 
-/// Which row of some tables isn't as it should be.
-fn wrong_row(tables: &Tables) -> Option<usize> {
-    for (place, row) in ROWS.iter().enumerate() {
-        if !is_row(tables.row(0, row.0, row.1), row.2) {
-            return Some(place);
+fn are_rows(tables: &Tables, rows: &[TableRow]) -> bool {
+    let mut are_so = true;
+    for row in rows {
+        are_so &= is_row(tables.row(0, row.0, row.1), row.2);
+    }
+    are_so
+}
+
+fn are_needs(flow: &Flow, needs: &[Need]) -> bool {
+    let mut are_so = true;
+    for need in needs {
+        are_so &= flow.needs(need.0, need.1, need.2) == need.3;
+    }
+    are_so
+}
+
+fn has_names(alloc: Global, trees: &[Tree], rows: &[NameRow]) -> bool {
+    match collect(alloc, trees) {
+        Ok(names) => {
+            let are_so = are_numbers(alloc, &names, rows);
+            drop(names);
+            are_so
+        }
+        Err(_) => rows.is_empty(),
+    }
+}
+
+fn has_rows(alloc: Global, trees: &[Tree], rows: &[TableRow]) -> bool {
+    match build(alloc, trees) {
+        Ok(tables) => {
+            let are_so = are_rows(&tables, rows);
+            drop(tables);
+            are_so
+        }
+        Err(_) => rows.is_empty(),
+    }
+}
+
+fn has_needs(alloc: Global, trees: &[Tree], needs: &[Need]) -> bool {
+    match flow_of_trees(alloc, trees) {
+        Ok(flow) => {
+            let are_so = are_needs(&flow, needs);
+            drop(flow);
+            are_so
+        }
+        Err(_) => needs.is_empty(),
+    }
+}
+
+impl IsRow for Protocol {
+    fn is_so(&self, alloc: Global) -> bool {
+        match tree_of(alloc, self.text.as_bytes()) {
+            Some(tree) => {
+                let trees = slice::from_ref(&tree);
+                let are_so = has_names(alloc, trees, self.names)
+                    & has_rows(alloc, trees, self.rows)
+                    & has_needs(alloc, trees, self.needs);
+                drop(tree);
+                are_so
+            }
+            None => false,
         }
     }
-    None
 }
 
-/// Which need of some transitions isn't as it should be.
-fn wrong_need(flow: &Flow) -> Option<usize> {
-    for (place, line) in LINES.iter().enumerate() {
-        if flow.needs(line.0, line.1, line.2) != line.3 {
-            return Some(place);
-        }
-    }
-    None
-}
-
-/// Which name has another number.
-fn wrong_number(alloc: Global, names: &Names) -> Option<usize> {
-    for (place, name) in NAMES.iter().enumerate() {
-        if !is_number(alloc, names, name) {
-            return Some(place);
-        }
-    }
-    None
-}
-
-/// Whether the names of the text have their numbers.
-fn has_names(alloc: Global, trees: &[Tree]) -> bool {
-    match &collect(alloc, trees) {
-        Ok(names) => wrong_number(alloc, names).is_none(),
-        Err(_) => false,
-    }
-}
-
-/// Whether the rows of the text's tables are as they should be.
-fn has_rows(alloc: Global, trees: &[Tree]) -> bool {
-    match &build(alloc, trees) {
-        Ok(tables) => wrong_row(tables).is_none(),
-        Err(_) => false,
-    }
-}
-
-/// Whether the needs of the text's transitions are as they should be.
-fn has_needs(alloc: Global, trees: &[Tree]) -> bool {
-    match &flow_of_trees(alloc, trees) {
-        Ok(flow) => wrong_need(flow).is_none(),
-        Err(_) => false,
-    }
-}
-
-/// Whether the names and the rows of the first text are as they should be.
-fn are_tables_so(alloc: Global) -> bool {
-    match tree_of(alloc, LAMP.as_bytes()) {
-        Some(tree) => {
-            let trees = [tree];
-            has_names(alloc, &trees) && has_rows(alloc, &trees)
-        }
-        None => false,
-    }
-}
-
-/// Whether the needs of the second are.
-fn are_needs_so(alloc: Global) -> bool {
-    match tree_of(alloc, NEEDS.as_bytes()) {
-        Some(tree) => has_needs(alloc, &[tree]),
-        None => false,
-    }
-}
-
-#[test]
-fn names_rows_and_needs_are_those_of_the_text(rt: HostRuntime) -> Result<(), Fail> {
-    assert!(rt; are_tables_so(rt.alloc()));
-    assert!(rt; are_needs_so(rt.alloc()));
-    Ok(())
+pub(crate) fn wrong_protocol(alloc: Global) -> Option<usize> {
+    wrong_row(alloc, PROTOCOLS)
 }

@@ -7,6 +7,22 @@ use slicc_lex::{Token, lex};
 use slicc_parse::parse;
 use std::alloc::Global;
 
+/// A row of a table.
+pub(crate) trait IsRow {
+    /// Whether it is as the row says.
+    fn is_so(&self, alloc: Global) -> bool;
+}
+
+/// The place of the first row that isn't so.
+pub(crate) fn wrong_row<R: IsRow>(alloc: Global, rows: &[R]) -> Option<usize> {
+    for (place, row) in rows.iter().enumerate() {
+        if !row.is_so(alloc) {
+            return Some(place);
+        }
+    }
+    None
+}
+
 /// The tokens of a text that is small enough, if it has no fault.
 pub(crate) fn tokens_of(alloc: Global, text: &[u8]) -> Option<Seq<Token>>
     ensures ended { IfSome result (λ tokens. AreEnded tokens) }
@@ -27,7 +43,11 @@ pub(crate) fn tree_of(alloc: Global, text: &[u8]) -> Option<Tree> {
         return None;
     }
     match lex(alloc, 0, text) {
-        Ok(tokens) => parse(alloc, &tokens).ok(),
+        Ok(tokens) => {
+            let tree = parse(alloc, &tokens);
+            drop(tokens);
+            tree.ok()
+        }
         Err(_) => None,
     }
 }

@@ -1,5 +1,5 @@
-//! Examples of what comes in and goes out: what libraries and sinks do, in memory and of the system, with two callers that know them by their
-//! traits; the words after a program's name; and a table of command lines with what each asks for.
+//! Examples of what comes in and goes out: what libraries and sinks of the system do; and a table of command lines, as a program gets them,
+//! with what each asks for.
 #![tactic(auto)]
 
 #[cfg(test)]
@@ -8,5 +8,3 @@ mod lines;
 mod options;
 #[cfg(test)]
 mod outside;
-#[cfg(test)]
-mod words;

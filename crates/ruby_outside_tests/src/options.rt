@@ -1,100 +1,142 @@
-use crate::lines::{
-    Asked, COMMANDS, Expected, FORMS, GENERATED, KEPT, Line, MORE_RANGES, NAMES, PLACES, RANGES,
-    REQUESTS, TWICE_OR_UNKNOWN, TWO_FAULTS,
-};
-use ruby_options::{Command, NoMemory, OptionFault, Options, read};
+// Command lines in memory, and the options that are read from their words.
+use crate::lines::{Asked, Expected, Lines, OF_COMMANDS, OF_PLACES, OF_RANGES};
+use ruby_options::{OptionFault, Options, read, words};
 use std::alloc::Global;
-use std::test::Fail;
+use std::env::{Env, FillError};
+use std::io::ErrorKind;
 
-// The word of a command. A plain run has one of its own here.
-fn word_of(command: Command) -> &'static str {
-    match command {
-        Command::Run => "run",
-        Command::Plain => "plain",
-        Command::Check => "check",
-        Command::Table => "table",
-        Command::Code => "code",
-        Command::Gen => "gen",
+/// The arguments of a program: its name, and words with a `|` between two.
+#[derive(Drop)]
+struct Arguments<'a> {
+    name: &'a [u8],
+    words: &'a str,
+}
+
+/// The word at a place, counted from 0.
+fn word_at(words: &str, place: usize) -> Option<&str> {
+    if words.is_empty() {
+        return None;
+    }
+    words.split('|').nth(place)
+}
+
+fn bytes_of(word: &str) -> &[u8] {
+    if word == "?" {
+        b"\xff"
+    } else {
+        word.as_bytes()
     }
 }
 
-fn are_expected(options: &Options, expected: &Expected) -> bool {
-    word_of(options.command) == expected.command
-        && options.protocol.as_slice() == expected.protocol.as_bytes()
-        && options.topology.as_slice() == expected.topology.as_bytes()
-        && options.count == expected.count
-        && options.seed == expected.seed
-        && options.checks == expected.checks
-        && options.lines == expected.lines
-        && options.cycles == expected.cycles
-        && options.workers == expected.workers
-        && options.trace == expected.trace
-        && options.deadlock == expected.deadlock
-        && options.limit == expected.limit
-}
-
-fn copied(alloc: Global, words: &[&str]) -> Result<Vec<String>, NoMemory> {
-    let mut copies = Vec::new(alloc);
-    for word in words {
-        copies.push(String::from_str(alloc, word)?)?;
+/// The argument at a place, where the name of the program is at 0.
+fn argument_at<'a>(name: &'a [u8], words: &'a str, place: usize) -> Option<&'a [u8]> {
+    if place == 0 {
+        return Some(name);
     }
-    Ok(copies)
+    match word_at(words, place - 1) {
+        Some(word) => Some(bytes_of(word)),
+        None => None,
+    }
 }
 
-fn is_expected(read: &Result<Options, OptionFault>, asked: &Asked) -> bool {
+impl<'a> Env for Arguments<'a> {
+    fn arg(&self, i: usize, buf: &mut [u8]) -> Result<usize, FillError> {
+        let Some(argument) = argument_at(self.name, self.words, i) else {
+            return Err(FillError::NotPresent);
+        };
+        let Some(room) = buf.get_mut(..argument.len()) else {
+            return Err(FillError::TooLong);
+        };
+        room.copy_from_slice(argument);
+        Ok(argument.len())
+    }
+
+    fn var(&self, _name: &str, _buf: &mut [u8]) -> Result<usize, FillError> {
+        Err(FillError::NotPresent)
+    }
+
+    fn var_at(&self, _i: usize, _buf: &mut [u8]) -> Result<usize, FillError> {
+        Err(FillError::NotPresent)
+    }
+}
+
+/// Whether a name is the word at a place, where 0 is no name.
+fn is_name(name: &[u8], words: &str, place: usize) -> bool {
+    match word_at(words, place) {
+        Some(word) if place > 0 => name == word.as_bytes(),
+        _ => name.is_empty(),
+    }
+}
+
+fn are_expected(options: &Options, words: &str, expected: &Expected) -> bool {
+    let is_protocol = is_name(options.protocol.as_slice(), words, expected.protocol);
+    let is_topology = is_name(options.topology.as_slice(), words, expected.topology);
+    is_protocol
+        & is_topology
+        & (options.command as u8 == expected.command as u8)
+        & (options.count == expected.count)
+        & (options.seed == expected.seed)
+        & (options.checks == expected.checks)
+        & (options.lines == expected.lines)
+        & (options.cycles == expected.cycles)
+        & (options.workers == expected.workers)
+        & (options.trace == expected.trace)
+        & (options.deadlock == expected.deadlock)
+        & (options.limit == expected.limit)
+}
+
+fn is_expected(read: &Result<Options, OptionFault>, words: &str, asked: &Asked) -> bool {
     match (read, asked) {
-        (Ok(options), Asked::Options(expected)) => are_expected(options, expected),
+        (Ok(options), Asked::Options(expected)) => are_expected(options, words, expected),
         (Err(OptionFault::Words), Asked::Words) => true,
         (Err(OptionFault::Range), Asked::Range) => true,
         _ => false,
     }
 }
 
-/// Whether the words ask for what is expected of them.
-fn is_asked(alloc: Global, words: &[&str], asked: &Asked) -> Result<bool, NoMemory> {
-    let words = copied(alloc, words)?;
-    let read = read(alloc, words.as_slice());
-    drop(words);
-    Ok(is_expected(&read, asked))
+/// Whether the words are read, and ask for what is expected of them.
+fn is_asked(alloc: Global, arguments: &Arguments<'_>, asked: &Asked) -> bool {
+    match &words(arguments, alloc) {
+        Ok(words) => is_expected(&read(alloc, words.as_slice()), arguments.words, asked),
+        Err(fault) => matches!(asked, Asked::NoText) && fault.kind() == ErrorKind::InvalidData,
+    }
 }
 
-// The place of the first line that asks for something else than what is expected.
-fn first_wrong(alloc: Global, lines: &[Line]) -> Result<Option<usize>, NoMemory> {
-    for (i, (words, asked)) in lines.iter().enumerate() {
-        if !is_asked(alloc, words, asked)? {
-            return Ok(Some(i));
+/// The first line that asks for something else than what is expected.
+fn wrong_line(alloc: Global, lines: &Lines) -> Option<&'static str> {
+    let name = lines.0;
+    for (words, asked) in lines.1 {
+        if !is_asked(alloc, &Arguments { name, words }, asked) {
+            return Some(words);
         }
     }
-    Ok(None)
+    None
+}
+
+fn wrong(alloc: Global, lists: &[Lines]) -> Option<&'static str> {
+    for lines in lists {
+        if let Some(words) = wrong_line(alloc, lines) {
+            return Some(words);
+        }
+    }
+    None
+}
+
+fn wrong_command(alloc: Global) -> Option<&'static str> {
+    wrong(alloc, OF_COMMANDS)
+}
+
+fn wrong_range(alloc: Global) -> Option<&'static str> {
+    wrong(alloc, OF_RANGES)
+}
+
+fn wrong_place(alloc: Global) -> Option<&'static str> {
+    wrong(alloc, OF_PLACES)
 }
 
 #[test]
-fn reads_each_command_with_its_names(rt: HostRuntime) -> Result<(), Fail> {
-    assert_eq!(rt; first_wrong(rt.alloc(), COMMANDS)?, None);
-    assert_eq!(rt; first_wrong(rt.alloc(), NAMES)?, None);
-    assert_eq!(rt; first_wrong(rt.alloc(), REQUESTS)?, None);
-    Ok(())
-}
-
-#[test]
-fn keeps_ranges_of_options(rt: HostRuntime) -> Result<(), Fail> {
-    assert_eq!(rt; first_wrong(rt.alloc(), RANGES)?, None);
-    assert_eq!(rt; first_wrong(rt.alloc(), MORE_RANGES)?, None);
-    assert_eq!(rt; first_wrong(rt.alloc(), FORMS)?, None);
-    Ok(())
-}
-
-#[test]
-fn finds_each_option_once_in_any_place(rt: HostRuntime) -> Result<(), Fail> {
-    assert_eq!(rt; first_wrong(rt.alloc(), PLACES)?, None);
-    assert_eq!(rt; first_wrong(rt.alloc(), TWICE_OR_UNKNOWN)?, None);
-    assert_eq!(rt; first_wrong(rt.alloc(), TWO_FAULTS)?, None);
-    Ok(())
-}
-
-#[test]
-fn keeps_options_that_are_not_used(rt: HostRuntime) -> Result<(), Fail> {
-    assert_eq!(rt; first_wrong(rt.alloc(), GENERATED)?, None);
-    assert_eq!(rt; first_wrong(rt.alloc(), KEPT)?, None);
-    Ok(())
+fn each_line_asks_for_its_options_or_is_refused(rt: HostRuntime) {
+    let alloc = rt.alloc();
+    let wrong = [wrong_command(alloc), wrong_range(alloc), wrong_place(alloc)];
+    assert_eq!(rt; wrong, [None; 3]);
 }

@@ -3,8 +3,8 @@ use Rattle.slicc_lex.proofs.EndedTokens.{are_few}
 use Rattle.slicc_parse.proofs.EndedOnce.{ended_once}
 use Rattle.reading_tests.proofs.texts.tree_of.Goals as goal
 
-pub parse-requires-clause-size : goal.parse-requires-clause-size
-parse-requires-clause-size c = omega (arith, are_few 0 c.args.text.now c.in-Ok.tokens c.in-Ok.ensures)
+pub parse-tree-requires-clause-size : goal.parse-tree-requires-clause-size
+parse-tree-requires-clause-size c = omega (arith, are_few 0 c.args.text.now c.in-Ok.tokens c.in-Ok.ensures)
 
-pub parse-requires-clause-ended : goal.parse-requires-clause-ended
-parse-requires-clause-ended c = ended_once 0 c.args.text.now c.in-Ok.tokens c.in-Ok.ensures
+pub parse-tree-requires-clause-ended : goal.parse-tree-requires-clause-ended
+parse-tree-requires-clause-ended c = ended_once 0 c.args.text.now c.in-Ok.tokens c.in-Ok.ensures
