@@ -22,9 +22,9 @@ def below(line):
     return line.partition(":")[2].split()
 
 
-def copy_to(room, names, *more):
-    """Puts the named crates and all that they stand on into a folder, with what was proved of them here, and a crates.txt with their
-    lines and these."""
+def copy_to(room, names, *more, without=("must-fail",)):
+    """Puts the named crates and all that they stand on into a folder, and a crates.txt with their lines and these. Folders of the given
+    names stay here; without `out` among them, what was proved of the crates here is taken along."""
     there, needed = lines(), []
 
     def add(name):
@@ -36,24 +36,22 @@ def copy_to(room, names, *more):
     for name in names:
         add(name)
     for name in needed:
-        shutil.copytree(top / "crates" / name, room / "crates" / name, ignore=shutil.ignore_patterns("must-fail"))
+        shutil.copytree(top / "crates" / name, room / "crates" / name, ignore=shutil.ignore_patterns(*without))
     shutil.copy(top / "HANDLES", room)
     (room / "crates.txt").write_text("".join(f"{it}\n" for it in [*map(there.get, needed), *more]), encoding="utf-8")
 
 
 def build(program):
-    """Proves and builds the program that times things. What is proved of the crates that it stands on is kept here."""
+    """Proves and builds the program that times things, by the gate's own command, which takes from the machine what it keeps."""
     line = (times / "line").read_text(encoding="utf-8").strip()
-    for name in below(line):
-        subprocess.run(["rt", "lib"], cwd=top / "crates" / name, check=True, stdout=subprocess.DEVNULL)
     with tempfile.TemporaryDirectory(prefix="times-") as folder:
         room = pathlib.Path(folder)
-        copy_to(room, below(line), line)
+        copy_to(room, below(line), line, without=("must-fail", "out"))
         for file in times.rglob("*.txt"):
             it = room / "crates" / "times" / file.relative_to(times).with_suffix("")
             it.parent.mkdir(parents=True, exist_ok=True)
             shutil.copy(file, it)
-        subprocess.run(["rt", "run"], cwd=room / "crates" / "times", check=True, stdout=subprocess.DEVNULL)
+        subprocess.run(["rt", "ci"], cwd=room, check=True, stdout=subprocess.DEVNULL)
         program.parent.mkdir(exist_ok=True)
         shutil.copy(room / "crates" / "times" / "out" / "times", program)
 
