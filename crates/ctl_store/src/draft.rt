@@ -11,10 +11,15 @@ use std::alloc::Global;
 
 /// A draft of one scan of the controller that a store keeps: it reads through to the store, and keeps beside it what the scan
 /// changes. A draft that is dropped has changed nothing; one that is sealed gives what it has changed, to be applied to the store.
-#[derive(Drop)]
 pub struct Draft<'a> {
     pub(crate) scan: Scan<'a>,
     ghost lawful: { IsLawful (local_of scan) } by { IsLawful-prop (local_of scan) },
+}
+
+impl Drop for Draft<'_> {
+    fn drop(self) {
+        let Draft { scan: _ } = self;
+    }
 }
 
 impl<'a> Draft<'a> {
@@ -59,7 +64,8 @@ impl<'a> Draft<'a> {
         ensures outcome { IsOutcomeOf (view_of self.entry) note result }
         ensures lawful { IsLawful (view_of self.entry) }
     {
-        self.scan.law();
-        self.scan.seal(note)
+        let Draft { scan } = self;
+        scan.law();
+        scan.seal(note)
     }
 }

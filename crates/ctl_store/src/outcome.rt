@@ -11,13 +11,28 @@ use ruby_value::{Delivery, Message, MsgNo, NoMemory, Sent, Seq};
 use run_journal::FireNote;
 
 /// What a scan has done that fired: what it changes, and the transition that fired.
-#[derive(Drop)]
 pub struct Outcome {
     pub(crate) changes: Changes,
     pub(crate) note: FireNote,
 }
 
+impl Drop for Outcome {
+    fn drop(self) {
+        let Outcome {
+            changes: _,
+            note: _,
+        } = self;
+    }
+}
+
 impl Outcome {
+    fn into_changes(self) -> Changes
+        ensures { result ≡ self.changes }
+    {
+        let Outcome { changes, note: _ } = self;
+        changes
+    }
+
     /// The transition that fired.
     pub fn note(&self) -> FireNote
         ensures { result ≡ note_of self.now }
@@ -85,7 +100,7 @@ impl Store {
         ensures store { IsSameStore self.old self.new }
         ensures room { HasRoomForMark self.new }
     {
-        let posted = apply(&mut self.parts, o.changes);
+        let posted = apply(&mut self.parts, o.into_changes());
         self.parts.fired += 1;
         posted
     }

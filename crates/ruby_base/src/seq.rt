@@ -12,9 +12,15 @@ use std::ops::{DerefSlice, Index};
 use std::{mem, slice};
 
 /// A list of values on the heap. A contract sees it as that list, whatever room and address it has.
-#[derive(Debug, Drop)]
+#[derive(Debug)]
 pub struct Seq<T> {
     items: Vec<T>,
+}
+
+impl<T: Drop> Drop for Seq<T> {
+    fn drop(self) {
+        let Seq { items: _ } = self;
+    }
 }
 
 /// Bytes, as of a file, a name or a line. They need not be UTF-8.
@@ -49,7 +55,8 @@ impl<T> Seq<T> {
     pub fn into_vec(self) -> Vec<T>
         ensures { result.items ≡ self }
     {
-        self.items
+        let Seq { items } = self;
+        items
     }
 
     /// How many elements there are.

@@ -14,7 +14,6 @@ pub enum TableSort {
 }
 
 /// A parameter or an object that is a table of lines.
-#[derive(Drop)]
 pub struct TableSymbol {
     pub name: Text,
     pub sort: TableSort,
@@ -23,8 +22,17 @@ pub struct TableSymbol {
     pub structure: u16,
 }
 
+impl Drop for TableSymbol {
+    fn drop(self) {
+        let TableSymbol {
+            name: _,
+            sort: _,
+            structure: _,
+        } = self;
+    }
+}
+
 /// A parameter or an object that is a `MessageBuffer`.
-#[derive(Drop)]
 pub struct BufferSymbol {
     pub name: Text,
     /// Where its messages come from or go to, and for one to a network the field of its messages that names the receivers.
@@ -35,8 +43,18 @@ pub struct BufferSymbol {
     pub message: Option<u16>,
 }
 
+impl Drop for BufferSymbol {
+    fn drop(self) {
+        let BufferSymbol {
+            name: _,
+            place: _,
+            ordered: _,
+            message: _,
+        } = self;
+    }
+}
+
 /// An in port or an out port.
-#[derive(Drop)]
 pub struct PortSymbol {
     pub name: Text,
     /// The number of the buffer that it is on. The type of its messages is that of the buffer.
@@ -45,16 +63,30 @@ pub struct PortSymbol {
     pub declaration: u32,
 }
 
+impl Drop for PortSymbol {
+    fn drop(self) {
+        let PortSymbol {
+            name: _,
+            buffer: _,
+            declaration: _,
+        } = self;
+    }
+}
+
 /// A formal of a function.
-#[derive(Drop)]
 pub struct FormalSymbol {
     /// Its name, which it may lack.
     pub name: Option<Text>,
     pub kind: Kind,
 }
 
+impl Drop for FormalSymbol {
+    fn drop(self) {
+        let FormalSymbol { name: _, kind: _ } = self;
+    }
+}
+
 /// A function that has a body.
-#[derive(Drop)]
 pub struct FunctionSymbol {
     pub name: Text,
     /// Which declaration of the machine it is, counted from 0 in the text.
@@ -64,16 +96,34 @@ pub struct FunctionSymbol {
     pub result: Option<Kind>,
 }
 
+impl Drop for FunctionSymbol {
+    fn drop(self) {
+        let FunctionSymbol {
+            name: _,
+            declaration: _,
+            formals: _,
+            result: _,
+        } = self;
+    }
+}
+
 /// An action.
-#[derive(Drop)]
 pub struct ActionSymbol {
     pub name: Text,
     /// Which declaration of the machine it is, counted from 0 in the text.
     pub declaration: u32,
 }
 
+impl Drop for ActionSymbol {
+    fn drop(self) {
+        let ActionSymbol {
+            name: _,
+            declaration: _,
+        } = self;
+    }
+}
+
 /// A transition as it is written: for each of these states and each of these events it does these actions, in this order.
-#[derive(Drop)]
 pub struct TransitionSymbol {
     /// Each once.
     pub states: Seq<u16>,
@@ -84,8 +134,18 @@ pub struct TransitionSymbol {
     pub actions: Seq<u16>,
 }
 
+impl Drop for TransitionSymbol {
+    fn drop(self) {
+        let TransitionSymbol {
+            states: _,
+            events: _,
+            next: _,
+            actions: _,
+        } = self;
+    }
+}
+
 /// What a machine declares. All lists are in the order of the text, parameters before the rest.
-#[derive(Drop)]
 pub struct MachineSymbols {
     pub name: Text,
     /// The number of its state declaration among the enumerations.
@@ -126,4 +186,32 @@ pub struct MachineSymbols {
     pub set_permission: Option<u16>,
     /// The number of the action `z_stall`, where there is one: a transition that lists it is a protocol stall.
     pub stall: Option<u16>,
+}
+
+impl Drop for MachineSymbols {
+    fn drop(self) {
+        let MachineSymbols {
+            name: _,
+            states: _,
+            permissions: _,
+            events: _,
+            tables: _,
+            values: _,
+            references: _,
+            buffers: _,
+            sequencer: _,
+            in_ports: _,
+            out_ports: _,
+            functions: _,
+            actions: _,
+            transitions: _,
+            entry: _,
+            directory: _,
+            tbe: _,
+            get_state: _,
+            set_state: _,
+            set_permission: _,
+            stall: _,
+        } = self;
+    }
 }

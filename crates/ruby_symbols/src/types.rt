@@ -12,7 +12,6 @@ use ruby_base::{Seq, Text};
 use ruby_value::{Kind, Value};
 
 /// An enumeration or a state declaration.
-#[derive(Drop)]
 pub struct EnumerationSymbol {
     pub name: Text,
     /// The number of the machine that declares it, or `None` where it is declared right in the protocol or built in.
@@ -23,8 +22,18 @@ pub struct EnumerationSymbol {
     pub default: u16,
 }
 
+impl Drop for EnumerationSymbol {
+    fn drop(self) {
+        let EnumerationSymbol {
+            name: _,
+            machine: _,
+            members: _,
+            default: _,
+        } = self;
+    }
+}
+
 /// A field of a structure, a parameter or an object: its name, and what values it has.
-#[derive(Drop)]
 pub struct FieldSymbol {
     pub name: Text,
     pub kind: Kind,
@@ -32,13 +41,32 @@ pub struct FieldSymbol {
     pub initial: Value,
 }
 
+impl Drop for FieldSymbol {
+    fn drop(self) {
+        let FieldSymbol {
+            name: _,
+            kind: _,
+            initial: _,
+        } = self;
+    }
+}
+
 /// A structure: the fields of a message, or of a table's lines.
-#[derive(Drop)]
 pub struct StructureSymbol {
     pub name: Text,
     /// The number of the machine that declares it, or `None` where it is declared right in the protocol or built in.
     pub machine: Option<u16>,
     pub fields: Seq<FieldSymbol>,
+}
+
+impl Drop for StructureSymbol {
+    fn drop(self) {
+        let StructureSymbol {
+            name: _,
+            machine: _,
+            fields: _,
+        } = self;
+    }
 }
 
 fn is_owner(machine: Option<u16>, owner: Option<u16>) -> bool

@@ -13,10 +13,17 @@ use std::marker::Model;
 /// sees it as the ascending list of their numbers, in which none comes twice; that they are numbered over all
 /// machines is this project's own rule. Those below 64 are kept in one word, in which a call takes one step, and the
 /// others in a list, in which a look-up costs about the logarithm of how many there are.
-#[derive(Debug, Drop)]
+#[derive(Debug)]
 pub struct NetDest {
     near: u64,
     far: FarMembers,
+}
+
+// It is written out, so that a crate above proves a call where one goes, and not how each of its parts goes.
+impl Drop for NetDest {
+    fn drop(self) {
+        let NetDest { near: _, far: _ } = self;
+    }
 }
 
 impl Model for NetDest {

@@ -1,5 +1,6 @@
 //! The trees of the whole language, one type for each nonterminal of its grammar, and the words and signs that a
-//! part of a text may keep as they are.
+//! part of a text may keep as they are. How a tree goes is written out, so that a crate above proves a
+//! call where one goes, and not how each of its parts goes.
 
 mod balanced;
 mod declaration;

@@ -18,11 +18,21 @@ use std::sync::Arc;
 /// A protocol that keeps all rules. It keeps the trees of its files in the order of reading, and a contract sees it as them: all
 /// else in it is read off them. Its symbols, that is its types and machines with their states, buffers, ports, functions and
 /// transitions, are made once, and counted once. Copies share trees and symbols.
-#[derive(Drop)]
 pub struct Plan {
     trees: Arc<Seq<Tree>, Global>,
     symbols: Arc<Symbols, Global>,
     counts: Counts,
+}
+
+// It is written out, so that a crate above proves a call where a plan goes, and not how each tree and symbol goes.
+impl Drop for Plan {
+    fn drop(self) {
+        let Plan {
+            trees: _,
+            symbols: _,
+            counts: _,
+        } = self;
+    }
 }
 
 impl Model for Plan {

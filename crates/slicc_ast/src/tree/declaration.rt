@@ -2,13 +2,17 @@ use crate::tree::{Balanced, Block, Name, Span, TypeName};
 use ruby_base::{Seq, Text};
 
 /// The attributes of a declaration, each after a comma.
-#[derive(Drop)]
 pub struct Pairs {
     pub items: Seq<Pair>,
     pub span: Span,
 }
 
-#[derive(Drop)]
+impl Drop for Pairs {
+    fn drop(self) {
+        let Pairs { items: _, span: _ } = self;
+    }
+}
+
 pub enum Pair {
     /// `name=value`
     Named {
@@ -20,15 +24,36 @@ pub enum Pair {
     Bare(Text, Span),
 }
 
-#[derive(Drop)]
+impl Drop for Pair {
+    fn drop(self) {
+        match self {
+            Pair::Named {
+                name: _,
+                value: _,
+                span: _,
+            } => {}
+            Pair::Bare(_, _) => {}
+        }
+    }
+}
+
 pub enum PairValue {
     Quoted(Text),
     Number(i64),
     Name(Name),
 }
 
+impl Drop for PairValue {
+    fn drop(self) {
+        match self {
+            PairValue::Quoted(_) => {}
+            PairValue::Number(_) => {}
+            PairValue::Name(_) => {}
+        }
+    }
+}
+
 /// `enumeration(name pairs) { members }`
-#[derive(Drop)]
 pub struct Enumeration {
     pub name: Name,
     pub pairs: Pairs,
@@ -36,15 +61,30 @@ pub struct Enumeration {
     pub span: Span,
 }
 
+impl Drop for Enumeration {
+    fn drop(self) {
+        let Enumeration {
+            name: _,
+            pairs: _,
+            members: _,
+            span: _,
+        } = self;
+    }
+}
+
 /// `name pairs;`, a member of an enumeration.
-#[derive(Drop)]
 pub struct Symbol {
     pub name: Name,
     pub pairs: Pairs,
 }
 
+impl Drop for Symbol {
+    fn drop(self) {
+        let Symbol { name: _, pairs: _ } = self;
+    }
+}
+
 /// `state_declaration(name pairs) { members }`
-#[derive(Drop)]
 pub struct States {
     pub name: Name,
     pub pairs: Pairs,
@@ -52,9 +92,19 @@ pub struct States {
     pub span: Span,
 }
 
+impl Drop for States {
+    fn drop(self) {
+        let States {
+            name: _,
+            pairs: _,
+            members: _,
+            span: _,
+        } = self;
+    }
+}
+
 /// `name, owner:permission pairs;`, a state with its access permission, whose owner is `AccessPermission` in a protocol
 /// that is right.
-#[derive(Drop)]
 pub struct State {
     pub name: Name,
     pub owner: Name,
@@ -62,8 +112,18 @@ pub struct State {
     pub pairs: Pairs,
 }
 
+impl Drop for State {
+    fn drop(self) {
+        let State {
+            name: _,
+            owner: _,
+            permission: _,
+            pairs: _,
+        } = self;
+    }
+}
+
 /// `structure(name pairs) { members }`
-#[derive(Drop)]
 pub struct Structure {
     pub name: Name,
     pub pairs: Pairs,
@@ -71,7 +131,17 @@ pub struct Structure {
     pub span: Span,
 }
 
-#[derive(Drop)]
+impl Drop for Structure {
+    fn drop(self) {
+        let Structure {
+            name: _,
+            pairs: _,
+            members: _,
+            span: _,
+        } = self;
+    }
+}
+
 pub enum Member {
     /// `kind name pairs;`
     Field {
@@ -91,7 +161,27 @@ pub enum Member {
     Skipped(Skipped),
 }
 
-#[derive(Drop)]
+impl Drop for Member {
+    fn drop(self) {
+        match self {
+            Member::Field {
+                kind: _,
+                name: _,
+                pairs: _,
+                span: _,
+            } => {}
+            Member::Method {
+                kind: _,
+                name: _,
+                formals: _,
+                pairs: _,
+                span: _,
+            } => {}
+            Member::Skipped(_) => {}
+        }
+    }
+}
+
 pub enum Function {
     /// `kind name(formals) pairs body`, or a prototype, which has `;` in place of the body.
     Plain {
@@ -105,8 +195,23 @@ pub enum Function {
     Skipped(Skipped),
 }
 
+impl Drop for Function {
+    fn drop(self) {
+        match self {
+            Function::Plain {
+                kind: _,
+                name: _,
+                formals: _,
+                pairs: _,
+                body: _,
+                span: _,
+            } => {}
+            Function::Skipped(_) => {}
+        }
+    }
+}
+
 /// `functionalRead` or `functionalWrite`, of which gem5 makes accesses outside of time: read, and not looked at.
-#[derive(Drop)]
 pub struct Skipped {
     pub kind: TypeName,
     pub name: Name,
@@ -116,18 +221,46 @@ pub struct Skipped {
     pub span: Span,
 }
 
+impl Drop for Skipped {
+    fn drop(self) {
+        let Skipped {
+            kind: _,
+            name: _,
+            arguments: _,
+            pairs: _,
+            body: _,
+            span: _,
+        } = self;
+    }
+}
+
 /// The formals of a function, none where nothing stands between its parentheses.
-#[derive(Drop)]
 pub struct Formals {
     pub items: Seq<Formal>,
     pub span: Span,
 }
 
+impl Drop for Formals {
+    fn drop(self) {
+        let Formals { items: _, span: _ } = self;
+    }
+}
+
 /// `kind * name`, in which the star and the name may be left out.
-#[derive(Drop)]
 pub struct Formal {
     pub kind: TypeName,
     pub has_star: bool,
     pub name: Option<Name>,
     pub span: Span,
+}
+
+impl Drop for Formal {
+    fn drop(self) {
+        let Formal {
+            kind: _,
+            has_star: _,
+            name: _,
+            span: _,
+        } = self;
+    }
 }

@@ -3,7 +3,6 @@ use ruby_base::{Boxed, Seq, Text};
 
 /// An expression, of any level of operators: the levels of the grammar are one type, in which the operands of a node bind
 /// tighter than its operators.
-#[derive(Drop)]
 #[cycle(expression)]
 pub enum Expr {
     /// Operands with operators of one level between them, at least two. They group to the left: `a - b + c` is
@@ -53,16 +52,69 @@ pub enum Expr {
     Group(Boxed<Expr>, Span),
 }
 
+impl Drop for Expr {
+    #[cycle(expression_drop)]
+    fn drop(self) {
+        match self {
+            Expr::Operation {
+                first: _,
+                others: _,
+                span: _,
+            } => {}
+            Expr::Not(_, _) => {}
+            Expr::Negate(_, _) => {}
+            Expr::Postfix {
+                value: _,
+                suffixes: _,
+                span: _,
+            } => {}
+            Expr::Number(_, _) => {}
+            Expr::True(_) => {}
+            Expr::False(_) => {}
+            Expr::Nothing(_) => {}
+            Expr::Variable(_) => {}
+            Expr::Member {
+                owner: _,
+                member: _,
+                span: _,
+            } => {}
+            Expr::Call {
+                name: _,
+                arguments: _,
+                span: _,
+            } => {}
+            Expr::New(_, _) => {}
+            Expr::IsValid(_, _) => {}
+            Expr::IsInvalid(_, _) => {}
+            Expr::Cast {
+                target: _,
+                mode: _,
+                value: _,
+                span: _,
+            } => {}
+            Expr::Group(_, _) => {}
+        }
+    }
+}
+
 /// An operator and the operand behind it.
-#[derive(Drop)]
 #[cycle(expression)]
 pub struct Operand {
     pub operator: Operator,
     pub value: Expr,
 }
 
+impl Drop for Operand {
+    #[cycle(expression_drop)]
+    fn drop(self) {
+        let Operand {
+            operator: _,
+            value: _,
+        } = self;
+    }
+}
+
 /// What may stand behind a primary expression.
-#[derive(Drop)]
 #[cycle(expression)]
 pub enum Suffix {
     /// `.name`
@@ -77,12 +129,33 @@ pub enum Suffix {
     Index(Expr, Span),
 }
 
+impl Drop for Suffix {
+    #[cycle(expression_drop)]
+    fn drop(self) {
+        match self {
+            Suffix::Field(_, _) => {}
+            Suffix::Method {
+                name: _,
+                arguments: _,
+                span: _,
+            } => {}
+            Suffix::Index(_, _) => {}
+        }
+    }
+}
+
 /// The arguments of a call, none where nothing stands between its parentheses.
-#[derive(Drop)]
 #[cycle(expression)]
 pub struct Args {
     pub items: Seq<Expr>,
     pub span: Span,
+}
+
+impl Drop for Args {
+    #[cycle(expression_drop)]
+    fn drop(self) {
+        let Args { items: _, span: _ } = self;
+    }
 }
 
 /// The operators that stand between two operands.

@@ -2,7 +2,6 @@ use crate::tree::{Block, Enumeration, Function, Name, Pairs, Span, States, Struc
 use ruby_base::{Seq, Text};
 
 /// `machine(MachineType:name, "title" pairs) : parameters { declarations }`, in which `MachineType:` may be left out.
-#[derive(Drop)]
 pub struct Machine {
     pub has_type: bool,
     pub name: Name,
@@ -13,8 +12,21 @@ pub struct Machine {
     pub span: Span,
 }
 
+impl Drop for Machine {
+    fn drop(self) {
+        let Machine {
+            has_type: _,
+            name: _,
+            title: _,
+            pairs: _,
+            parameters: _,
+            declarations: _,
+            span: _,
+        } = self;
+    }
+}
+
 /// `kind * name := literal pairs;`, in which the star and the literal may be left out.
-#[derive(Drop)]
 pub struct Parameter {
     pub kind: TypeName,
     pub has_star: bool,
@@ -24,7 +36,19 @@ pub struct Parameter {
     pub span: Span,
 }
 
-#[derive(Drop)]
+impl Drop for Parameter {
+    fn drop(self) {
+        let Parameter {
+            kind: _,
+            has_star: _,
+            name: _,
+            literal: _,
+            pairs: _,
+            span: _,
+        } = self;
+    }
+}
+
 pub enum Literal {
     Number(i64, Span),
     /// The number behind a minus sign.
@@ -34,7 +58,18 @@ pub enum Literal {
     False(Span),
 }
 
-#[derive(Drop)]
+impl Drop for Literal {
+    fn drop(self) {
+        match self {
+            Literal::Number(_, _) => {}
+            Literal::Minus(_, _) => {}
+            Literal::Quoted(_, _) => {}
+            Literal::True(_) => {}
+            Literal::False(_) => {}
+        }
+    }
+}
+
 pub enum Decl {
     States(States),
     Enumeration(Enumeration),
@@ -47,8 +82,23 @@ pub enum Decl {
     Object(Object),
 }
 
+impl Drop for Decl {
+    fn drop(self) {
+        match self {
+            Decl::States(_) => {}
+            Decl::Enumeration(_) => {}
+            Decl::Structure(_) => {}
+            Decl::OutPort(_) => {}
+            Decl::InPort(_) => {}
+            Decl::Action(_) => {}
+            Decl::Transition(_) => {}
+            Decl::Function(_) => {}
+            Decl::Object(_) => {}
+        }
+    }
+}
+
 /// `out_port(name, message, buffer pairs);`
-#[derive(Drop)]
 pub struct OutPort {
     pub name: Name,
     pub message: TypeName,
@@ -57,8 +107,19 @@ pub struct OutPort {
     pub span: Span,
 }
 
+impl Drop for OutPort {
+    fn drop(self) {
+        let OutPort {
+            name: _,
+            message: _,
+            buffer: _,
+            pairs: _,
+            span: _,
+        } = self;
+    }
+}
+
 /// `in_port(name, message, buffer pairs) body`
-#[derive(Drop)]
 pub struct InPort {
     pub name: Name,
     pub message: TypeName,
@@ -68,8 +129,20 @@ pub struct InPort {
     pub span: Span,
 }
 
+impl Drop for InPort {
+    fn drop(self) {
+        let InPort {
+            name: _,
+            message: _,
+            buffer: _,
+            pairs: _,
+            body: _,
+            span: _,
+        } = self;
+    }
+}
+
 /// `action(name pairs) body`
-#[derive(Drop)]
 pub struct Action {
     pub name: Name,
     pub pairs: Pairs,
@@ -77,8 +150,18 @@ pub struct Action {
     pub span: Span,
 }
 
+impl Drop for Action {
+    fn drop(self) {
+        let Action {
+            name: _,
+            pairs: _,
+            body: _,
+            span: _,
+        } = self;
+    }
+}
+
 /// `transition(states, events, next pairs) { actions }`, in which the next state may be left out.
-#[derive(Drop)]
 pub struct Transition {
     pub states: Names,
     pub events: Names,
@@ -88,19 +171,51 @@ pub struct Transition {
     pub span: Span,
 }
 
+impl Drop for Transition {
+    fn drop(self) {
+        let Transition {
+            states: _,
+            events: _,
+            next: _,
+            pairs: _,
+            actions: _,
+            span: _,
+        } = self;
+    }
+}
+
 /// One name, or at least one in braces.
-#[derive(Drop)]
 pub enum Names {
     One(Name),
     Several(Seq<Name>, Span),
 }
 
+impl Drop for Names {
+    fn drop(self) {
+        match self {
+            Names::One(_) => {}
+            Names::Several(_, _) => {}
+        }
+    }
+}
+
 /// `kind * name pairs;`, in which the star may be left out.
-#[derive(Drop)]
 pub struct Object {
     pub kind: TypeName,
     pub has_star: bool,
     pub name: Name,
     pub pairs: Pairs,
     pub span: Span,
+}
+
+impl Drop for Object {
+    fn drop(self) {
+        let Object {
+            kind: _,
+            has_star: _,
+            name: _,
+            pairs: _,
+            span: _,
+        } = self;
+    }
 }

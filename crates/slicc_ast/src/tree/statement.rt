@@ -2,14 +2,22 @@ use crate::tree::{Balanced, Expr, Name, Pairs, Span, TypeName};
 use ruby_base::{Seq, Text};
 
 /// Statements in braces.
-#[derive(Drop)]
 #[cycle(statement)]
 pub struct Block {
     pub statements: Seq<Stmt>,
     pub span: Span,
 }
 
-#[derive(Drop)]
+impl Drop for Block {
+    #[cycle(statement_drop)]
+    fn drop(self) {
+        let Block {
+            statements: _,
+            span: _,
+        } = self;
+    }
+}
+
 #[cycle(statement)]
 pub enum Stmt {
     /// `kind name := value;`
@@ -62,8 +70,56 @@ pub enum Stmt {
     },
 }
 
+impl Drop for Stmt {
+    #[cycle(statement_drop)]
+    fn drop(self) {
+        match self {
+            Stmt::Declare {
+                kind: _,
+                name: _,
+                value: _,
+                span: _,
+            } => {}
+            Stmt::Assign {
+                place: _,
+                value: _,
+                span: _,
+            } => {}
+            Stmt::Evaluate(_, _) => {}
+            Stmt::Return(_, _) => {}
+            Stmt::If(_) => {}
+            Stmt::Peek {
+                port: _,
+                message: _,
+                pairs: _,
+                body: _,
+                span: _,
+            } => {}
+            Stmt::Enqueue {
+                port: _,
+                message: _,
+                latency: _,
+                body: _,
+                span: _,
+            } => {}
+            Stmt::StallAndWait {
+                port: _,
+                address: _,
+                span: _,
+            } => {}
+            Stmt::CheckAllocate(_, _) => {}
+            Stmt::Error(_, _) => {}
+            Stmt::Assert(_, _) => {}
+            Stmt::Print {
+                word: _,
+                arguments: _,
+                span: _,
+            } => {}
+        }
+    }
+}
+
 /// `if (condition) then`, then any number of `else if`, and perhaps an `else`.
-#[derive(Drop)]
 #[cycle(statement)]
 pub struct If {
     pub condition: Expr,
@@ -73,12 +129,34 @@ pub struct If {
     pub span: Span,
 }
 
+impl Drop for If {
+    #[cycle(statement_drop)]
+    fn drop(self) {
+        let If {
+            condition: _,
+            then: _,
+            others: _,
+            otherwise: _,
+            span: _,
+        } = self;
+    }
+}
+
 /// `else if (condition) then`
-#[derive(Drop)]
 #[cycle(statement)]
 pub struct ElseIf {
     pub condition: Expr,
     pub then: Block,
+}
+
+impl Drop for ElseIf {
+    #[cycle(statement_drop)]
+    fn drop(self) {
+        let ElseIf {
+            condition: _,
+            then: _,
+        } = self;
+    }
 }
 
 /// The words that a statement of text for a trace begins with.

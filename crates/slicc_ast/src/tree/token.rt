@@ -1,7 +1,6 @@
 use ruby_base::Text;
 
 /// What a token is, its place aside.
-#[derive(Drop)]
 pub enum TokenKind {
     /// A name that is no reserved word: at most 128 bytes.
     Name(Text),
@@ -13,6 +12,19 @@ pub enum TokenKind {
     Sign(Sign),
     /// The end of the text, which stands after the last token.
     End,
+}
+
+impl Drop for TokenKind {
+    fn drop(self) {
+        match self {
+            TokenKind::Name(_) => {}
+            TokenKind::Number(_) => {}
+            TokenKind::Quoted(_) => {}
+            TokenKind::Word(_) => {}
+            TokenKind::Sign(_) => {}
+            TokenKind::End => {}
+        }
+    }
 }
 
 /// The reserved words.
