@@ -16,6 +16,8 @@ pub use attributes::{
 };
 pub use lent::{Declared, KnownType, Scope};
 pub use lines::{LineSort, first_line};
+pub use lists::{declared, machine_list};
 pub use scopes::Scopes;
+pub use table::name_of;
 pub use types::{declared_type, table_named};
 pub use words::{after_prefix, before_suffix};

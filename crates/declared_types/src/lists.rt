@@ -1,7 +1,9 @@
 //! The declarations of a scope, in the order of the text.
 ghost use Rattle.std.specs.Prelude.{◌≡◌, ◌++◌, [], IfOk, OnOk, map, flat_map};
+ghost use Rattle.std.specs.Option.{option_map};
+ghost use Rattle.slicc_plan.specs.Buffers.{listed};
 ghost use Rattle.slicc_plan.specs.Declarations.{global_declarations, item_declarations, machine_declarations, named_declarations, parameter};
-ghost use Rattle.declared_types.specs.Lent.{declarations_of};
+ghost use Rattle.declared_types.specs.Lent.{declaration_of, declarations_of};
 
 use crate::lent::Declared;
 use ruby_base::{NoMemory, Seq};
@@ -51,19 +53,29 @@ fn add_parameters<'a>(
     Ok(())
 }
 
-fn add_declaration<'a>(list: &mut Seq<Declared<'a>>, d: &'a Decl) -> Result<(), NoMemory>
-    ensures { OnOk result (declarations_of list.new ≡ declarations_of list.old ++ named_declarations d.now) }
+/// What a declaration of a machine declares by a name. A transition has none.
+pub fn declared<'a>(d: &'a Decl) -> Option<Declared<'a>>
+    ensures { listed (option_map declaration_of result) ≡ named_declarations d.now }
 {
     match d {
-        Decl::States(s) => list.push(Declared::States(s)),
-        Decl::Enumeration(e) => list.push(Declared::Enumeration(e)),
-        Decl::Structure(s) => list.push(Declared::Structure(s)),
-        Decl::OutPort(p) => list.push(Declared::OutPort(p)),
-        Decl::InPort(p) => list.push(Declared::InPort(p)),
-        Decl::Action(a) => list.push(Declared::Action(a)),
-        Decl::Transition(_) => Ok(()),
-        Decl::Function(f) => list.push(Declared::Function(f)),
-        Decl::Object(o) => list.push(Declared::Object(o)),
+        Decl::States(s) => Some(Declared::States(s)),
+        Decl::Enumeration(e) => Some(Declared::Enumeration(e)),
+        Decl::Structure(s) => Some(Declared::Structure(s)),
+        Decl::OutPort(p) => Some(Declared::OutPort(p)),
+        Decl::InPort(p) => Some(Declared::InPort(p)),
+        Decl::Action(a) => Some(Declared::Action(a)),
+        Decl::Transition(_) => None,
+        Decl::Function(f) => Some(Declared::Function(f)),
+        Decl::Object(o) => Some(Declared::Object(o)),
+    }
+}
+
+fn add_declared<'a>(list: &mut Seq<Declared<'a>>, d: &'a Decl) -> Result<(), NoMemory>
+    ensures { OnOk result (declarations_of list.new ≡ declarations_of list.old ++ named_declarations d.now) }
+{
+    match declared(d) {
+        None => Ok(()),
+        Some(found) => list.push(found),
     }
 }
 
@@ -74,7 +86,7 @@ fn add_declarations<'a>(
     ensures { OnOk result (declarations_of list.new ≡ declarations_of list.old ++ flat_map named_declarations declarations.now) }
 {
     for d in declarations {
-        add_declaration(list, d)?;
+        add_declared(list, d)?;
     }
     Ok(())
 }

@@ -1,8 +1,8 @@
 //! The declarations of a scope with an index from their names.
-ghost use Rattle.std.specs.Prelude.{◌≡◌, [], length, IfOk, OnOk};
+ghost use Rattle.std.specs.Prelude.{◌≡◌, [], length, IfOk, OnOk, Some};
 ghost use Rattle.std.specs.Option.{option_map};
 ghost use Rattle.name_index.specs.Numbering.{number_among, with_name};
-ghost use Rattle.slicc_plan.specs.Declarations.{first_named, function_name};
+ghost use Rattle.slicc_plan.specs.Declarations.{first_named, function_name, name_of};
 ghost use Rattle.declared_types.specs.Lent.{declaration_of, declarations_of, scope_of, text_of, texts_of};
 ghost use Rattle.declared_types.specs.Table.{IsIndexed, with_first};
 
@@ -34,24 +34,31 @@ fn function_name(f: &Function) -> &Name
 }
 
 /// The name that is declared.
-pub fn name_text<'a>(d: Declared<'a>) -> &'a [u8]
-    ensures { result.now ≡ text_of d.entry }
+pub fn name_of<'a>(d: Declared<'a>) -> &'a Name
+    ensures name { name_of (declaration_of d.entry) ≡ Some result.now }
+    ensures text { result.now.text ≡ text_of d.entry }
 {
     match d {
-        Declared::Machine(m) => m.name.text.as_slice(),
-        Declared::Enumeration(e) => e.name.text.as_slice(),
-        Declared::Structure(s) => s.name.text.as_slice(),
-        Declared::States(s) => s.name.text.as_slice(),
-        Declared::Parameter(p) => p.name.text.as_slice(),
-        Declared::Object(o) => o.name.text.as_slice(),
-        Declared::OutPort(p) => p.name.text.as_slice(),
-        Declared::InPort(p) => p.name.text.as_slice(),
-        Declared::Action(a) => a.name.text.as_slice(),
-        Declared::Function(f) => function_name(f).text.as_slice(),
+        Declared::Machine(m) => &m.name,
+        Declared::Enumeration(e) => &e.name,
+        Declared::Structure(s) => &s.name,
+        Declared::States(s) => &s.name,
+        Declared::Parameter(p) => &p.name,
+        Declared::Object(o) => &o.name,
+        Declared::OutPort(p) => &p.name,
+        Declared::InPort(p) => &p.name,
+        Declared::Action(a) => &a.name,
+        Declared::Function(f) => function_name(f),
     }
 }
 
 // Notes a declaration's name and number where it is the first one of that name.
+fn name_text<'a>(d: Declared<'a>) -> &'a [u8]
+    ensures { result.now ≡ text_of d.entry }
+{
+    name_of(d).text.as_slice()
+}
+
 fn add_first(
     names: &mut NameIndex,
     firsts: &mut Seq<usize>,

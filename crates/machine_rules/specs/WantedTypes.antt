@@ -1,9 +1,5 @@
 -- Wanted types, as the definitions of a protocol's meaning see them.
 use Rattle.std.specs.Prelude.{Option, None, Some, List, [], ◌∷◌}
-use Rattle.std.specs.Option.{option_map}
-use Rattle.std.specs.Borrow.{Bor}
-use Rattle.slicc_ast.specs.declared.tree.declaration.States.{States}
-use Rattle.slicc_plan.specs.Declarations.{Declaration, states}
 use Rattle.slicc_plan.specs.StateFunctions as plan
 use Rattle.machine_rules.specs.declared.wanted.Wanted.{Wanted}
 use Rattle.machine_rules.specs.declared.wanted.Wanted.TheVariants.{BuiltIn, Line, OwnState}
@@ -18,6 +14,3 @@ abbrev pub wanted_present : List (Option Wanted) → List plan.Wanted
 wanted_present [] = []
 wanted_present (None ∷ ws) = wanted_present ws
 wanted_present (Some w ∷ ws) = wanted_of w ∷ wanted_present ws
-
-abbrev pub found_states : Option (Bor States) → Option Declaration
-found_states found = option_map (λ s. states s.now) found

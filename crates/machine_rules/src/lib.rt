@@ -9,7 +9,6 @@ mod parts;
 mod port_rules;
 mod ports;
 mod rule;
-mod same;
 mod state_rules;
 mod wanted;
 

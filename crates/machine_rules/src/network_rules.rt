@@ -12,7 +12,7 @@ use crate::machine_in::MachineIn;
 use crate::port_rules::{WrongPorts, told_if};
 use crate::ports::{PortOn, all_ports};
 use crate::rule::{MachineRule, first_in_machines};
-use crate::same::same_type;
+use body_types::same_type;
 use declared_types::Scopes;
 use ruby_base::NoMemory;
 use slicc_plan::Broken;

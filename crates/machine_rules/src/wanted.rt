@@ -1,16 +1,16 @@
 //! The types that functions of states should take and answer.
-ghost use Rattle.std.specs.Prelude.{◌≡◌, find};
+ghost use Rattle.std.specs.Prelude.{◌≡◌};
 ghost use Rattle.std.specs.Option.{option_copied, option_map};
-ghost use Rattle.slicc_plan.specs.Declarations.{machine_declarations};
-ghost use Rattle.slicc_plan.specs.Limits.{is_states};
+ghost use Rattle.slicc_plan.specs.Declarations.{states as states_declaration};
 ghost use Rattle.slicc_plan.specs.StateFunctions.{are_wanted as are_wanted_of, is_own_states as is_own_states_of, is_own_structure as is_own_structure_of, is_wanted as is_wanted_of};
-ghost use Rattle.declared_types.specs.Lent.{declaration_of, declarations_of, type_of};
+ghost use Rattle.declared_types.specs.Lent.{type_of};
 ghost use Rattle.machine_rules.specs.MachinesIn.{IsMachineIn};
-ghost use Rattle.machine_rules.specs.WantedTypes.{found_states, wanted_of, wanted_present};
+ghost use Rattle.machine_rules.specs.WantedTypes.{wanted_of, wanted_present};
 
 use crate::machine_in::MachineIn;
 use declaration_rules::is_built_in;
-use declared_types::{Declared, KnownType, Scope};
+use declared_types::{KnownType, Scope};
+use machine_table::states;
 use slicc_ast::tree::{Formal, States, Structure};
 use slicc_plan::BuiltInType;
 
@@ -24,17 +24,6 @@ pub enum Wanted<'a> {
     OwnState,
 }
 
-fn first_states<'a>(declarations: &[Declared<'a>]) -> Option<&'a States>
-    ensures { found_states result ≡ find is_states (declarations_of declarations.now) }
-{
-    for d in declarations {
-        if let Declared::States(s) = d {
-            return Some(s);
-        }
-    }
-    None
-}
-
 // Whether a type is the machine's own of a name.
 fn is_own_structure(text: &[u8], t: Option<KnownType<'_>>) -> bool
     ensures { result ≡ is_own_structure_of text.now (option_map type_of t.entry) }
@@ -46,7 +35,7 @@ fn is_own_structure(text: &[u8], t: Option<KnownType<'_>>) -> bool
 }
 
 fn is_own_states(states: Option<&States>, t: Option<KnownType<'_>>) -> bool
-    ensures { result ≡ is_own_states_of (found_states states.entry) (option_map type_of t.entry) }
+    ensures { result ≡ is_own_states_of (option_map states_declaration (option_copied states.entry)) (option_map type_of t.entry) }
 {
     let Some(states) = states else {
         return false;
@@ -70,7 +59,7 @@ pub fn is_wanted(m: MachineIn<'_, '_>, wanted: Wanted<'_>, t: Option<KnownType<'
     match wanted {
         Wanted::BuiltIn(b) => is_built_in(b, t),
         Wanted::Line(s) => is_own_structure(s.name.text.as_slice(), t),
-        Wanted::OwnState => is_own_states(first_states(m.scopes.declarations(m.scope)), t),
+        Wanted::OwnState => is_own_states(states(m.machine), t),
     }
 }
 

@@ -1,7 +1,7 @@
 -- What a machine of an accepted protocol is to its controllers keeps what their crate asks of a machine.
 use Rattle.std.proofs.Common.{◌≡◌, ◌+◌, ◌<◌, ◌≤◌, ◌==◌, ◌&&◌, ℕ, Bool, true, false, Option, None, Some, IfSome, IsTrue, List, [], ◌∷◌, All, length, slice_get, refl, sym, subst, ◌∙◌, ap, arith}
 use Rattle.std.specs.Option.{option_map}
-use Rattle.std.proofs.lemmas.List.Elements.{All-head, All-tail, All-cons, All-nil}
+use Rattle.std.proofs.lemmas.List.Elements.{All-head, All-tail, All-cons, All-nil, All-weaker}
 use Rattle.std.proofs.lemmas.Option.{IfSome_then}
 use Rattle.std.proofs.lemmas.Bool.Decides.{Decides-eqb}
 use Rattle.ruby_value.specs.declared.kind.Kind.{Kind}
@@ -144,17 +144,9 @@ alike trees a b h g = record {
   receivers = λ network e. same_receivers trees network a.place b.place (names_by_network trees a.place a.ordered a.kinds network h e.0) (names_by_network trees b.place b.ordered b.kinds network g e.1);
 }
 
-alike_to_all : (trees : List Tree) (a : BufferSetup) (bs : List BufferSetup) → plan.HasTypeOf trees a → All (λ (b : BufferSetup). plan.HasTypeOf trees b) bs → All (face.AgreeOnType a) bs
-alike_to_all trees a [] h all = All-nil (face.AgreeOnType a)
-alike_to_all trees a (b ∷ bs) h all =
-    All-cons (face.AgreeOnType a) b bs (alike trees a b h (All-head (λ (b : BufferSetup). plan.HasTypeOf trees b) b bs all))
-    (alike_to_all trees a bs h (All-tail (λ (b : BufferSetup). plan.HasTypeOf trees b) b bs all))
-
-all_alike : (trees : List Tree) (cs bs : List BufferSetup) → All (λ (b : BufferSetup). plan.HasTypeOf trees b) cs → All (λ (b : BufferSetup). plan.HasTypeOf trees b) bs → All (λ a. All (face.AgreeOnType a) bs) cs
-all_alike trees [] bs some all = All-nil (λ a. All (face.AgreeOnType a) bs)
-all_alike trees (c ∷ cs) bs some all =
-    All-cons (λ a. All (face.AgreeOnType a) bs) c cs (alike_to_all trees c bs (All-head (λ (b : BufferSetup). plan.HasTypeOf trees b) c cs some) all)
-    (all_alike trees cs bs (All-tail (λ (b : BufferSetup). plan.HasTypeOf trees b) c cs some) all)
+pub all_alike : (trees : List Tree) (cs bs : List BufferSetup) → All (plan.HasTypeOf trees) cs → All (plan.HasTypeOf trees) bs → All (λ a. All (face.AgreeOnType a) bs) cs
+all_alike trees cs bs some all =
+    All-weaker (plan.HasTypeOf trees) (λ a. All (face.AgreeOnType a) bs) (λ a typed. All-weaker (plan.HasTypeOf trees) (face.AgreeOnType a) (λ b own. alike trees a b typed own) bs all) cs some
 
 -- The machine, by what is known of its parts.
 

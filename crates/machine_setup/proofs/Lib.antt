@@ -1,3 +1,2 @@
+mod BySymbols
 pub mod Lawful
-pub mod Numbered
-mod Own

@@ -1,92 +1,66 @@
 //! What a machine of a protocol is to its controllers.
-ghost use Rattle.std.specs.Prelude.{◌≡◌, ◌++◌, [], ◌∷◌, IfOk, IsSomeAnd, Some, slice_get};
-ghost use Rattle.slicc_plan.specs.Declarations.{machine_declarations, machines_of};
-ghost use Rattle.slicc_plan.specs.Setups.{parameter_table, setup_in, setup_of, tables_from};
-ghost use Rattle.slicc_plan.specs.Tables.{tables_of};
-ghost use Rattle.declared_types.specs.Lent.{declarations_of};
-ghost use Rattle.machine_setup.specs.Seen.{IsOwn};
-ghost use Rattle.type_numbers.specs.Numbered.{AreNumbered, trees_of};
+ghost use Rattle.std.specs.Prelude.{◌≡◌, ◌++◌, [], ◌∷◌, IfOk, slice_get};
+ghost use Rattle.slicc_plan.specs.Setups.{setup_of};
+ghost use Rattle.machine_setup.specs.BySymbols.{default_of, default_state_by, setup_by, tables_by, values_by};
 
+use crate::buffers::buffers;
 use crate::line_tables::line_tables;
 use crate::parameter_table::parameter_table;
-use crate::states::{default_state, has_sequencer};
-use declared_types::{Declared, Scopes};
 use ruby_base::{NoMemory, Seq};
-use ruby_symbols::MachineSymbols;
+use ruby_symbols::{MachineSymbols, Symbols};
 use ruby_value::{MachineSetup, Sizes, TableSetup};
-use slicc_ast::tree::Machine;
 use slicc_plan::Plan;
 use std::alloc::Global;
-use type_numbers::{TypeNumbers, buffer_setups, machine_list, number_types};
 
-fn all_tables<'a>(
+// The default member of the enumeration of this number.
+fn default_of(symbols: &Symbols, number: u16) -> u16
+    ensures { result ≡ default_of (slice_get symbols.now.enumerations number) }
+{
+    match symbols.enumerations.get(number as usize) {
+        None => 0,
+        Some(e) => e.default,
+    }
+}
+
+// The state of a line that was never set, where the machine doesn't say itself how states are read.
+fn default_state(symbols: &Symbols, own: &MachineSymbols) -> Option<u16>
+    ensures { result ≡ default_state_by symbols.now own.now }
+{
+    match own.get_state {
+        None => Some(default_of(symbols, own.states)),
+        Some(_) => None,
+    }
+}
+
+fn all_tables(
     alloc: Global,
-    types: &TypeNumbers<'a>,
+    symbols: &Symbols,
     number: u16,
-    m: &'a Machine,
-    declarations: &[Declared<'a>],
     own: &MachineSymbols,
     sizes: &Sizes,
 ) -> Result<Seq<TableSetup>, NoMemory>
-    requires types { AreNumbered types.now }
-    requires declarations { declarations_of declarations.now ≡ machine_declarations m.now }
-    requires own { IsOwn (trees_of types.now) m.now own.now }
-    ensures { IfOk result (λ tables. tables ≡ tables_from (trees_of types.now) m.now sizes.now 0 (tables_of (trees_of types.now) m.now) ++ parameter_table (trees_of types.now) number m.now sizes.now ∷ []) }
+    ensures { IfOk result (λ tables. tables ≡ tables_by symbols.now own.now sizes.now 0 own.now.tables ++ values_by symbols.now number own.now sizes.now ∷ []) }
 {
-    let mut tables = line_tables(alloc, types, m, declarations, sizes, &own.tables)?;
-    let parameters = parameter_table(alloc, types, number, m, &own.values, sizes)?;
-    tables.push(parameters)?;
+    let mut tables = line_tables(alloc, symbols, own, sizes)?;
+    tables.push(parameter_table(alloc, symbols, number, own, sizes)?)?;
     Ok(tables)
 }
 
-fn setup_with<'a>(
+fn setup_by(
     alloc: Global,
-    types: &TypeNumbers<'a>,
+    symbols: &Symbols,
     number: u16,
-    m: &'a Machine,
-    declarations: &[Declared<'a>],
     own: &MachineSymbols,
     sizes: &Sizes,
 ) -> Result<MachineSetup, NoMemory>
-    requires types { AreNumbered types.now }
-    requires declarations { declarations_of declarations.now ≡ machine_declarations m.now }
-    requires own { IsOwn (trees_of types.now) m.now own.now }
-    ensures { IfOk result (λ setup. setup ≡ setup_in (trees_of types.now) number sizes.now m.now) }
+    ensures { IfOk result (λ setup. setup ≡ setup_by symbols.now number own.now sizes.now) }
 {
-    let default_state = default_state(m, declarations)?;
-    let has_sequencer = has_sequencer(types, m, declarations);
-    let buffers = buffer_setups(alloc, types, number, m, declarations)?;
-    let tables = all_tables(alloc, types, number, m, declarations, own, sizes)?;
     Ok(MachineSetup {
-        tables,
-        buffers,
-        default_state,
-        has_sequencer,
+        tables: all_tables(alloc, symbols, number, own, sizes)?,
+        buffers: buffers(alloc, symbols, &own.buffers)?,
+        default_state: default_state(symbols, own),
+        has_sequencer: own.sequencer.is_some(),
     })
-}
-
-fn setup_in<'a>(
-    alloc: Global,
-    types: &TypeNumbers<'a>,
-    number: u16,
-    m: &'a Machine,
-    own: &MachineSymbols,
-    sizes: &Sizes,
-) -> Result<MachineSetup, NoMemory>
-    requires types { AreNumbered types.now }
-    requires own { IsOwn (trees_of types.now) m.now own.now }
-    ensures { IfOk result (λ setup. setup ≡ setup_in (trees_of types.now) number sizes.now m.now) }
-{
-    let declarations = machine_list(alloc, m)?;
-    setup_with(alloc, types, number, m, &declarations, own, sizes)
-}
-
-// The symbols of a machine, which has this number.
-fn own_symbols<'a>(plan: &'a Plan, machine: u16, m: &Machine) -> Option<&'a MachineSymbols>
-    requires { slice_get (machines_of plan.now) machine ≡ Some m.now }
-    ensures { IsSomeAnd result (λ own. IsOwn plan.now m.now own.now) }
-{
-    plan.symbols().machines.get(machine as usize)
 }
 
 /// What the machine of this number is to its controllers, with the sizes that a topology sets; `None` where the protocol has
@@ -99,13 +73,10 @@ pub fn setup(
 ) -> Result<Option<MachineSetup>, NoMemory>
     ensures { IfOk result (λ setup. setup ≡ setup_of plan.now machine sizes.now) }
 {
-    let Some(m) = plan.machine(machine) else {
-        return Ok(None);
-    };
-    let Some(own) = own_symbols(plan, machine, m) else {
-        return Ok(None);
-    };
-    let scopes = Scopes::new(alloc, plan.trees())?;
-    let types = number_types(alloc, scopes)?;
-    Ok(Some(setup_in(alloc, &types, machine, m, own, sizes)?))
+    let _accepted = plan.trees();
+    let symbols = plan.symbols();
+    match symbols.machines.get(machine as usize) {
+        None => Ok(None),
+        Some(own) => Ok(Some(setup_by(alloc, symbols, machine, own, sizes)?)),
+    }
 }

@@ -16,7 +16,7 @@ use crate::written::written_transitions;
 use pair_table::{Table, table_of};
 use ruby_base::{NoMemory, Seq};
 use slicc_ast::tree::{Machine, Tree};
-use slicc_plan::Broken;
+use slicc_plan::{Broken, Plan};
 use std::alloc::Global;
 
 // The table of the machine of this number.
@@ -71,10 +71,10 @@ pub fn tabulate(
     tables_of(alloc, first, &machines)
 }
 
-/// The tables of a protocol's machines. `Duplicate` comes exactly where a state and an event of a machine have two written
-/// transitions, with the first such second one, in the order of machines and of the text, and the earliest that has a pair
-/// with it.
-pub fn build(alloc: Global, trees: &[Tree]) -> Result<Tables, TableFault>
+/// The tables of the machines of a protocol with these trees. `Duplicate` comes exactly where a state and an event of a machine have
+/// two written transitions, with the first such second one, in the order of machines and of the text, and the earliest that has a
+/// pair with it.
+pub fn build_of_trees(alloc: Global, trees: &[Tree]) -> Result<Tables, TableFault>
     ensures { IsBuilt trees.now result }
 {
     match tabulate(alloc, None, trees) {
@@ -85,4 +85,11 @@ pub fn build(alloc: Global, trees: &[Tree]) -> Result<Tables, TableFault>
             second: b.place,
         }),
     }
+}
+
+/// The tables of a plan's machines. `Duplicate` comes never, since a plan keeps all rules.
+pub fn build(alloc: Global, plan: &Plan) -> Result<Tables, TableFault>
+    ensures { IsBuilt plan.now result }
+{
+    build_of_trees(alloc, plan.trees())
 }

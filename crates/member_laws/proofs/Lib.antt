@@ -11,7 +11,6 @@ pub mod Expressions
 pub mod Statements
 pub mod Scan
 pub mod Scans
-pub mod Names
 pub mod OfMachine
 pub mod Runs
 pub mod Declared

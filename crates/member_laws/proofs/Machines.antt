@@ -41,7 +41,7 @@ use Rattle.slicc_plan.specs.BodySizes.{large_bodies}
 use Rattle.slicc_plan.specs.BuiltIn.{permissions}
 use Rattle.slicc_plan.specs.Buffers.{is_same_scope}
 use Rattle.slicc_plan.specs.CallsBetween.{call_circles}
-use Rattle.slicc_plan.specs.Declarations.{Declaration, machine, enumeration, structure, states, parameter, object, out_port, in_port, action, function, symbol, state, member, formal, local, within, global_declarations, is_named, machine_declarations, machines_of}
+use Rattle.slicc_plan.specs.Declarations.{Declaration, machine, enumeration, states, parameter, object, symbol, state, member, within, global_declarations, is_named, machine_declarations, machines_of}
 use Rattle.slicc_plan.specs.FieldTypes.{field_of}
 use Rattle.slicc_plan.specs.InitialFields.{initial_value}
 use Rattle.slicc_plan.specs.Limits.{event_members, is_enumeration, is_events, is_states, members_in, members_of_found, state_members}
@@ -66,30 +66,23 @@ use Rattle.ctl_face.proofs.Lines.{All-found}
 use Rattle.ruby_topology.specs.declared.topology.Topology.{Topology}
 use Rattle.topology_fit.specs.FitsPlan.{AreSizesIn, FitsPlan}
 use Rattle.topology_fit.specs.Setups.{ranges_of, setups_of}
-use Rattle.topology_fit.proofs.ByNumber.{setup_found, setups_counted, symbols_counted, symbols_found}
-use Rattle.topology_fit.proofs.Places.{any_get, any_position, at_position, get_right}
+use Rattle.topology_fit.proofs.ByNumber.{setup_found, setups_counted, symbols_found}
+use Rattle.topology_fit.proofs.Places.{any_get, any_position, at_position}
 use Rattle.protocol_runs.proofs.Ranges.{first-free}
 use Rattle.body_meaning.specs.Reading.{Reading}
 use Rattle.protocol_meaning.specs.Kept.{IsKept, KeepsRanges, kept_value}
 use Rattle.protocol_meaning.specs.Readings.{reading_of, reading_with}
 use Rattle.protocol_meaning.proofs.Kept.{ranges_are_kept}
+use Rattle.symbol_laws.proofs.Machines.{symbols_counted}
+use Rattle.symbol_laws.proofs.There.{There, found_passes, get_right, in_machine, machine_there, there_found}
 use Rattle.member_laws.specs.Extent.{AreWithin, Extent, IsMember, IsWithin, members_of}
 use Rattle.member_laws.proofs.Bounds.{Bounds}
 use Rattle.member_laws.proofs.Reading.{ReadingWithin, TransitionWithin, bounds_of}
 use Rattle.member_laws.specs.Runs.{declared_extent}
 use Rattle.member_laws.proofs.OfMachine.{MachineWithin}
 use Rattle.member_laws.proofs.Setting.{HasRange}
-use Rattle.member_laws.proofs.Declared.{L, There, as_enumeration, counted, in_machine, listed, machine_there, names_in, text_in, there_found}
+use Rattle.member_laws.proofs.Declared.{L, as_enumeration, counted, listed, names_in, text_in}
 use Rattle.member_laws.proofs.Symbols.{Field-within, KindWithin, field_within, kind_within, structures_within}
-
--- what a search finds passes its test
-found_passes : {X : Type 0} (p : X → Bool) (xs : List X) (x : X) → find p xs ≡ Some x → p x ≡ true
-found_passes p [] x is = absurd (cc is)
-found_passes p (y ∷ ys) x is = by (λ rest. found_passes p ys x rest) (p y) refl is
-  where
-    by : (find p ys ≡ Some x → p x ≡ true) → (b : Bool) → p y ≡ b → cond b (Some y) (find p ys) ≡ Some x → p x ≡ true
-    by later true here same = let equal : y ≡ x = cc same in ap p (sym equal) ∙ here
-    by later false here rest = later rest
 
 -- States and events.
 
@@ -101,36 +94,12 @@ as_many d = refl
 states_are : (d : Declaration) → is_states d ≡ true → is_enumeration d ≡ true
 states_are (states d) is = refl
 states_are (enumeration d) is = refl
-states_are (machine x) is = absurd (cc is)
-states_are (structure x) is = absurd (cc is)
-states_are (parameter x) is = absurd (cc is)
-states_are (object x) is = absurd (cc is)
-states_are (out_port x) is = absurd (cc is)
-states_are (in_port x) is = absurd (cc is)
-states_are (action x) is = absurd (cc is)
-states_are (function x) is = absurd (cc is)
-states_are (symbol x) is = absurd (cc is)
-states_are (state x) is = absurd (cc is)
-states_are (member x) is = absurd (cc is)
-states_are (formal x) is = absurd (cc is)
-states_are (local x y z) is = absurd (cc is)
+states_are _ is = absurd (cc is)
 
 events_are : (d : Declaration) → is_events d ≡ true → is_enumeration d ≡ true
 events_are (enumeration d) is = refl
 events_are (states d) is = refl
-events_are (machine x) is = absurd (cc is)
-events_are (structure x) is = absurd (cc is)
-events_are (parameter x) is = absurd (cc is)
-events_are (object x) is = absurd (cc is)
-events_are (out_port x) is = absurd (cc is)
-events_are (in_port x) is = absurd (cc is)
-events_are (action x) is = absurd (cc is)
-events_are (function x) is = absurd (cc is)
-events_are (symbol x) is = absurd (cc is)
-events_are (state x) is = absurd (cc is)
-events_are (member x) is = absurd (cc is)
-events_are (formal x) is = absurd (cc is)
-events_are (local x y z) is = absurd (cc is)
+events_are _ is = absurd (cc is)
 
 -- Numbers of names.
 
@@ -174,7 +143,7 @@ module _ (trees : List Tree) (accepted : IsAccepted trees) (controllers : ℕ) (
         let t : KnownType = enumerated (within m) (text_in d) (names_in d) in
         let x : ScopedDeclaration = made_in (within m) d in
         let one = as_enumeration trees (within m) d enum in
-        let in_list = listed trees accepted x (in_machine trees accepted m d there at) enum in
+        let in_list = listed trees accepted x (in_machine trees m d there at) enum in
         let scopes : is_same_scope (within m) (within m) ≡ true = same_text m.name.text in
         let texts = same_text (text_in d) in
         let itself : is_known_as t (Some (enumerated (within m) (text_in d) (names_in d))) ≡ true = both scopes texts in

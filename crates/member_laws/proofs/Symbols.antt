@@ -21,7 +21,7 @@ use Rattle.slicc_plan.specs.AllRules.{IsAccepted}
 use Rattle.slicc_plan.specs.Attributes.{Attribute, first_attribute}
 use Rattle.slicc_plan.specs.BuiltIn.{NamedType, built_in_type, request_fields}
 use Rattle.slicc_plan.specs.BuiltIn as names
-use Rattle.slicc_plan.specs.Declarations.{Declaration, machine, enumeration, structure, states, parameter, object, out_port, in_port, action, function, symbol, state, member, formal, local, Scope, everywhere, within, first_named, global_declarations, is_external, is_named, machine_declarations, machine_names}
+use Rattle.slicc_plan.specs.Declarations.{Declaration, machine, enumeration, structure, states, member, Scope, everywhere, within, first_named, global_declarations, is_external, is_named, machine_declarations, machine_names}
 use Rattle.slicc_plan.specs.FieldTypes.{FieldIn, field_type}
 use Rattle.slicc_plan.specs.InitialFields.{field_kind, initial_of, initial_value, member_written, value_by, value_written}
 use Rattle.slicc_plan.specs.Limits.{is_counted_structure, is_enumeration}
@@ -29,9 +29,10 @@ use Rattle.slicc_plan.specs.SymbolsOf.{symbols_of}
 use Rattle.slicc_plan.specs.SymbolsOfTypes.{field_of_type, field_symbol, field_symbols, owner, request_field, request_symbol, structure_declared, structure_symbol, structure_symbols}
 use Rattle.slicc_plan.specs.TypeNumbers.{ScopedDeclaration, built_in_kind, declared_number, declared_structures, default_member, is_default_of, kind_or_bool, made_in, made_with_its_own, member_number, plain_kind, scoped_declarations}
 use Rattle.slicc_plan.specs.Types.{KnownType, built_in, enumerated, structured, declared_type, external_type, global_type, structure_type, table_named, type_in, type_of_found, type_where}
+use Rattle.symbol_laws.proofs.There.{There, in_machine, there_first, there_flat, there_found, there_later}
 use Rattle.member_laws.specs.Extent.{Extent, IsMember, IsWithin, members_of}
 use Rattle.member_laws.specs.Runs.{declared_extent}
-use Rattle.member_laws.proofs.Declared.{There, L, counted, default_within, in_machine, listed, names_in, text_in, there_first, there_flat, there_found, there_later}
+use Rattle.member_laws.proofs.Declared.{L, counted, default_within, listed, names_in, text_in}
 
 -- a scope of the protocol
 abbrev pub InTrees : List Tree → Scope → Type 0
@@ -85,36 +86,13 @@ says : (scope other : Scope) (d : Declaration) (text : List ℕ) (members : List
 says scope other (enumeration e) text members is = let same = no_enumeration scope other text members (enumerated scope (text_in (enumeration e)) (names_in (enumeration e))) is in record { is = refl; scope_is = cc same; text_is = cc same; members_are = cc same }
 says scope other (states d) text members is = let same = no_enumeration scope other text members (enumerated scope (text_in (states d)) (names_in (states d))) is in record { is = refl; scope_is = cc same; text_is = cc same; members_are = cc same }
 says scope other (structure x) text members is = absurd (structure_none scope other text members x (is_external x) (no_enumeration scope other text members (structure_type scope x (is_external x)) is))
-says scope other (machine x) text members is = absurd (cc is)
-says scope other (parameter x) text members is = absurd (cc is)
-says scope other (object x) text members is = absurd (cc is)
-says scope other (out_port x) text members is = absurd (cc is)
-says scope other (in_port x) text members is = absurd (cc is)
-says scope other (action x) text members is = absurd (cc is)
-says scope other (function x) text members is = absurd (cc is)
-says scope other (symbol x) text members is = absurd (cc is)
-says scope other (state x) text members is = absurd (cc is)
-says scope other (member x) text members is = absurd (cc is)
-says scope other (formal x) text members is = absurd (cc is)
-says scope other (local x y z) text members is = absurd (cc is)
+says scope other _ text members is = absurd (cc is)
 
 -- right in the protocol
 made_alone : (d : Declaration) → is_enumeration d ≡ true → There (made_with_its_own d) (made_in everywhere d)
 made_alone (enumeration e) is = (0, refl)
 made_alone (states e) is = (0, refl)
-made_alone (machine x) is = absurd (cc is)
-made_alone (structure x) is = absurd (cc is)
-made_alone (parameter x) is = absurd (cc is)
-made_alone (object x) is = absurd (cc is)
-made_alone (out_port x) is = absurd (cc is)
-made_alone (in_port x) is = absurd (cc is)
-made_alone (action x) is = absurd (cc is)
-made_alone (function x) is = absurd (cc is)
-made_alone (symbol x) is = absurd (cc is)
-made_alone (state x) is = absurd (cc is)
-made_alone (member x) is = absurd (cc is)
-made_alone (formal x) is = absurd (cc is)
-made_alone (local x y z) is = absurd (cc is)
+made_alone _ is = absurd (cc is)
 
 module _ (trees : List Tree) (accepted : IsAccepted trees) where
   from_scope : (scope : Scope) (d : Declaration) (other : Scope) (text : List ℕ) (members : List (List ℕ)) → ((is_enumeration d ≡ true) → There (scoped_declarations trees) (made_in scope d))
@@ -150,7 +128,7 @@ module _ (trees : List Tree) (accepted : IsAccepted trees) where
       by : (o : Option Declaration) → find (is_named text) (machine_declarations m) ≡ o → type_where trees (within m) text o ≡ Some (enumerated other name members) → ComesFrom trees other name members
       by None found same = global_comes text other name members same
       by (Some d) found same =
-          from_scope (within m) d other name members (λ _. in_machine trees accepted m d there (there_found (is_named text) (machine_declarations m) d found)) same
+          from_scope (within m) d other name members (λ _. in_machine trees m d there (there_found (is_named text) (machine_declarations m) d found)) same
 
   module _ (controllers : ℕ) where
     abbrev E : Extent

@@ -16,47 +16,19 @@ use Rattle.slicc_ast.specs.declared.tree.machine.Machine.{Machine}
 use Rattle.slicc_plan.specs.Declarations.{Declaration, object, parameter, machine_declarations, machines_of}
 use Rattle.slicc_plan.specs.MachineValues.{values_of}
 use Rattle.slicc_plan.specs.Setups.{parameter_table, range_values, setup_in, setup_of, tables_from, values_from}
-use Rattle.slicc_plan.specs.SymbolsOf.{machines_from, symbols_of}
+use Rattle.slicc_plan.specs.SymbolsOf.{symbols_of}
 use Rattle.slicc_plan.specs.SymbolsOfMachines.{machine_symbols, table_of_sort, table_symbol}
 use Rattle.slicc_plan.specs.Tables.{table_in, tables_of}
+use Rattle.symbol_laws.proofs.Machines.{symbols_at, symbols_counted}
+use Rattle.symbol_laws.proofs.There.{get_right}
 use Rattle.built_in_acts.specs.declared.machines.KeptMachines.{KeptMachines}
 use Rattle.body_meaning.specs.Reading.{Reading}
 use Rattle.protocol_meaning.specs.Kept.{IsKept, KeepsRanges, kept_value}
 use Rattle.protocol_meaning.specs.Readings.{kept_machines, reading_of, reading_with}
 
--- behind a list
-after : {X : Type 0} (xs ys : List X) (k : ℕ) → slice_get (xs ++ ys) (length xs + k) ≡ slice_get ys k
-after [] ys k = let same : 0 + k ≡ k = omega arith in ap (slice_get ys) same
-after (x ∷ xs) ys k =
-    let next : suc (length xs) + k ≡ suc (length xs + k) = omega arith in ap (slice_get (x ∷ (xs ++ ys))) next ∙ after xs ys k
-
-after_counted : {X : Type 0} (xs ys : List X) (n k : ℕ) → n ≡ length xs → slice_get (xs ++ ys) (n + k) ≡ slice_get ys k
-after_counted xs ys n k is = ap (λ (m : ℕ). slice_get (xs ++ ys) (m + k)) is ∙ after xs ys k
-
 -- Symbols of machines.
 
 module _ (trees : List Tree) where
-  as_many : (n : ℕ) (ms : List Machine) → length (machines_from trees n ms) ≡ length ms
-  as_many n [] = refl
-  as_many n (m ∷ ms) = ap suc (as_many (n + 1) ms)
-
-  machine_at : (n : ℕ) (ms : List Machine) (k : ℕ) → slice_get (machines_from trees n ms) k ≡ option_map (machine_symbols trees (n + k)) (slice_get ms k)
-  machine_at n [] k = refl
-  machine_at n (m ∷ ms) zero = let same : n ≡ n + 0 = omega arith in ap (λ (i : ℕ). Some (machine_symbols trees i m)) same
-  machine_at n (m ∷ ms) (suc k) =
-      let same : n + 1 + k ≡ n + suc k = omega arith in
-      machine_at (n + 1) ms k ∙ ap (λ (i : ℕ). option_map (machine_symbols trees i) (slice_get ms k)) same
-
-  pub machines_counted : length (symbols_of trees).machines ≡ length (machines_of trees)
-  unfolding symbols_of
-  machines_counted = as_many 0 (machines_of trees)
-
-  pub machine_found : (k : ℕ) → slice_get (symbols_of trees).machines k ≡ option_map (machine_symbols trees k) (slice_get (machines_of trees) k)
-  unfolding symbols_of
-  machine_found k =
-      let same : 0 + k ≡ k = omega arith in
-      machine_at 0 (machines_of trees) k ∙ ap (λ (i : ℕ). option_map (machine_symbols trees i) (slice_get (machines_of trees) k)) same
-
   module _ (m : Machine) where
     one_more : (text : List ℕ) (o : Option TableSort) (xs : List TableSymbol) (ys : List TableSort) → length xs ≡ length ys
         → length (table_of_sort trees m text o ++ xs) ≡ length (cons_option o ys)
@@ -123,15 +95,13 @@ module _ (trees : List Tree) (number : ℕ) (sizes : Sizes) (m : Machine) where
   lines_counted = tables_as_symbols trees m number ∙ sym (lines_as_many trees m sizes 0 (tables_of trees m))
 
   values_there : slice_get setup.tables kept.table ≡ Some values
-  values_there =
-      let here : kept.table ≡ kept.table + 0 = omega arith in
-      ap (slice_get setup.tables) here ∙ after_counted lines (values ∷ []) kept.table 0 lines_counted
+  values_there = get_right lines (values ∷ []) kept.table 0 (omega (arith, lines_counted))
 
   value_at : (place : ℕ) → kept_value kept setup place ≡ slice_get (range_values sizes) place
   value_at place =
       ap (option_and_then (λ (t : TableSetup). slice_get t.initial (kept.first + place))) values_there
-      ∙ after_counted (values_from sizes 0 (values_of trees m)) (range_values sizes) kept.first place
-      (values_as_symbols trees m number ∙ sym (values_as_many sizes 0 (values_of trees m)))
+      ∙ get_right (values_from sizes 0 (values_of trees m)) (range_values sizes) (kept.first + place) place
+      (ap (λ n. n + place) (values_as_symbols trees m number ∙ sym (values_as_many sizes 0 (values_of trees m))))
 
   range_kept : (machine : ℕ) (o : Option (ℕ × ℕ)) → slice_get sizes.machines machine ≡ o → IfSome o (IsKept kept setup machine)
   range_kept machine None is = tt
@@ -143,7 +113,7 @@ module _ (trees : List Tree) (number : ℕ) (sizes : Sizes) (m : Machine) where
   keeps : length sizes.machines ≡ length (machines_of trees) → KeepsRanges kept setup sizes.machines
   keeps as_many = record {
     last = omega (arith, lines_counted, length-append lines (values ∷ []));
-    all = machines_counted trees ∙ sym as_many;
+    all = symbols_counted trees ∙ sym as_many;
     each = λ machine. range_kept machine _ refl;
   }
 
@@ -164,4 +134,4 @@ module _ (trees : List Tree) (number : ℕ) (sizes : Sizes) (r : Reading) (setup
       → KeepsRanges r.setting.kept setup sizes.machines
   ranges_are_kept reads =
       kept_by (slice_get (machines_of trees) number)
-      (ap (λ (m : Option MachineSymbols). read m (slice_get (machines_of trees) number)) (sym (machine_found trees number)) ∙ reads)
+      (ap (λ (m : Option MachineSymbols). read m (slice_get (machines_of trees) number)) (sym (symbols_at trees number)) ∙ reads)

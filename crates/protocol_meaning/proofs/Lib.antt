@@ -6,3 +6,4 @@ pub mod Rounds
 pub mod Fired
 pub mod Left
 pub mod Later
+pub mod Needs

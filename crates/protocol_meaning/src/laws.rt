@@ -1,11 +1,14 @@
 // What holds of every protocol and of every topology that fits it. These functions do nothing: their contracts are the laws.
-ghost use Rattle.std.specs.Prelude.{◌≡◌, ◌≤◌, ℕ, IfOk, List, Ok, Result, Some, length};
+ghost use Rattle.std.specs.Prelude.{◌≡◌, ◌≤◌, ℕ, IfOk, List, Ok, Result, Some, length, slice_get};
 ghost use Rattle.ruby_base.specs.declared.memory.NoMemory.{NoMemory};
 ghost use Rattle.slicc_ast.specs.declared.tree.item.Tree.{Tree as TreeRecord};
 ghost use Rattle.ruby_value.specs.declared.setup.MachineSetup.{MachineSetup as SetupRecord};
 ghost use Rattle.ruby_value.specs.declared.setup.Sizes.{Sizes as SizesRecord};
+ghost use Rattle.ruby_symbols.specs.declared.machine.TransitionSymbol.{TransitionSymbol as TransitionRecord};
+ghost use Rattle.slicc_plan.specs.AllRules.{IsAccepted};
 ghost use Rattle.slicc_plan.specs.Declarations.{machines_of};
 ghost use Rattle.slicc_plan.specs.Setups.{setup_of};
+ghost use Rattle.slicc_plan.specs.TableNeeds.{needs};
 ghost use Rattle.ruby_topology.specs.declared.topology.Topology.{Topology as TopologyRecord};
 ghost use Rattle.ctl_face.specs.Fits.{last_cycle};
 ghost use Rattle.ctl_face.specs.LocalView.{LocalView};
@@ -14,6 +17,7 @@ ghost use Rattle.topology_fit.specs.FitsPlan.{FitsPlan};
 ghost use Rattle.protocol_runs.specs.IsSetting.{IsSetting};
 ghost use Rattle.protocol_runs.specs.Meaning.{IsMeaning};
 ghost use Rattle.scan_meaning.specs.declared.round.RoundEnd.{RoundEnd as RoundRecord};
+ghost use Rattle.scan_meaning.specs.Actions.{need};
 ghost use Rattle.scan_meaning.specs.Round.{IsRoundOf};
 ghost use Rattle.protocol_meaning.specs.Kept.{KeepsRanges};
 ghost use Rattle.protocol_meaning.specs.Meaning.{meaning_of, scan_of};
@@ -68,4 +72,13 @@ pub fn calls_find_the_machines()
         → reading_of trees machine ≡ Some r → setup_of trees machine sizes ≡ Some setup
         → length sizes.machines ≡ length (machines_of trees)
         → KeepsRanges r.setting.kept setup sizes.machines }
+{}
+
+/// A transition of an accepted protocol needs as many free lines of a table as a try of it asks for, all by the numbers of symbols.
+pub fn needs_are_those_of_tries()
+    ensures { (trees : List TreeRecord) (machine transition table : ℕ) (s : Reading)
+        (row : TransitionRecord)
+        → IsAccepted trees → reading_of trees machine ≡ Some s
+        → slice_get s.machine.transitions transition ≡ Some row
+        → needs trees machine transition table ≡ need s row.actions table }
 {}

@@ -9,7 +9,7 @@ mod protocol;
 
 pub use every_scan::{scans_keep_what_holds, what_comes_later_changes_no_scan};
 pub use laws::{
-    calls_find_the_machines, fired_rounds_stay, meanings_are_lawful, rounds_are_scans,
-    settings_are_lawful,
+    calls_find_the_machines, fired_rounds_stay, meanings_are_lawful, needs_are_those_of_tries,
+    rounds_are_scans, settings_are_lawful,
 };
 pub use protocol::Protocol;

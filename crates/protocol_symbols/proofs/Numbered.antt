@@ -25,9 +25,10 @@ numbered_step f xs i x below is =
     let taken : take (i + 1) xs ≡ take i xs ++ x ∷ [] = rw (add-one, take-suc xs i x below) (ap (λ y. take i xs ++ y ∷ []) (sym is)) in
     ap (numbered_from f 0) taken ∙ numbered_more f 0 (take i xs) x ∙ ap (λ k. numbered_from f 0 (take i xs) ++ f k x) (counted xs i below)
 
-pub list_step : {X Y : Type 0} (f : ℕ → X → List Y) (xs : List X) (i : ℕ) (x : X) (old new : List Y) → i < length xs → x ≡ slice_index_or xs i x
-    → new ≡ old ++ f i x → old ≡ numbered_from f 0 (take i xs) → new ≡ numbered_from f 0 (take (i + 1) xs)
-list_step f xs i x old new below is more was = more ∙ ap (λ ys. ys ++ f i x) was ∙ sym (numbered_step f xs i x below is)
+pub list_step : {X Y : Type 0} (f : ℕ → X → List Y) (xs : List X) (i : ℕ) (x : X) (old now new : List Y) → i < length xs → x ≡ slice_index_or xs i x
+    → new ≡ now ++ f i x → now ≡ old ++ numbered_from f 0 (take i xs) → new ≡ old ++ numbered_from f 0 (take (i + 1) xs)
+list_step f xs i x old now new below is more was =
+    more ∙ ap (λ ys. ys ++ f i x) was ∙ append_assoc old (numbered_from f 0 (take i xs)) (f i x) ∙ ap (λ ys. old ++ ys) (sym (numbered_step f xs i x below is))
 
 machines_more : (trees : List Tree) (n : ℕ) (ms : List Machine) (m : Machine) → machines_from trees n (ms ++ m ∷ []) ≡ machines_from trees n ms ++ machine_symbols trees (n + length ms) m ∷ []
 machines_more trees n [] m = ap (λ k. machine_symbols trees k m ∷ []) (sym (add-zero n))
@@ -45,3 +46,9 @@ machines_step f trees xs i x below is =
     let taken : take (i + 1) xs ≡ take i xs ++ x ∷ [] = rw (add-one, take-suc xs i x below) (ap (λ y. take i xs ++ y ∷ []) (sym is)) in
     ap (λ ys. machines_from trees 0 (map f ys)) taken ∙ ap (machines_from trees 0) (map-append f (take i xs) (x ∷ []))
     ∙ machines_more trees 0 (map f (take i xs)) (f x) ∙ ap (λ k. machines_from trees 0 (map f (take i xs)) ++ machine_symbols trees k (f x) ∷ []) (mapped_count f xs i below)
+
+-- four elements, added one after another
+pub four_added : {X : Type 0} (old l1 l2 l3 l4 : List X) (a b c d : X) → l1 ≡ old ++ a ∷ [] → l2 ≡ l1 ++ b ∷ [] → l3 ≡ l2 ++ c ∷ [] → l4 ≡ l3 ++ d ∷ [] → l4 ≡ old ++ (a ∷ b ∷ c ∷ d ∷ [])
+four_added old l1 l2 l3 l4 a b c d p q r s =
+    s ∙ ap (λ xs. xs ++ d ∷ []) (r ∙ ap (λ xs. xs ++ c ∷ []) (q ∙ ap (λ xs. xs ++ b ∷ []) p))
+    ∙ append_assoc ((old ++ a ∷ []) ++ b ∷ []) (c ∷ []) (d ∷ []) ∙ append_assoc (old ++ a ∷ []) (b ∷ []) (c ∷ d ∷ []) ∙ append_assoc old (a ∷ []) (b ∷ c ∷ d ∷ [])

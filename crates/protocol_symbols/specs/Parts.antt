@@ -1,16 +1,19 @@
 -- The parts in which a machine's symbols are made.
-use Rattle.std.specs.Prelude.{◌≡◌, ◌++◌, ℕ, List, Option, find, flat_map, map}
+use Rattle.std.specs.Prelude.{◌≡◌, ◌++◌, ℕ, List, [], Option, find, flat_map, map}
 use Rattle.ruby_symbols.specs.declared.machine.BufferSymbol.{BufferSymbol}
+use Rattle.ruby_symbols.specs.declared.symbols.Symbols.{Symbols}
 use Rattle.slicc_ast.specs.declared.tree.declaration.Pairs.{Pairs}
 use Rattle.slicc_ast.specs.declared.tree.item.Tree.{Tree}
 use Rattle.slicc_ast.specs.declared.tree.machine.Decl.{Decl}
 use Rattle.slicc_ast.specs.declared.tree.machine.Literal.{Literal}
 use Rattle.slicc_ast.specs.declared.tree.machine.Machine.{Machine}
-use Rattle.slicc_plan.specs.Declarations.{Declaration, machine_declarations, within}
+use Rattle.slicc_plan.specs.Declarations.{Declaration, machine_declarations, machines_of, within}
 use Rattle.slicc_plan.specs.Limits.{is_events, is_states}
-use Rattle.slicc_plan.specs.MachineValues.{reference_in, reference_of_type, references_of, value_in, value_of_type, values_of}
+use Rattle.slicc_plan.specs.MachineValues.{reference_in, reference_of_type, value_in, value_of_type}
 use Rattle.slicc_plan.specs.Machines.{directory_structure, entry_structure, tbe_structure, written_of}
-use Rattle.slicc_plan.specs.SymbolsOfMachines.{action_symbol, buffer_symbol, buffer_symbols, function_symbol, in_port_symbol, line_number, number_of_found, numbered_from, out_port_symbol, permissions_found, sequencer_name, table_of_sort, table_symbol, transition_symbol}
+use Rattle.slicc_plan.specs.SymbolsOfMachines.{action_symbol, buffer_symbol, function_symbol, in_port_symbol, line_number, number_of_found, numbered_from, out_port_symbol, permissions_found, table_of_sort, table_symbol, transition_symbol}
+use Rattle.slicc_plan.specs.SymbolsOf.{machines_from}
+use Rattle.slicc_plan.specs.SymbolsOfTypes.{enumeration_symbols, structure_symbols}
 use Rattle.slicc_plan.specs.Tables.{table_sort}
 use Rattle.slicc_plan.specs.Types.{type_in}
 use Rattle.protocol_symbols.specs.declared.bodies.Bodies.{Bodies}
@@ -25,11 +28,8 @@ pub record AreNumbers (trees : List Tree) (m : Machine) (numbers : Numbers) : Ty
   pub directory : numbers.directory ≡ line_number trees m (directory_structure m)
   pub tbe : numbers.tbe ≡ line_number trees m (tbe_structure m)
 
-pub record AreObjects (trees : List Tree) (number : ℕ) (m : Machine) (objects : Objects) : Type 0 where
-  pub tables : objects.tables ≡ flat_map (table_symbol trees m) (machine_declarations m)
-  pub values : objects.values ≡ values_of trees m
-  pub references : objects.references ≡ references_of trees m
-  pub buffers : objects.buffers ≡ buffer_symbols trees number m
+abbrev pub no_objects : Objects
+no_objects = record { tables = []; values = []; references = []; buffers = [] }
 
 -- a parameter or an object of this name and type is added, but for a buffer
 pub record AddNamed (trees : List Tree) (m : Machine) (text kind : List ℕ) (pairs : Pairs) (literal : Option Literal) (old new : Objects) : Type 0 where
@@ -58,18 +58,24 @@ pub record AddBody (trees : List Tree) (m : Machine) (buffers : List BufferSymbo
   pub functions : new.functions ≡ old.functions ++ function_symbol trees m number d
   pub actions : new.actions ≡ old.actions ++ action_symbol number d
 
--- these are what these declarations make
-pub record AreBodiesOf (trees : List Tree) (m : Machine) (buffers : List BufferSymbol) (ds : List Decl) (bodies : Bodies) : Type 0 where
-  pub in_ports : bodies.in_ports ≡ numbered_from (in_port_symbol buffers) 0 ds
-  pub out_ports : bodies.out_ports ≡ numbered_from (out_port_symbol buffers) 0 ds
-  pub functions : bodies.functions ≡ numbered_from (function_symbol trees m) 0 ds
-  pub actions : bodies.actions ≡ numbered_from action_symbol 0 ds
+pub record AddBodies (trees : List Tree) (m : Machine) (buffers : List BufferSymbol) (ds : List Decl) (old new : Bodies) : Type 0 where
+  pub in_ports : new.in_ports ≡ old.in_ports ++ numbered_from (in_port_symbol buffers) 0 ds
+  pub out_ports : new.out_ports ≡ old.out_ports ++ numbered_from (out_port_symbol buffers) 0 ds
+  pub functions : new.functions ≡ old.functions ++ numbered_from (function_symbol trees m) 0 ds
+  pub actions : new.actions ≡ old.actions ++ numbered_from action_symbol 0 ds
 
-abbrev pub AreBodies : List Tree → Machine → List BufferSymbol → Bodies → Type 0
-AreBodies trees m buffers bodies = AreBodiesOf trees m buffers m.declarations bodies
+abbrev pub no_bodies : Bodies
+no_bodies = record { in_ports = []; out_ports = []; functions = []; actions = [] }
 
-pub record AreRest (trees : List Tree) (m : Machine) (rest : Rest) : Type 0 where
-  pub name : rest.name ≡ m.name.text
-  pub permissions : rest.permissions ≡ permissions_found (find is_states (machine_declarations m))
-  pub sequencer : rest.sequencer ≡ sequencer_name trees m
-  pub transitions : rest.transitions ≡ map transition_symbol (written_of m)
+pub record AddRest (m : Machine) (old new : Rest) : Type 0 where
+  pub name : new.name ≡ old.name ++ m.name.text
+  pub permissions : new.permissions ≡ old.permissions ++ permissions_found (find is_states (machine_declarations m))
+  pub transitions : new.transitions ≡ old.transitions ++ map transition_symbol (written_of m)
+
+abbrev pub no_rest : Rest
+no_rest = record { name = []; permissions = []; transitions = [] }
+
+pub record AddSymbols (trees : List Tree) (old new : Symbols) : Type 0 where
+  pub enumerations : new.enumerations ≡ old.enumerations ++ enumeration_symbols trees
+  pub structures : new.structures ≡ old.structures ++ structure_symbols trees
+  pub machines : new.machines ≡ old.machines ++ machines_from trees 0 (machines_of trees)

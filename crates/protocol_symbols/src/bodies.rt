@@ -1,12 +1,13 @@
 //! What a machine declares between its braces that has a body, and its ports.
-ghost use Rattle.std.specs.Prelude.{◌≡◌, ◌++◌, [], ◌∷◌, IfOk, OnOk};
+ghost use Rattle.std.specs.Prelude.{◌≡◌, ◌++◌, [], ◌∷◌, OnOk};
 ghost use Rattle.slicc_plan.specs.Declarations.{machine_declarations};
 ghost use Rattle.declared_types.specs.Lent.{declarations_of};
-ghost use Rattle.protocol_symbols.specs.Parts.{AddBody, AreBodies, AreBodiesOf};
+ghost use Rattle.protocol_symbols.specs.Parts.{AddBodies, AddBody, no_bodies};
 ghost use Rattle.type_numbers.specs.Numbered.{AreNumbered, trees_of};
 
 use crate::functions::add_function;
-use crate::ports::{add_on_buffer, kept_declaration};
+use crate::names::in_32_bits;
+use crate::ports::add_on_buffer;
 use declared_types::Declared;
 use ruby_base::{NoMemory, Seq, Text};
 use ruby_symbols::{ActionSymbol, BufferSymbol, FunctionSymbol, PortSymbol, buffer_among};
@@ -23,6 +24,19 @@ pub struct Bodies {
     pub actions: Seq<ActionSymbol>,
 }
 
+impl Bodies {
+    pub fn new(alloc: Global) -> Bodies
+        ensures { result ≡ no_bodies }
+    {
+        Bodies {
+            in_ports: Seq::new(alloc),
+            out_ports: Seq::new(alloc),
+            functions: Seq::new(alloc),
+            actions: Seq::new(alloc),
+        }
+    }
+}
+
 fn add_action(
     alloc: Global,
     list: &mut Seq<ActionSymbol>,
@@ -31,7 +45,7 @@ fn add_action(
 ) -> Result<(), NoMemory>
     ensures { OnOk result (list.new ≡ list.old ++ record { name = name.now; declaration = number } ∷ []) }
 {
-    let declaration = kept_declaration(number)?;
+    let declaration = in_32_bits(number)?;
     list.push(ActionSymbol {
         name: Text::copied(alloc, name)?,
         declaration,
@@ -84,50 +98,22 @@ fn add_body<'a>(
     }
 }
 
-fn bodies_among<'a>(
+/// Adds the ports, functions and actions among these declarations of a machine that declares this and has these buffers.
+pub fn add_bodies<'a>(
     alloc: Global,
+    bodies: &mut Bodies,
     types: &TypeNumbers<'a>,
     m: &'a Machine,
     declarations: &[Declared<'a>],
     buffers: &[BufferSymbol],
     written: &[Decl],
-) -> Result<Bodies, NoMemory>
+) -> Result<(), NoMemory>
     requires types { AreNumbered types.now }
     requires declarations { declarations_of declarations.now ≡ machine_declarations m.now }
-    ensures { IfOk result (AreBodiesOf (trees_of types.now) m.now buffers.now written.now) }
+    ensures { OnOk result (AddBodies (trees_of types.now) m.now buffers.now written.now bodies.old bodies.new) }
 {
-    let mut bodies = Bodies {
-        in_ports: Seq::new(alloc),
-        out_ports: Seq::new(alloc),
-        functions: Seq::new(alloc),
-        actions: Seq::new(alloc),
-    };
     for (number, d) in written.iter().enumerate() {
-        add_body(
-            alloc,
-            &mut bodies,
-            types,
-            m,
-            declarations,
-            buffers,
-            number,
-            d,
-        )?;
+        add_body(alloc, bodies, types, m, declarations, buffers, number, d)?;
     }
-    Ok(bodies)
-}
-
-/// The ports, functions and actions of a machine that declares this and has these buffers.
-pub fn bodies_of<'a>(
-    alloc: Global,
-    types: &TypeNumbers<'a>,
-    m: &'a Machine,
-    declarations: &[Declared<'a>],
-    buffers: &[BufferSymbol],
-) -> Result<Bodies, NoMemory>
-    requires types { AreNumbered types.now }
-    requires declarations { declarations_of declarations.now ≡ machine_declarations m.now }
-    ensures { IfOk result (AreBodies (trees_of types.now) m.now buffers.now) }
-{
-    bodies_among(alloc, types, m, declarations, buffers, &m.declarations)
+    Ok(())
 }

@@ -1,10 +1,9 @@
 //! The formals of functions.
-ghost use Rattle.std.specs.Prelude.{◌≡◌, IfOk, map};
+ghost use Rattle.std.specs.Prelude.{◌≡◌, ◌++◌, IfOk, OnOk, map};
 ghost use Rattle.std.specs.Option.{option_map};
 ghost use Rattle.slicc_ast.specs.declared.tree.name.Name.{Name as NameRecord};
 ghost use Rattle.slicc_plan.specs.Declarations.{machine_declarations};
 ghost use Rattle.slicc_plan.specs.SymbolsOfMachines.{formal_symbol, kind_in};
-ghost use Rattle.slicc_plan.specs.TypeNumbers.{kind_or_bool};
 ghost use Rattle.declared_types.specs.Lent.{declarations_of};
 ghost use Rattle.type_numbers.specs.Numbered.{AreNumbered, trees_of};
 
@@ -32,15 +31,6 @@ pub fn kind_in<'a>(
     value_kind(types, m, declarations, t)
 }
 
-fn kind_or_bool(kind: Option<Kind>) -> Kind
-    ensures { result ≡ kind_or_bool kind }
-{
-    match kind {
-        None => Kind::Bool,
-        Some(kind) => kind,
-    }
-}
-
 fn name_of(alloc: Global, name: &Option<Name>) -> Result<Option<Text>, NoMemory>
     ensures { IfOk result (λ text. text ≡ option_map (λ (n : NameRecord). n.text) name.now) }
 {
@@ -64,25 +54,25 @@ fn formal_symbol<'a>(
     let kind = kind_in(types, m, declarations, &f.kind);
     Ok(FormalSymbol {
         name: name_of(alloc, &f.name)?,
-        kind: kind_or_bool(kind),
+        kind: kind.unwrap_or(Kind::Bool),
     })
 }
 
-/// The formals of a function of a machine that declares this.
-pub fn formal_symbols<'a>(
+/// Adds the formals of a function of a machine that declares this.
+pub fn add_formals<'a>(
     alloc: Global,
+    list: &mut Seq<FormalSymbol>,
     types: &TypeNumbers<'a>,
     m: &'a Machine,
     declarations: &[Declared<'a>],
     formals: &[Formal],
-) -> Result<Seq<FormalSymbol>, NoMemory>
+) -> Result<(), NoMemory>
     requires types { AreNumbered types.now }
     requires declarations { declarations_of declarations.now ≡ machine_declarations m.now }
-    ensures { IfOk result (λ list. list ≡ map (formal_symbol (trees_of types.now) m.now) formals.now) }
+    ensures { OnOk result (list.new ≡ list.old ++ map (formal_symbol (trees_of types.now) m.now) formals.now) }
 {
-    let mut list = Seq::new(alloc);
     for f in formals {
         list.push(formal_symbol(alloc, types, m, declarations, f)?)?;
     }
-    Ok(list)
+    Ok(())
 }

@@ -5,32 +5,14 @@ ghost use Rattle.slicc_plan.specs.SymbolsOfMachines.{formal_symbol, function_wit
 ghost use Rattle.declared_types.specs.Lent.{declarations_of};
 ghost use Rattle.type_numbers.specs.Numbered.{AreNumbered, trees_of};
 
-use crate::formals::{formal_symbols, kind_in};
-use crate::ports::kept_declaration;
+use crate::formals::{add_formals, kind_in};
+use crate::names::in_32_bits;
 use declared_types::Declared;
 use ruby_base::{NoMemory, Seq, Text};
-use ruby_symbols::{FormalSymbol, FunctionSymbol};
-use ruby_value::Kind;
+use ruby_symbols::FunctionSymbol;
 use slicc_ast::tree::{Formals, Function, Machine, TypeName};
 use std::alloc::Global;
 use type_numbers::TypeNumbers;
-
-fn function_with(
-    alloc: Global,
-    name: &[u8],
-    declaration: u32,
-    formals: Seq<FormalSymbol>,
-    answer: Option<Kind>,
-) -> Result<FunctionSymbol, NoMemory>
-    ensures { IfOk result (λ f. f ≡ record { name = name.now; declaration = declaration; formals = formals; result = answer }) }
-{
-    Ok(FunctionSymbol {
-        name: Text::copied(alloc, name)?,
-        declaration,
-        formals,
-        result: answer,
-    })
-}
 
 fn with_body<'a>(
     alloc: Global,
@@ -46,10 +28,17 @@ fn with_body<'a>(
     requires declarations { declarations_of declarations.now ≡ machine_declarations m.now }
     ensures { IfOk result (λ f. f ≡ record { name = name.now; declaration = number; formals = map (formal_symbol (trees_of types.now) m.now) formals.now.items; result = kind_in (trees_of types.now) m.now kind.now }) }
 {
-    let declaration = kept_declaration(number)?;
+    let declaration = in_32_bits(number)?;
     let answer = kind_in(types, m, declarations, kind);
-    let formals = formal_symbols(alloc, types, m, declarations, &formals.items)?;
-    function_with(alloc, name, declaration, formals, answer)
+    let name = Text::copied(alloc, name)?;
+    let mut list = Seq::new(alloc);
+    add_formals(alloc, &mut list, types, m, declarations, &formals.items)?;
+    Ok(FunctionSymbol {
+        name,
+        declaration,
+        formals: list,
+        result: answer,
+    })
 }
 
 /// Adds a function of this number, if it has a body.

@@ -1,10 +1,10 @@
 //! The structures of a machine's lines, and references to lines.
-ghost use Rattle.std.specs.Prelude.{◌≡◌, option_and_then, unwrap_or};
+ghost use Rattle.std.specs.Prelude.{◌≡◌, option_and_then};
 ghost use Rattle.std.specs.Option.{option_copied, option_map};
 ghost use Rattle.slicc_plan.specs.Declarations.{machine_declarations, within};
 ghost use Rattle.slicc_plan.specs.MachineValues.{line_kind};
 ghost use Rattle.slicc_plan.specs.SymbolsOfMachines.{line_number};
-ghost use Rattle.slicc_plan.specs.TypeNumbers.{is_its, no_structure, reference_kind, value_kind};
+ghost use Rattle.slicc_plan.specs.TypeNumbers.{is_its, reference_kind, value_kind};
 ghost use Rattle.slicc_plan.specs.Types.{structured};
 ghost use Rattle.declared_types.specs.Lent.{declarations_of, scope_of, type_of};
 ghost use Rattle.protocol_symbols.specs.Lines.{line_of};
@@ -40,16 +40,6 @@ pub fn line_number<'a>(
     match s {
         None => None,
         Some(s) => structure_number(types, Scope::Within(m), s),
-    }
-}
-
-/// A number of a structure, or one that no structure has.
-pub fn number_or_none(number: Option<u16>) -> u16
-    ensures { result ≡ unwrap_or number no_structure }
-{
-    match number {
-        None => 65535,
-        Some(n) => n,
     }
 }
 

@@ -1,31 +1,27 @@
 //! A machine of a protocol as symbols.
-ghost use Rattle.std.specs.Prelude.{◌≡◌, ℕ, IfOk, List, map};
-ghost use Rattle.ruby_symbols.specs.Names.{action_among, function_among};
+ghost use Rattle.std.specs.Prelude.{◌≡◌, ℕ, IfOk, List, OnOk, map};
 ghost use Rattle.slicc_ast.specs.declared.tree.item.Tree.{Tree as TreeRecord};
 ghost use Rattle.slicc_ast.specs.declared.tree.machine.Machine.{Machine as MachineRecord};
 ghost use Rattle.slicc_plan.specs.Declarations.{machine_declarations};
-ghost use Rattle.slicc_plan.specs.Limits.{is_events, is_states};
-ghost use Rattle.slicc_plan.specs.MachineValues.{references_of, values_of};
-ghost use Rattle.slicc_plan.specs.Machines.{directory_structure, entry_structure, tbe_structure, written_of};
 ghost use Rattle.slicc_plan.specs.Networks.{all_ports};
-ghost use Rattle.slicc_plan.specs.SymbolsOfMachines.{action_symbols, buffer_symbols, function_symbols, in_port_symbol, line_number, machine_symbols, number_of_found, numbered_from, out_port_symbol, permissions_found, sequencer_name, table_symbol, transition_symbol};
+ghost use Rattle.slicc_plan.specs.SymbolsOfMachines.{machine_symbols, sequencer_name};
 ghost use Rattle.declared_types.specs.Lent.{declarations_of};
 ghost use Rattle.type_numbers.specs.Ports.{port_seen};
-ghost use Rattle.protocol_symbols.specs.Parts.{AreBodies, AreNumbers, AreObjects, AreRest};
+ghost use Rattle.protocol_symbols.specs.Parts.{AddBodies, AddObjects, AddRest, AreNumbers, no_bodies, no_objects, no_rest};
 ghost use Rattle.type_numbers.specs.Numbered.{AreNumbered, trees_of};
 
-use crate::bodies::{Bodies, bodies_of};
+use crate::bodies::{Bodies, add_bodies};
 use crate::lines::{line_number, line_structure};
-use crate::objects::{Objects, objects_of};
+use crate::objects::{Objects, add_objects};
 use crate::sequencers::sequencer;
-use crate::states::{events_number, permissions, states_number};
-use crate::transitions::transitions;
-use declared_types::{Declared, LineSort};
+use crate::states::{add_permissions, events_number, states_number};
+use crate::transitions::add_transitions;
+use declared_types::{Declared, LineSort, machine_list};
 use ruby_base::{NoMemory, Seq, Text};
 use ruby_symbols::{MachineSymbols, TransitionSymbol, action_among, function_among};
 use slicc_ast::tree::Machine;
 use std::alloc::Global;
-use type_numbers::{PortOn, TypeNumbers, machine_list};
+use type_numbers::{PortOn, TypeNumbers};
 
 // The numbers of a machine's types.
 #[derive(Clone, Copy)]
@@ -37,13 +33,24 @@ struct Numbers {
     tbe: Option<u16>,
 }
 
-// Its names and its transitions.
+// Its name, the permissions of its states, and its transitions.
 #[derive(Drop)]
 struct Rest {
     name: Text,
     permissions: Seq<u16>,
-    sequencer: Option<Text>,
     transitions: Seq<TransitionSymbol>,
+}
+
+impl Rest {
+    fn new(alloc: Global) -> Rest
+        ensures { result ≡ no_rest }
+    {
+        Rest {
+            name: Seq::new(alloc),
+            permissions: Seq::new(alloc),
+            transitions: Seq::new(alloc),
+        }
+    }
 }
 
 fn numbers_of<'a>(types: &TypeNumbers<'a>, m: &'a Machine, declarations: &[Declared<'a>]) -> Numbers
@@ -78,30 +85,52 @@ fn sequencer_name<'a>(
     }
 }
 
-fn rest_of<'a>(
-    alloc: Global,
-    types: &TypeNumbers<'a>,
-    m: &'a Machine,
-    declarations: &[Declared<'a>],
-) -> Result<Rest, NoMemory>
-    requires { declarations_of declarations.now ≡ machine_declarations m.now }
-    ensures { IfOk result (AreRest (trees_of types.now) m.now) }
+fn add_rest(alloc: Global, rest: &mut Rest, m: &Machine) -> Result<(), NoMemory>
+    ensures { OnOk result (AddRest m.now rest.old rest.new) }
 {
-    let name = Text::copied(alloc, &m.name.text)?;
-    let permissions = permissions(alloc, m)?;
-    let sequencer = sequencer_name(alloc, types, m, declarations)?;
-    let transitions = transitions(alloc, m)?;
-    Ok(Rest {
-        name,
-        permissions,
-        sequencer,
-        transitions,
-    })
+    rest.name.append(&m.name.text)?;
+    add_permissions(&mut rest.permissions, m)?;
+    add_transitions(alloc, &mut rest.transitions, m)?;
+    Ok(())
 }
 
-fn together(numbers: Numbers, objects: Objects, bodies: Bodies, rest: Rest) -> MachineSymbols
+// Adds what the machine of this number has.
+fn add_parts<'a>(
+    alloc: Global,
+    objects: &mut Objects,
+    bodies: &mut Bodies,
+    rest: &mut Rest,
+    types: &TypeNumbers<'a>,
+    ports: &[PortOn<'a>],
+    number: u16,
+    m: &'a Machine,
+    declarations: &[Declared<'a>],
+) -> Result<(), NoMemory>
+    requires types { AreNumbered types.now }
+    requires ports { map port_seen ports.now ≡ all_ports (trees_of types.now) }
+    requires declarations { declarations_of declarations.now ≡ machine_declarations m.now }
+    ensures objects { OnOk result (AddObjects (trees_of types.now) number m.now (machine_declarations m.now) objects.old objects.new) }
+    ensures bodies { OnOk result (AddBodies (trees_of types.now) m.now objects.new.buffers m.now.declarations bodies.old bodies.new) }
+    ensures rest { OnOk result (AddRest m.now rest.old rest.new) }
+{
+    add_objects(alloc, objects, types, ports, number, m, declarations)?;
+    let buffers = objects.buffers.as_slice();
+    let written = m.declarations.as_slice();
+    add_bodies(alloc, bodies, types, m, declarations, buffers, written)?;
+    add_rest(alloc, rest, m)?;
+    Ok(())
+}
+
+fn together(
+    numbers: Numbers,
+    sequencer: Option<Text>,
+    objects: Objects,
+    bodies: Bodies,
+    rest: Rest,
+) -> MachineSymbols
     ensures { (trees : List TreeRecord) (number : ℕ) (m : MachineRecord) → AreNumbers trees m numbers
-        → AreObjects trees number m objects → AreBodies trees m (buffer_symbols trees number m) bodies → AreRest trees m rest
+        → sequencer ≡ sequencer_name trees m → AddObjects trees number m (machine_declarations m) no_objects objects
+        → AddBodies trees m objects.buffers m.declarations no_bodies bodies → AddRest m no_rest rest
         → result ≡ machine_symbols trees number m }
 {
     let get_state = function_among(&bodies.functions, b"getState");
@@ -117,7 +146,7 @@ fn together(numbers: Numbers, objects: Objects, bodies: Bodies, rest: Rest) -> M
         values: objects.values,
         references: objects.references,
         buffers: objects.buffers,
-        sequencer: rest.sequencer,
+        sequencer,
         in_ports: bodies.in_ports,
         out_ports: bodies.out_ports,
         functions: bodies.functions,
@@ -147,10 +176,22 @@ fn machine_with<'a>(
     ensures { IfOk result (λ s. s ≡ machine_symbols (trees_of types.now) number m.now) }
 {
     let numbers = numbers_of(types, m, declarations);
-    let objects = objects_of(alloc, types, ports, number, m, declarations)?;
-    let bodies = bodies_of(alloc, types, m, declarations, &objects.buffers)?;
-    let rest = rest_of(alloc, types, m, declarations)?;
-    Ok(together(numbers, objects, bodies, rest))
+    let sequencer = sequencer_name(alloc, types, m, declarations)?;
+    let mut objects = Objects::new(alloc);
+    let mut bodies = Bodies::new(alloc);
+    let mut rest = Rest::new(alloc);
+    add_parts(
+        alloc,
+        &mut objects,
+        &mut bodies,
+        &mut rest,
+        types,
+        ports,
+        number,
+        m,
+        declarations,
+    )?;
+    Ok(together(numbers, sequencer, objects, bodies, rest))
 }
 
 /// The machine of this number as symbols, where these are the ports of all machines.

@@ -1,5 +1,5 @@
-//! Names, copied and found.
-ghost use Rattle.std.specs.Prelude.{◌≡◌, IfOk, map, position};
+//! Names, copied and found, and numbers.
+ghost use Rattle.std.specs.Prelude.{◌≡◌, ◌++◌, IfOk, OnOk, map, position};
 ghost use Rattle.std.specs.Str.{bytes_eq};
 
 use ruby_base::{NoMemory, Seq, Text};
@@ -13,13 +13,27 @@ pub fn place_named<T: Named>(members: &[T], name: &[u8]) -> Option<usize>
     members.iter().position(|m| m.text() == name)
 }
 
-/// The names, in their order.
-pub fn texts_of<T: Named>(alloc: Global, members: &[T]) -> Result<Seq<Text>, NoMemory>
-    ensures { IfOk result (λ list. list ≡ map T.text members.now) }
+/// Adds the names, in their order.
+pub fn add_texts<T: Named>(
+    alloc: Global,
+    list: &mut Seq<Text>,
+    members: &[T],
+) -> Result<(), NoMemory>
+    ensures { OnOk result (list.new ≡ list.old ++ map T.text members.now) }
 {
-    let mut list = Seq::new(alloc);
     for m in members {
         list.push(Text::copied(alloc, m.text())?)?;
     }
-    Ok(list)
+    Ok(())
+}
+
+/// The number of a declaration, or of the entries of a table, as symbols keep it. A text has fewer declarations than that, and
+/// the entries that a protocol writes are up to 256.
+pub fn in_32_bits(number: usize) -> Result<u32, NoMemory>
+    ensures { IfOk result (λ kept. kept ≡ number) }
+{
+    if number > u32::MAX as usize {
+        return Err(NoMemory);
+    }
+    Ok(number as u32)
 }

@@ -1,11 +1,11 @@
 //! The parameters and objects of a machine.
-ghost use Rattle.std.specs.Prelude.{◌≡◌, IfOk, OnOk, map};
+ghost use Rattle.std.specs.Prelude.{◌≡◌, OnOk, map};
 ghost use Rattle.std.specs.Option.{option_copied};
 ghost use Rattle.slicc_plan.specs.Declarations.{machine_declarations};
 ghost use Rattle.slicc_plan.specs.Networks.{all_ports};
 ghost use Rattle.declared_types.specs.Lent.{declaration_of, declarations_of};
 ghost use Rattle.type_numbers.specs.Ports.{port_seen};
-ghost use Rattle.protocol_symbols.specs.Parts.{AddNamed, AddObject, AddObjects, AreObjects};
+ghost use Rattle.protocol_symbols.specs.Parts.{AddNamed, AddObject, AddObjects, no_objects};
 ghost use Rattle.type_numbers.specs.Numbered.{AreNumbered, trees_of};
 
 use crate::buffers::add_buffer;
@@ -26,6 +26,19 @@ pub struct Objects {
     pub values: Seq<FieldSymbol>,
     pub references: Seq<FieldSymbol>,
     pub buffers: Seq<BufferSymbol>,
+}
+
+impl Objects {
+    pub fn new(alloc: Global) -> Objects
+        ensures { result ≡ no_objects }
+    {
+        Objects {
+            tables: Seq::new(alloc),
+            values: Seq::new(alloc),
+            references: Seq::new(alloc),
+            buffers: Seq::new(alloc),
+        }
+    }
 }
 
 // Adds a parameter or an object, but for a buffer.
@@ -118,7 +131,8 @@ fn add_object<'a>(
     }
 }
 
-fn add_objects<'a>(
+/// Adds the parameters and objects of the machine of this number, which declares this, where these are the ports of all machines.
+pub fn add_objects<'a>(
     alloc: Global,
     objects: &mut Objects,
     types: &TypeNumbers<'a>,
@@ -136,28 +150,4 @@ fn add_objects<'a>(
         add_object(alloc, objects, types, ports, number, m, declarations, *d)?;
     }
     Ok(())
-}
-
-/// The parameters and objects of the machine of this number, which declares this, where these are the ports of all machines.
-pub fn objects_of<'a>(
-    alloc: Global,
-    types: &TypeNumbers<'a>,
-    ports: &[PortOn<'a>],
-    number: u16,
-    m: &'a Machine,
-    declarations: &[Declared<'a>],
-) -> Result<Objects, NoMemory>
-    requires types { AreNumbered types.now }
-    requires ports { map port_seen ports.now ≡ all_ports (trees_of types.now) }
-    requires declarations { declarations_of declarations.now ≡ machine_declarations m.now }
-    ensures { IfOk result (AreObjects (trees_of types.now) number m.now) }
-{
-    let mut objects = Objects {
-        tables: Seq::new(alloc),
-        values: Seq::new(alloc),
-        references: Seq::new(alloc),
-        buffers: Seq::new(alloc),
-    };
-    add_objects(alloc, &mut objects, types, ports, number, m, declarations)?;
-    Ok(objects)
 }

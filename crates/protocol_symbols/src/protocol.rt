@@ -1,14 +1,15 @@
 //! A whole protocol as symbols.
-ghost use Rattle.std.specs.Prelude.{◌≡◌, IfOk, map};
+ghost use Rattle.std.specs.Prelude.{◌≡◌, ◌++◌, IfOk, OnOk, map};
 ghost use Rattle.slicc_plan.specs.Declarations.{machines_of};
 ghost use Rattle.slicc_plan.specs.Networks.{all_ports};
 ghost use Rattle.slicc_plan.specs.SymbolsOf.{machines_from, symbols_of};
+ghost use Rattle.protocol_symbols.specs.Parts.{AddSymbols};
 ghost use Rattle.type_numbers.specs.Ports.{port_seen};
 ghost use Rattle.type_numbers.specs.Numbered.{AreNumbered, trees_of};
 
-use crate::enumerations::enumeration_symbols;
+use crate::enumerations::add_all_enumerations;
 use crate::machine::machine_symbols;
-use crate::structures::structure_symbols;
+use crate::structures::add_all_structures;
 use declared_types::Scopes;
 use machine_table::kept_number;
 use ruby_base::{NoMemory, Seq};
@@ -17,44 +18,61 @@ use slicc_ast::tree::Machine;
 use std::alloc::Global;
 use type_numbers::{PortOn, TypeNumbers, all_ports, number_types};
 
-fn machines_of<'a>(
+fn add_machines<'a>(
     alloc: Global,
+    list: &mut Seq<MachineSymbols>,
     types: &TypeNumbers<'a>,
     ports: &[PortOn<'a>],
     machines: &[&'a Machine],
-) -> Result<Seq<MachineSymbols>, NoMemory>
+) -> Result<(), NoMemory>
     requires types { AreNumbered types.now }
     requires ports { map port_seen ports.now ≡ all_ports (trees_of types.now) }
-    ensures { IfOk result (λ list. list ≡ machines_from (trees_of types.now) 0 (map (λ m. m.now) machines.now)) }
+    ensures { OnOk result (list.new ≡ list.old ++ machines_from (trees_of types.now) 0 (map (λ m. m.now) machines.now)) }
 {
-    let mut list = Seq::new(alloc);
     for (number, m) in machines.iter().enumerate() {
         let kept = kept_number(number)?;
         list.push(machine_symbols(alloc, types, ports, kept, m)?)?;
     }
-    Ok(list)
+    Ok(())
 }
 
-fn with_ports<'a>(alloc: Global, types: &TypeNumbers<'a>) -> Result<Seq<MachineSymbols>, NoMemory>
+fn add_all_machines<'a>(
+    alloc: Global,
+    list: &mut Seq<MachineSymbols>,
+    types: &TypeNumbers<'a>,
+) -> Result<(), NoMemory>
     requires { AreNumbered types.now }
-    ensures { IfOk result (λ list. list ≡ machines_from (trees_of types.now) 0 (machines_of (trees_of types.now))) }
+    ensures { OnOk result (list.new ≡ list.old ++ machines_from (trees_of types.now) 0 (machines_of (trees_of types.now))) }
 {
     let ports = all_ports(alloc, types)?;
-    machines_of(alloc, types, &ports, &types.machines)
+    add_machines(alloc, list, types, &ports, &types.machines)
+}
+
+fn add_symbols(
+    alloc: Global,
+    symbols: &mut Symbols,
+    types: &TypeNumbers<'_>,
+) -> Result<(), NoMemory>
+    requires { AreNumbered types.now }
+    ensures { OnOk result (AddSymbols (trees_of types.now) symbols.old symbols.new) }
+{
+    add_all_enumerations(alloc, &mut symbols.enumerations, types)?;
+    add_all_structures(alloc, &mut symbols.structures, types)?;
+    add_all_machines(alloc, &mut symbols.machines, types)?;
+    Ok(())
 }
 
 fn symbols_with(alloc: Global, types: &TypeNumbers<'_>) -> Result<Symbols, NoMemory>
     requires { AreNumbered types.now }
     ensures { IfOk result (λ s. s ≡ symbols_of (trees_of types.now)) }
 {
-    let enumerations = enumeration_symbols(alloc, types)?;
-    let structures = structure_symbols(alloc, types)?;
-    let machines = with_ports(alloc, types)?;
-    Ok(Symbols {
-        enumerations,
-        structures,
-        machines,
-    })
+    let mut symbols = Symbols {
+        enumerations: Seq::new(alloc),
+        structures: Seq::new(alloc),
+        machines: Seq::new(alloc),
+    };
+    add_symbols(alloc, &mut symbols, types)?;
+    Ok(symbols)
 }
 
 /// The symbols of the protocol of these scopes.

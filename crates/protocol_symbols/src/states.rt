@@ -1,5 +1,5 @@
 //! The states and events of a machine.
-ghost use Rattle.std.specs.Prelude.{◌≡◌, IfOk, find, map, position};
+ghost use Rattle.std.specs.Prelude.{◌≡◌, ◌++◌, IfOk, OnOk, find, map, position};
 ghost use Rattle.std.specs.Option.{option_copied, option_map};
 ghost use Rattle.std.specs.Str.{bytes_eq};
 ghost use Rattle.slicc_ast.specs.declared.tree.declaration.State.{State as StateRecord};
@@ -10,7 +10,6 @@ ghost use Rattle.slicc_plan.specs.SymbolsOfMachines.{number_of_found, permission
 ghost use Rattle.built_ins.specs.Types.{texts_of};
 ghost use Rattle.type_numbers.specs.Numbered.{AreNumbered, trees_of};
 
-use crate::lines::number_or_none;
 use crate::names::place_named;
 use built_ins::fixed_members;
 use declared_types::{KnownType, Scope};
@@ -18,7 +17,6 @@ use machine_table::{events, states};
 use ruby_base::{NoMemory, Seq};
 use slicc_ast::tree::{Enumeration, Machine, State, States};
 use slicc_plan::BuiltInType;
-use std::alloc::Global;
 use type_numbers::{TypeNumbers, declared_number, kept_or};
 
 fn states_found<'a>(types: &TypeNumbers<'a>, m: &'a Machine, s: Option<&'a States>) -> u16
@@ -27,7 +25,9 @@ fn states_found<'a>(types: &TypeNumbers<'a>, m: &'a Machine, s: Option<&'a State
 {
     match s {
         None => 65535,
-        Some(s) => number_or_none(declared_number(types, KnownType::States(Scope::Within(m), s))),
+        Some(s) => {
+            declared_number(types, KnownType::States(Scope::Within(m), s)).unwrap_or(65535)
+        }
     }
 }
 
@@ -45,10 +45,9 @@ fn events_found<'a>(types: &TypeNumbers<'a>, m: &'a Machine, e: Option<&'a Enume
 {
     match e {
         None => 65535,
-        Some(e) => number_or_none(declared_number(
-            types,
-            KnownType::Enumeration(Scope::Within(m), e),
-        )),
+        Some(e) => {
+            declared_number(types, KnownType::Enumeration(Scope::Within(m), e)).unwrap_or(65535)
+        }
     }
 }
 
@@ -75,28 +74,27 @@ fn permission_number(text: &[u8]) -> Result<u16, NoMemory>
     )
 }
 
-fn permissions_of(alloc: Global, members: &[State]) -> Result<Seq<u16>, NoMemory>
-    ensures { IfOk result (λ list. list ≡ map (λ (s : StateRecord). permission_number s.permission.text) members.now) }
+fn add_permissions_of(list: &mut Seq<u16>, members: &[State]) -> Result<(), NoMemory>
+    ensures { OnOk result (list.new ≡ list.old ++ map (λ (s : StateRecord). permission_number s.permission.text) members.now) }
 {
-    let mut list = Seq::new(alloc);
     for s in members {
         list.push(permission_number(&s.permission.text)?)?;
     }
-    Ok(list)
+    Ok(())
 }
 
-fn permissions_found(alloc: Global, s: Option<&States>) -> Result<Seq<u16>, NoMemory>
-    ensures { IfOk result (λ list. list ≡ permissions_found (option_map states_declaration (option_copied s.entry))) }
+fn add_permissions_found(list: &mut Seq<u16>, s: Option<&States>) -> Result<(), NoMemory>
+    ensures { OnOk result (list.new ≡ list.old ++ permissions_found (option_map states_declaration (option_copied s.entry))) }
 {
     match s {
-        None => Ok(Seq::new(alloc)),
-        Some(s) => permissions_of(alloc, &s.members),
+        None => Ok(()),
+        Some(s) => add_permissions_of(list, &s.members),
     }
 }
 
-/// The numbers of the permissions of a machine's states.
-pub fn permissions(alloc: Global, m: &Machine) -> Result<Seq<u16>, NoMemory>
-    ensures { IfOk result (λ list. list ≡ permissions_found (find is_states (machine_declarations m.now))) }
+/// Adds the numbers of the permissions of a machine's states.
+pub fn add_permissions(list: &mut Seq<u16>, m: &Machine) -> Result<(), NoMemory>
+    ensures { OnOk result (list.new ≡ list.old ++ permissions_found (find is_states (machine_declarations m.now))) }
 {
-    permissions_found(alloc, states(m))
+    add_permissions_found(list, states(m))
 }

@@ -9,41 +9,10 @@ use crate::enumerations::owner;
 use declared_types::{Declared, Scope};
 use ruby_base::{NoMemory, Seq, Text};
 use ruby_symbols::{FieldSymbol, StructureSymbol};
-use ruby_value::{Kind, Value, default_of};
+use ruby_value::{Kind, default_of};
 use slicc_ast::tree::Structure;
 use std::alloc::Global;
 use type_numbers::{Scoped, TypeNumbers, structure_fields};
-
-/// A field of this name, with a kind and a value.
-pub fn field_with(
-    alloc: Global,
-    name: &[u8],
-    kind: Kind,
-    initial: Value,
-) -> Result<FieldSymbol, NoMemory>
-    ensures { IfOk result (λ f. f ≡ record { name = name.now; kind = kind; initial = initial }) }
-{
-    Ok(FieldSymbol {
-        name: Text::copied(alloc, name)?,
-        kind,
-        initial,
-    })
-}
-
-fn with_fields(
-    alloc: Global,
-    name: &[u8],
-    machine: Option<u16>,
-    fields: Seq<FieldSymbol>,
-) -> Result<StructureSymbol, NoMemory>
-    ensures { IfOk result (λ s. s ≡ record { name = name.now; machine = machine; fields = fields }) }
-{
-    Ok(StructureSymbol {
-        name: Text::copied(alloc, name)?,
-        machine,
-        fields,
-    })
-}
 
 fn structure_of<'a>(
     alloc: Global,
@@ -55,8 +24,13 @@ fn structure_of<'a>(
     ensures { IfOk result (λ r. r ≡ record { name = s.now.name.text; machine = owner (trees_of types.now) (scope_of scope.entry); fields = field_symbols (trees_of types.now) (scope_of scope.entry) s.now }) }
 {
     let machine = owner(types, scope)?;
+    let name = Text::copied(alloc, &s.name.text)?;
     let fields = structure_fields(alloc, types, scope, s)?;
-    with_fields(alloc, &s.name.text, machine, fields)
+    Ok(StructureSymbol {
+        name,
+        machine,
+        fields,
+    })
 }
 
 fn add_structure<'a>(
@@ -106,38 +80,46 @@ pub fn add_default_field(
 ) -> Result<(), NoMemory>
     ensures { OnOk result (fields.new ≡ fields.old ++ record { name = name.now; kind = kind; initial = default_value kind } ∷ []) }
 {
+    let name = Text::copied(alloc, name)?;
     let initial = default_of(alloc, &kind)?;
-    fields.push(field_with(alloc, name, kind, initial)?)
+    fields.push(FieldSymbol {
+        name,
+        kind,
+        initial,
+    })
 }
 
-fn request_fields(alloc: Global) -> Result<Seq<FieldSymbol>, NoMemory>
-    ensures { IfOk result (λ fields. fields ≡ request_symbol.fields) }
+fn add_request_fields(alloc: Global, fields: &mut Seq<FieldSymbol>) -> Result<(), NoMemory>
+    ensures { OnOk result (fields.new ≡ fields.old ++ request_symbol.fields) }
 {
-    let mut fields = Seq::new(alloc);
-    add_default_field(alloc, &mut fields, b"LineAddress", Kind::Addr)?;
-    add_default_field(alloc, &mut fields, b"PhysicalAddress", Kind::Addr)?;
-    add_default_field(alloc, &mut fields, b"Type", Kind::Enum(2, 0))?;
-    add_default_field(alloc, &mut fields, b"Size", Kind::Int)?;
-    Ok(fields)
+    add_default_field(alloc, fields, b"LineAddress", Kind::Addr)?;
+    add_default_field(alloc, fields, b"PhysicalAddress", Kind::Addr)?;
+    add_default_field(alloc, fields, b"Type", Kind::Enum(2, 0))?;
+    add_default_field(alloc, fields, b"Size", Kind::Int)
 }
 
 fn request(alloc: Global) -> Result<StructureSymbol, NoMemory>
     ensures { IfOk result (λ s. s ≡ request_symbol) }
 {
-    let fields = request_fields(alloc)?;
-    with_fields(alloc, b"RubyRequest", None, fields)
+    let name = Text::copied(alloc, b"RubyRequest")?;
+    let mut fields = Seq::new(alloc);
+    add_request_fields(alloc, &mut fields)?;
+    Ok(StructureSymbol {
+        name,
+        machine: None,
+        fields,
+    })
 }
 
-/// The structures of a protocol, by their numbers.
-pub fn structure_symbols(
+/// Adds the structures of a protocol, by their numbers.
+pub fn add_all_structures(
     alloc: Global,
+    list: &mut Seq<StructureSymbol>,
     types: &TypeNumbers<'_>,
-) -> Result<Seq<StructureSymbol>, NoMemory>
+) -> Result<(), NoMemory>
     requires { AreNumbered types.now }
-    ensures { IfOk result (λ list. list ≡ structure_symbols (trees_of types.now)) }
+    ensures { OnOk result (list.new ≡ list.old ++ structure_symbols (trees_of types.now)) }
 {
-    let mut list = Seq::new(alloc);
-    add_structures(alloc, &mut list, types, &types.structures)?;
-    list.push(request(alloc)?)?;
-    Ok(list)
+    add_structures(alloc, list, types, &types.structures)?;
+    list.push(request(alloc)?)
 }

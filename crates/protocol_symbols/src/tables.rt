@@ -8,7 +8,8 @@ ghost use Rattle.slicc_plan.specs.TypeNumbers.{no_structure};
 ghost use Rattle.declared_types.specs.Lent.{declarations_of, type_of};
 ghost use Rattle.type_numbers.specs.Numbered.{AreNumbered, trees_of};
 
-use crate::lines::{line_number, line_structure, number_or_none};
+use crate::lines::{line_number, line_structure};
+use crate::names::in_32_bits;
 use declaration_rules::{is_built_in, number_value};
 use declared_types::{Declared, KnownType, LineSort, first_attribute};
 use ruby_base::{NoMemory, Seq, Text};
@@ -30,16 +31,6 @@ fn written_entries(pairs: &Pairs) -> u64
     }
 }
 
-// A number of entries as symbols keep it. Those that a protocol writes are up to 256.
-fn kept_entries(n: u64) -> Result<u32, NoMemory>
-    ensures { IfOk result (λ kept. kept ≡ n) }
-{
-    if n > u32::MAX as u64 {
-        return Err(NoMemory);
-    }
-    Ok(n as u32)
-}
-
 fn table_sort(t: Option<KnownType<'_>>, pairs: &Pairs) -> Result<Option<TableSort>, NoMemory>
     ensures { IfOk result (λ sort. sort ≡ table_sort (option_map type_of t.entry) pairs.now) }
 {
@@ -51,7 +42,7 @@ fn table_sort(t: Option<KnownType<'_>>, pairs: &Pairs) -> Result<Option<TableSor
     }
     if is_built_in(BuiltInType::TbeTable, t) {
         return Ok(Some(TableSort::Tbe {
-            entries: kept_entries(written_entries(pairs))?,
+            entries: in_32_bits(written_entries(pairs) as usize)?,
         }));
     }
     Ok(None)
@@ -73,7 +64,7 @@ fn structure_of<'a>(
         TableSort::Directory => line_structure(m, declarations, LineSort::Directory),
         TableSort::Tbe { .. } => line_structure(m, declarations, LineSort::Tbe),
     };
-    number_or_none(line_number(types, m, lines))
+    line_number(types, m, lines).unwrap_or(65535)
 }
 
 fn add_of_sort<'a>(

@@ -1,5 +1,5 @@
 //! The transitions of a machine.
-ghost use Rattle.std.specs.Prelude.{◌≡◌, IfOk, map};
+ghost use Rattle.std.specs.Prelude.{◌≡◌, ◌++◌, IfOk, OnOk, map};
 ghost use Rattle.slicc_plan.specs.Machines.{written_of};
 ghost use Rattle.slicc_plan.specs.SymbolsOfMachines.{transition_symbol};
 
@@ -24,20 +24,27 @@ fn transition_symbol(alloc: Global, t: &Written) -> Result<TransitionSymbol, NoM
     })
 }
 
-fn transition_symbols(alloc: Global, written: &[Written]) -> Result<Seq<TransitionSymbol>, NoMemory>
-    ensures { IfOk result (λ list. list ≡ map transition_symbol written.now) }
+fn add_written(
+    alloc: Global,
+    list: &mut Seq<TransitionSymbol>,
+    written: &[Written],
+) -> Result<(), NoMemory>
+    ensures { OnOk result (list.new ≡ list.old ++ map transition_symbol written.now) }
 {
-    let mut list = Seq::new(alloc);
     for t in written {
         list.push(transition_symbol(alloc, t)?)?;
     }
-    Ok(list)
+    Ok(())
 }
 
-/// The transitions of a machine as they are written.
-pub fn transitions(alloc: Global, m: &Machine) -> Result<Seq<TransitionSymbol>, NoMemory>
-    ensures { IfOk result (λ list. list ≡ map transition_symbol (written_of m.now)) }
+/// Adds the transitions of a machine as they are written.
+pub fn add_transitions(
+    alloc: Global,
+    list: &mut Seq<TransitionSymbol>,
+    m: &Machine,
+) -> Result<(), NoMemory>
+    ensures { OnOk result (list.new ≡ list.old ++ map transition_symbol (written_of m.now)) }
 {
     let written = written_transitions(alloc, m)?;
-    transition_symbols(alloc, &written)
+    add_written(alloc, list, &written)
 }

@@ -7,10 +7,9 @@ ghost use Rattle.slicc_plan.specs.TypeNumbers.{plain_kind};
 ghost use Rattle.declared_types.specs.Lent.{type_of};
 ghost use Rattle.type_numbers.specs.Numbered.{AreNumbered, trees_of};
 
-use crate::structures::field_with;
 use declaration_rules::is_built_in;
 use declared_types::KnownType;
-use ruby_base::{NoMemory, Seq};
+use ruby_base::{NoMemory, Seq, Text};
 use ruby_symbols::FieldSymbol;
 use ruby_value::{Kind, Value, default_of};
 use slicc_ast::tree::Literal;
@@ -102,8 +101,13 @@ fn add_of_kind(
     let Some(kind) = kind else {
         return Ok(());
     };
+    let name = Text::copied(alloc, name)?;
     let initial = written_value(alloc, kind, is_built_in(BuiltInType::Cycles, t), literal)?;
-    list.push(field_with(alloc, name, kind, initial)?)
+    list.push(FieldSymbol {
+        name,
+        kind,
+        initial,
+    })
 }
 
 fn kind_of(types: &TypeNumbers<'_>, t: Option<KnownType<'_>>) -> Option<Kind>

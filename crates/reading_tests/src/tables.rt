@@ -1,13 +1,12 @@
 // Names by their numbers, rows of tables and lines that transitions need.
 use crate::texts::{IsRow, tree_of, wrong_row};
-use machine_table::{Tables, build};
-use ruby_base::Text;
+use machine_table::{Tables, build_of_trees};
+use ruby_base::{Seq, Text};
 use slicc_ast::tree::Tree;
 use slicc_flow::{Flow, flow_of_trees};
 use slicc_names::{Names, collect};
 use slicc_plan::Row;
 use std::alloc::Global;
-use std::slice;
 
 const LAMP: &str =
     "machine(Lamp, '') : { state_declaration(State) { Off, AccessPermission:Invalid; On, AccessPermission:Read_Only; }\n\
@@ -147,7 +146,7 @@ fn are_needs(flow: &Flow, needs: &[Need]) -> bool {
     are_so
 }
 
-fn has_names(alloc: Global, trees: &[Tree], rows: &[NameRow]) -> bool {
+fn has_names(alloc: Global, trees: &Seq<Tree>, rows: &[NameRow]) -> bool {
     match collect(alloc, trees) {
         Ok(names) => {
             let are_so = are_numbers(alloc, &names, rows);
@@ -159,7 +158,7 @@ fn has_names(alloc: Global, trees: &[Tree], rows: &[NameRow]) -> bool {
 }
 
 fn has_rows(alloc: Global, trees: &[Tree], rows: &[TableRow]) -> bool {
-    match build(alloc, trees) {
+    match build_of_trees(alloc, trees) {
         Ok(tables) => {
             let are_so = are_rows(&tables, rows);
             drop(tables);
@@ -184,11 +183,12 @@ impl IsRow for Protocol {
     fn is_so(&self, alloc: Global) -> bool {
         match tree_of(alloc, self.text.as_bytes()) {
             Some(tree) => {
-                let trees = slice::from_ref(&tree);
-                let are_so = has_names(alloc, trees, self.names)
-                    & has_rows(alloc, trees, self.rows)
-                    & has_needs(alloc, trees, self.needs);
-                drop(tree);
+                let mut trees = Seq::new(alloc);
+                let are_so = trees.push(tree).is_ok()
+                    && has_names(alloc, &trees, self.names)
+                    && has_rows(alloc, &trees, self.rows)
+                    && has_needs(alloc, &trees, self.needs);
+                drop(trees);
                 are_so
             }
             None => false,

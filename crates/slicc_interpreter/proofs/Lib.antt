@@ -1,2 +1,1 @@
-pub mod FewMachines
 pub mod Scans

@@ -1,19 +1,12 @@
 // What is known of the sizes of accepted protocols.
-ghost use Rattle.std.specs.Prelude.{◌≡◌, ◌≤◌, All, IfSome, List, length, slice_get};
+ghost use Rattle.std.specs.Prelude.{◌≡◌, ◌≤◌, All, IfSome, length, slice_get};
 ghost use Rattle.std.specs.Option.{option_copied};
-ghost use Rattle.slicc_ast.specs.declared.tree.item.Tree.{Tree as TreeRecord};
-ghost use Rattle.slicc_plan.specs.AllRules.{IsAccepted};
 ghost use Rattle.slicc_plan.specs.SymbolsOf.{symbols_of};
 ghost use Rattle.symbol_laws.specs.Lawful.{HasNumbers};
 
 use ruby_symbols::MachineSymbols;
 use slicc_plan::Plan;
-use symbol_laws::lists_have_numbers;
-
-// It does nothing.
-fn machines_are_few()
-    ensures { (trees : List TreeRecord) → IsAccepted trees → length (symbols_of trees).machines ≤ 16 }
-{}
+use symbol_laws::{lists_have_numbers, machines_are_few};
 
 // A plan is that of an accepted protocol. It does nothing.
 pub(crate) fn plans_are_small(plan: &Plan)

@@ -1,10 +1,8 @@
 -- The first of what is broken in declarations, list by list.
-use Rattle.std.proofs.Common.{◌≡◌, ◌++◌, ℕ, Option, None, Some, List, [], sym, subst}
-use Rattle.slicc_ast.specs.declared.tree.item.Tree.{Tree}
+use Rattle.std.proofs.Common.{◌≡◌, ◌++◌, Option, None, Some, List, [], sym, subst}
 use Rattle.slicc_plan.specs.declared.broken.Broken.{Broken}
 use Rattle.slicc_plan.specs.Order.{IsFirstBroken, IsFirstOf, first_after, first_of}
 use Rattle.slicc_plan.proofs.Firsts.{first_after-append, first_after_none}
-use Rattle.slicc_names.specs.Names.{all_names}
 
 pub lists_in_a_row : (first : Option Broken) (bs cs : List Broken) → first_after first (bs ++ cs) ≡ first_after (first_after first bs) cs
 lists_in_a_row first bs cs = first_after-append first bs cs
@@ -20,10 +18,3 @@ is_none broken first same none = subst (IsFirstOf broken) none (is_first broken 
 
 pub is_some : (broken : List Broken) (first : Option Broken) (b : Broken) → first ≡ first_of broken → first ≡ Some b → IsFirstBroken broken b
 is_some broken first b same some = subst (IsFirstOf broken) some (is_first broken first same)
-
--- what is found over trees that are the same
-pub over_same : (f : List Tree → List Broken) (ts us : List Tree) (first : Option Broken) → ts ≡ us → first ≡ first_of (f ts) → first ≡ first_of (f us)
-over_same f ts us first same is = subst (λ xs. first ≡ first_of (f xs)) same is
-
-pub names_over_same : (ts us : List Tree) (names : List (List (List ℕ))) → ts ≡ us → names ≡ all_names ts → names ≡ all_names us
-names_over_same ts us names same is = subst (λ xs. names ≡ all_names xs) same is

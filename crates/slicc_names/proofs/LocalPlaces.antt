@@ -9,7 +9,7 @@ use Rattle.slicc_ast.specs.declared.tree.statement.Stmt.TheViews.{the_lemmas}
 use Rattle.slicc_plan.specs.Blocks.{all_row_locals, body_locals, if_locals, locals_in, others_locals}
 use Rattle.slicc_plan.specs.Declarations.{Declaration, place_of}
 use Rattle.slicc_names.proofs.Counts.{map_flat}
-use Rattle.slicc_names.specs.Counting.{else_if_places, local_places, optional_places}
+use Rattle.slicc_names.specs.Counting.{else_if_places, local_places}
 
 pub all_of_row : (n : _) (row : Row_of-Stmt n) → all_row_locals row ≡ flat_map locals_in (items-the_row-Stmt n row)
 all_of_row n end_of-Stmt = refl
@@ -32,17 +32,12 @@ pub if_all_locals : (i : If) → if_locals i ≡ body_locals (out-If i).then ++ 
 if_all_locals (If' condition shape row block n others None' span) = search (rules, the_lemmas, all_of_row, others_of_row)
 if_all_locals (If' condition shape row block n others (Some' s r b) span) = search (rules, the_lemmas, all_of_row, others_of_row)
 
-optional_is : (o : Option Block) → map place_of (optional_locals o) ≡ optional_places o
-optional_is None = refl
-optional_is (Some b) = refl
-
 pub body_places : (b : Block) → map place_of (body_locals b) ≡ flat_map local_places b.statements
 body_places b = map_flat place_of locals_in b.statements
 
-pub if_places : (i : If) → map place_of (if_locals i) ≡ map place_of (body_locals (out-If i).then) ++ flat_map else_if_places (out-If i).others ++ optional_places (out-If i).otherwise
+pub if_places : (i : If) → map place_of (if_locals i) ≡ map place_of (body_locals (out-If i).then) ++ flat_map else_if_places (out-If i).others ++ map place_of (optional_locals (out-If i).otherwise)
 if_places i =
     ap (map place_of) (if_all_locals i)
     ∙ map-append place_of (body_locals (out-If i).then ++ flat_map else_if_locals (out-If i).others) (optional_locals (out-If i).otherwise)
     ∙ ap (λ ps. ps ++ map place_of (optional_locals (out-If i).otherwise)) (map-append place_of (body_locals (out-If i).then) (flat_map else_if_locals (out-If i).others))
     ∙ ap (λ ps. (map place_of (body_locals (out-If i).then) ++ ps) ++ map place_of (optional_locals (out-If i).otherwise)) (map_flat place_of else_if_locals (out-If i).others)
-    ∙ ap (λ ps. (map place_of (body_locals (out-If i).then) ++ flat_map else_if_places (out-If i).others) ++ ps) (optional_is (out-If i).otherwise)

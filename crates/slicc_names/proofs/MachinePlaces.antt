@@ -12,7 +12,8 @@ use Rattle.slicc_plan.specs.Order.{first_after}
 use Rattle.slicc_plan.specs.Scopes.{bodies_in, machine_bodies}
 use Rattle.slicc_names.proofs.Counts.{beyond_passing}
 use Rattle.slicc_names.proofs.Parts.{flat_flat}
-use Rattle.slicc_names.specs.Counting.{decl_places, found_in, if_counted, is_of_kind, is_sequencer_in, told_found, kind_limits, limits_of, parameter_places, with_its_own_places}
+use Rattle.slicc_names.specs.Counting.{decl_places, found_after, if_counted, is_of_kind, is_sequencer_in, told_found, kind_limits, limits_of, parameter_places, with_its_own_places}
+use Rattle.slicc_names.specs.declared.count.Found.TheVariants.{Left}
 use Rattle.slicc_names.specs.declared.kinds.Kind.{Kind}
 
 pub machine_places : (kind : Kind) (m : Machine) → flat_map (if_counted kind) (machine_declarations m) ≡ flat_map (parameter_places kind) m.parameters ++ flat_map (decl_places kind) m.declarations
@@ -72,10 +73,10 @@ machine_told trees s m e =
     sym (ap (λ t. limits_of trees t (declared_in trees t)) e) ∙ own_limits trees m ∙ ap (machine_limits trees) e
 
 pub kinds_told : (kind : Kind) (n : ℕ) (trees : List Tree) (ds : List Declaration) → ds ≡ global_declarations trees
-    → told_found (found_in n (flat_map (with_its_own_places kind) ds)) ≡ beyond n (filter (is_of_kind kind) (all_declarations trees))
+    → told_found (found_after (Left n) (flat_map (with_its_own_places kind) ds)) ≡ beyond n (filter (is_of_kind kind) (all_declarations trees))
 kinds_told kind n trees ds e =
-    ap (λ es. told_found (found_in n (flat_map (with_its_own_places kind) es))) e
-    ∙ ap (λ ps. told_found (found_in n ps)) (sym (all_places kind (global_declarations trees)))
+    ap (λ es. told_found (found_after (Left n) (flat_map (with_its_own_places kind) es))) e
+    ∙ ap (λ ps. told_found (found_after (Left n) ps)) (sym (all_places kind (global_declarations trees)))
     ∙ sym (beyond_passing (is_of_kind kind) n (all_declarations trees))
 
 pub kind_limits_told : (ds : List Declaration) (f f1 f2 f3 f4 f5 f6 : Option Broken)

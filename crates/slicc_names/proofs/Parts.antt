@@ -10,7 +10,7 @@ use Rattle.slicc_ast.specs.declared.tree.item.Tree.{Tree}
 use Rattle.slicc_ast.specs.declared.tree.machine.Machine.{Machine}
 use Rattle.slicc_ast.specs.declared.tree.machine.Parameter.{Parameter}
 use Rattle.slicc_names.specs.Declaring.{one_formal, one_member, one_parameter, one_state, one_symbol}
-use Rattle.slicc_names.specs.Repeated.{tree_scopes}
+use Rattle.slicc_names.specs.Repeated.{decl_scopes, tree_scopes}
 use Rattle.slicc_plan.specs.Declarations.{formal, item_declarations, machine_declarations, member, named_declarations, parameter, state, symbol}
 use Rattle.slicc_plan.specs.Scopes.{global_scopes, inner_scopes, scopes_within}
 
@@ -38,10 +38,11 @@ parameters_scopes : (ps : List Parameter) → flat_map inner_scopes (map paramet
 parameters_scopes [] = refl
 parameters_scopes (p ∷ ps) = parameters_scopes ps
 
-pub machine_inside : (m : Machine) → flat_map inner_scopes (machine_declarations m) ≡ flat_map inner_scopes (flat_map named_declarations m.declarations)
+pub machine_inside : (m : Machine) → flat_map inner_scopes (machine_declarations m) ≡ flat_map decl_scopes m.declarations
 machine_inside m =
     flat_map-append inner_scopes (map parameter m.parameters) (flat_map named_declarations m.declarations)
     ∙ ap (λ xs. xs ++ flat_map inner_scopes (flat_map named_declarations m.declarations)) (parameters_scopes m.parameters)
+    ∙ flat_flat inner_scopes named_declarations m.declarations
 
 pub trees_inside : (trees : List Tree) → scopes_within trees ≡ flat_map tree_scopes trees
 trees_inside [] = refl

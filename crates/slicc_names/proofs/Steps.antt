@@ -33,10 +33,6 @@ pub told_in_body : (own : List Declaration) (xs : List (List Declaration)) (f g 
 told_in_body own xs f g h p q =
     q ∙ ap (λ o. first_after o (flat_map repeated xs)) p ∙ sym (first_after-append f (repeated own) (flat_map repeated xs))
 
--- at the end of the loop
-pub told_in_all : {X : Type 0} (k : X → List (List Declaration)) (xs : List X) (i : ℕ) (f g : Option Broken) → length xs ≤ i → g ≡ first_after f (flat_map repeated (flat_map k (take i xs))) → g ≡ first_after f (flat_map repeated (flat_map k xs))
-told_in_all k xs i f g past told = told ∙ ap (λ ys. first_after f (flat_map repeated (flat_map k ys))) (take_all i xs past)
-
 -- the same of parts that are told of one by one
 pub told_taken : {X : Type 0} (k : X → List Broken) (xs : List X) (i : ℕ) (d : X) (f g h : Option Broken) → i < length xs → d ≡ slice_index_or xs i d
     → g ≡ first_after f (flat_map k (take i xs)) → h ≡ first_after g (k d) → h ≡ first_after f (flat_map k (take (i + 1) xs))

@@ -6,7 +6,6 @@ use Rattle.slicc_ast.specs.declared.tree.item.Tree.{Tree}
 use Rattle.slicc_ast.specs.declared.tree.machine.Decl.{Decl}
 use Rattle.slicc_ast.specs.declared.tree.machine.Parameter.{Parameter}
 use Rattle.slicc_ast.specs.declared.tree.span.Span.{Span}
-use Rattle.slicc_ast.specs.declared.tree.statement.Block.{Block}
 use Rattle.slicc_ast.specs.declared.tree.statement.ElseIf.{ElseIf}
 use Rattle.slicc_ast.specs.declared.tree.statement.Stmt.{Stmt}
 use Rattle.slicc_plan.specs.declared.broken.Broken.{Broken}
@@ -17,6 +16,8 @@ use Rattle.slicc_plan.specs.Declarations.{Declaration, Scope, machine, machine_d
 use Rattle.slicc_plan.specs.Scopes.{bodies_in}
 use Rattle.slicc_plan.specs.Types.{is_built_in, type_in}
 use Rattle.slicc_plan.specs.Limits.{beyond, beyond_in_body, members_of_found, most_objects, most_of_each, most_ports, most_sequencers, is_action, is_counted_function, is_counted_structure, is_enumeration, is_events, is_field, is_machine, is_object, is_port, is_states}
+use Rattle.declared_types.specs.declared.lent.Declared.{Declared}
+use Rattle.declared_types.specs.Lent.{declaration_of}
 use Rattle.slicc_names.specs.declared.count.Found.{Found}
 use Rattle.slicc_names.specs.declared.count.Found.TheVariants.{At, Left}
 use Rattle.slicc_names.specs.declared.limits.Wanted.{Wanted}
@@ -28,11 +29,15 @@ abbrev pub listed_place : Option Span → List Span
 listed_place None = []
 listed_place (Some p) = p ∷ []
 
--- the place of this number, counted from 0
-abbrev pub found_in : ℕ → List Span → Found
-found_in n [] = Left n
-found_in zero (p ∷ ps) = At p
-found_in (suc n) (p ∷ ps) = found_in n ps
+-- what is found with one place more, and with further ones
+abbrev pub found_next : Found → Span → Found
+found_next (At q) p = At q
+found_next (Left zero) p = At p
+found_next (Left (suc n)) p = Left n
+
+abbrev pub found_after : Found → List Span → Found
+found_after found [] = found
+found_after found (p ∷ ps) = found_after (found_next found p) ps
 
 abbrev pub told_found : Found → List Broken
 told_found (At p) = record { rule = LimitPassed; machine = 0; place = p; other = None } ∷ []
@@ -54,6 +59,9 @@ place_if test d = cond (test d) (place_of d ∷ []) []
 abbrev pub if_counted : Kind → Declaration → List Span
 if_counted kind d = place_if (is_of_kind kind) d
 
+abbrev pub declared_places : Kind → Declared → List Span
+declared_places kind d = if_counted kind (declaration_of d)
+
 -- the places of the locals of a statement
 abbrev pub local_places : Stmt → List Span
 local_places s = map place_of (locals_in s)
@@ -61,10 +69,6 @@ local_places s = map place_of (locals_in s)
 -- `else if ( expr ) block`
 abbrev pub else_if_places : ElseIf → List Span
 else_if_places e = map place_of (body_locals e.then)
-
-abbrev pub optional_places : Option Block → List Span
-optional_places None = []
-optional_places (Some b) = map place_of (body_locals b)
 
 abbrev pub field_places : Member → List Span
 field_places m = place_if is_field (member m)

@@ -1,8 +1,10 @@
 -- The names of a scope are numbered in the order of their first declarations, from 0. Scopes are numbered too: the protocol
 -- is 0, and its machines follow in their order.
-use Rattle.std.specs.Prelude.{ℕ, Option, None, Some, cond, nat_lt, List, [], fold, map, option_and_then}
+use Rattle.std.specs.Prelude.{ℕ, All, IsTrue, Option, None, Some, cond, nat_lt, List, [], fold, map, option_and_then}
 use Rattle.std.specs.List.{slice_get}
 use Rattle.slicc_ast.specs.declared.tree.item.Tree.{Tree}
+use Rattle.slicc_ast.specs.Outline.{is_allowed}
+use Rattle.slicc_ast.specs.Trees.{tree}
 use Rattle.name_index.specs.Numbering.{number_among, with_name}
 use Rattle.slicc_ast.specs.declared.tree.name.Name.{Name}
 use Rattle.slicc_plan.specs.Declarations.{Declaration, Scope, declared_in, wide_scopes}
@@ -28,3 +30,7 @@ short_number n = cond (nat_lt n 65536) (Some n) None
 abbrev pub name_number : List (List (List ℕ)) → ℕ → List ℕ → Option ℕ
 name_number scopes scope name =
     option_and_then short_number (option_and_then (λ names. number_among names name) (slice_get scopes scope))
+
+-- the trees keep the conditions of the grammar, as those do that tokens spell
+abbrev pub KeepGrammar : List Tree → Type 0
+KeepGrammar trees = All (λ (t : Tree). IsTrue (is_allowed (tree t))) trees

@@ -2,15 +2,20 @@
 use Rattle.std.specs.Prelude.{List, [], flat_map}
 use Rattle.slicc_ast.specs.declared.tree.item.Item.{Item}
 use Rattle.slicc_ast.specs.declared.tree.item.Tree.{Tree}
+use Rattle.slicc_ast.specs.declared.tree.machine.Decl.{Decl}
 use Rattle.slicc_ast.specs.declared.tree.machine.Machine.{Machine}
 use Rattle.slicc_ast.specs.declared.tree.statement.ElseIf.{ElseIf}
 use Rattle.slicc_plan.specs.Blocks.{body_scopes}
-use Rattle.slicc_plan.specs.Declarations.{Declaration, item_declarations, machine}
-use Rattle.slicc_plan.specs.Scopes.{global_scopes}
+use Rattle.slicc_plan.specs.Declarations.{Declaration, item_declarations, machine, named_declarations}
+use Rattle.slicc_plan.specs.Scopes.{global_scopes, inner_scopes}
 
 -- `else if ( expr ) block`
 abbrev pub else_if_scopes : ElseIf → List (List Declaration)
 else_if_scopes e = body_scopes [] e.then
+
+-- what is declared between a machine's braces
+abbrev pub decl_scopes : Decl → List (List Declaration)
+decl_scopes d = flat_map inner_scopes (named_declarations d)
 
 abbrev pub machine_scopes : Machine → List (List Declaration)
 machine_scopes m = global_scopes (machine m)

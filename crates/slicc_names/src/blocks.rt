@@ -1,28 +1,15 @@
 //! Names that are declared twice in a block of a body. A body's outermost block has the formals too.
-ghost use Rattle.std.specs.Prelude.{◌≡◌, ◌++◌, [], IfOk, flat_map};
+ghost use Rattle.std.specs.Prelude.{◌≡◌, [], IfOk, flat_map};
 ghost use Rattle.slicc_names.specs.Declaring.{one_formal};
 ghost use Rattle.slicc_names.specs.Repeated.{else_if_scopes};
-ghost use Rattle.slicc_plan.specs.Blocks.{blocks_in, body_scopes, if_blocks, local_of};
+ghost use Rattle.slicc_plan.specs.Blocks.{blocks_in, body_scopes, if_blocks};
 ghost use Rattle.slicc_plan.specs.Order.{first_after};
 ghost use Rattle.slicc_plan.specs.TwiceDeclared.{repeated};
 
-use crate::first_names::FirstNames;
+use crate::first_names::{in_both, in_parts};
 use slicc_ast::tree::{Block, ElseIf, Formal, If, Stmt};
 use slicc_plan::{Broken, NoMemory};
 use std::alloc::Global;
-
-fn own_names(
-    alloc: Global,
-    first: Option<Broken>,
-    formals: &[Formal],
-    statements: &[Stmt],
-) -> Result<Option<Broken>, NoMemory>
-    ensures { IfOk result (λ r. r ≡ first_after first (repeated (flat_map one_formal formals.now ++ flat_map local_of statements.now))) }
-{
-    let mut scope = FirstNames::new(alloc);
-    let first = scope.declare_all(first, formals)?;
-    scope.declare_all(first, statements)
-}
 
 /// A body with its formals.
 pub fn in_body(
@@ -33,7 +20,7 @@ pub fn in_body(
 ) -> Result<Option<Broken>, NoMemory>
     ensures { IfOk result (λ r. r ≡ first_after first (flat_map repeated (body_scopes (flat_map one_formal formals.now) b.now))) }
 {
-    let first = own_names(alloc, first, formals, &b.statements)?;
+    let first = in_both(alloc, first, formals, &b.statements)?;
     in_statements(alloc, first, &b.statements)
 }
 
@@ -42,7 +29,7 @@ pub fn in_body(
 pub fn in_block(alloc: Global, first: Option<Broken>, b: &Block) -> Result<Option<Broken>, NoMemory>
     ensures { IfOk result (λ r. r ≡ first_after first (flat_map repeated (body_scopes [] b.now))) }
 {
-    let first = own_names(alloc, first, &[], &b.statements)?;
+    let first = in_parts(alloc, first, &b.statements)?;
     in_statements(alloc, first, &b.statements)
 }
 

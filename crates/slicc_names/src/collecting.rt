@@ -10,7 +10,7 @@ use crate::twice::names_twice_declared;
 use declaration_rules::{judge_field_types, judge_prototypes, judge_type_names, judge_values};
 use declared_types::Scopes;
 use slicc_ast::tree::Tree;
-use slicc_plan::{Broken, NoMemory, Refusal};
+use slicc_plan::{Broken, NoMemory, Refusal, Seq};
 use std::alloc::Global;
 
 /// How a broken rule is told.
@@ -38,21 +38,27 @@ pub fn broken_declarations(alloc: Global, scopes: &Scopes<'_>) -> Result<Option<
 }
 
 // The names, or the first rule of declarations that is broken.
-fn names_or_broken(alloc: Global, trees: &[Tree]) -> Result<Result<Names, Broken>, NoMemory>
-    ensures { IfOk result (AreNamesOrBroken trees.now) }
+fn names_or_broken(alloc: Global, scopes: &Scopes<'_>) -> Result<Result<Names, Broken>, NoMemory>
+    ensures { IfOk result (AreNamesOrBroken scopes.now.trees.now) }
 {
-    let scopes = Scopes::new(alloc, trees)?;
-    match broken_declarations(alloc, &scopes)? {
+    match broken_declarations(alloc, scopes)? {
         Some(b) => Ok(Err(b)),
-        None => Ok(Ok(Names::new(alloc, &scopes)?)),
+        None => Ok(Ok(Names::new(alloc, scopes)?)),
     }
 }
 
+fn judged(alloc: Global, trees: &Seq<Tree>) -> Result<Result<Names, Broken>, NoMemory>
+    ensures { IfOk result (AreNamesOrBroken trees.now) }
+{
+    let scopes = Scopes::new(alloc, trees.as_slice())?;
+    names_or_broken(alloc, &scopes)
+}
+
 /// The names of a protocol with these trees, or the first of the rules of declarations that it breaks.
-pub fn collect(alloc: Global, trees: &[Tree]) -> Result<Names, Refusal>
+pub fn collect(alloc: Global, trees: &Seq<Tree>) -> Result<Names, Refusal>
     ensures { IsCollected trees.now result }
 {
-    match names_or_broken(alloc, trees) {
+    match judged(alloc, trees) {
         Ok(Ok(names)) => Ok(names),
         Ok(Err(b)) => Err(refusal(b)),
         Err(NoMemory) => Err(Refusal::NoMemory),

@@ -1,13 +1,11 @@
 //! Counting to the place of a number.
 ghost use Rattle.std.specs.Prelude.{◌≡◌, flat_map};
-ghost use Rattle.declared_types.specs.Lent.{declaration_of, declarations_of};
-ghost use Rattle.slicc_names.specs.Counting.{field_places, found_in, if_counted, listed_place, place_if, told_found};
+ghost use Rattle.slicc_names.specs.Counting.{field_places, found_after, listed_place, place_if, told_found};
 ghost use Rattle.slicc_plan.specs.Declarations.{member};
 ghost use Rattle.slicc_plan.specs.Limits.{is_field};
 ghost use Rattle.slicc_plan.specs.Order.{first_after};
 
-use crate::kinds::{Kind, is_of_kind, place_of};
-use declared_types::Declared;
+use crate::kinds::{Counted, Kind};
 use slicc_ast::tree::{Member, Span};
 use slicc_plan::{Broken, Rule, earlier_broken};
 
@@ -20,45 +18,34 @@ pub enum Found {
     Left(u32),
 }
 
-/// Counts one place, if there is one.
-pub fn count(place: Option<Span>, left: u32) -> Found
-    ensures { result ≡ found_in left (listed_place place) }
+/// Counts one place more, if there is one.
+pub fn count(found: Found, place: Option<Span>) -> Found
+    ensures { result ≡ found_after found (listed_place place) }
 {
     match place {
-        None => Found::Left(left),
-        Some(p) => {
-            if left == 0 {
-                Found::At(p)
-            } else {
-                Found::Left(left - 1)
+        None => found,
+        Some(p) => match found {
+            Found::At(_) => found,
+            Found::Left(left) => {
+                if left == 0 {
+                    Found::At(p)
+                } else {
+                    Found::Left(left - 1)
+                }
             }
-        }
+        },
     }
 }
 
-/// Counts the declarations of a kind.
-pub fn count_kind(kind: Kind, declarations: &[Declared<'_>], left: u32) -> Found
-    ensures { result ≡ found_in left (flat_map (if_counted kind) (declarations_of declarations.now)) }
+/// Counts what is of a kind.
+pub fn count_each<T: Counted>(found: Found, kind: Kind, parts: &[T]) -> Found
+    ensures { result ≡ found_after found (flat_map (T.places kind) parts.now) }
 {
-    let mut left_now = left;
-    for d in declarations {
-        let place = place_if(kind, *d);
-        match count(place, left_now) {
-            Found::At(p) => return Found::At(p),
-            Found::Left(l) => left_now = l,
-        }
+    let mut found = found;
+    for part in parts {
+        found = count(found, part.place(kind));
     }
-    Found::Left(left_now)
-}
-
-pub fn place_if(kind: Kind, d: Declared<'_>) -> Option<Span>
-    ensures { listed_place result ≡ if_counted kind (declaration_of d.entry) }
-{
-    if is_of_kind(kind, d) {
-        Some(place_of(d))
-    } else {
-        None
-    }
+    found
 }
 
 /// The first broken rule after a limit is passed at the place that was found, if it was.
@@ -89,15 +76,12 @@ fn field_place(m: &Member) -> Option<Span>
 }
 
 /// Counts the fields among the members of a structure.
-pub fn count_fields(members: &[Member], left: u32) -> Found
-    ensures { result ≡ found_in left (flat_map field_places members.now) }
+pub fn count_fields(found: Found, members: &[Member]) -> Found
+    ensures { result ≡ found_after found (flat_map field_places members.now) }
 {
-    let mut left_now = left;
+    let mut found = found;
     for m in members {
-        match count(field_place(m), left_now) {
-            Found::At(p) => return Found::At(p),
-            Found::Left(l) => left_now = l,
-        }
+        found = count(found, field_place(m));
     }
-    Found::Left(left_now)
+    found
 }

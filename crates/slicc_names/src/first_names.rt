@@ -3,7 +3,7 @@ ghost use Rattle.std.specs.Prelude.{◌≡◌, ◌++◌, ◌∷◌, [], IfOk, On
 ghost use Rattle.std.specs.Option.{option_map};
 ghost use Rattle.slicc_names.specs.Lookups.{FindSame};
 ghost use Rattle.slicc_plan.specs.Order.{first_after};
-ghost use Rattle.slicc_plan.specs.TwiceDeclared.{first_with, listed, names_of, repeated_after, told_after, twice_declared};
+ghost use Rattle.slicc_plan.specs.TwiceDeclared.{first_with, names_of, repeated, repeated_after, told_after, twice_declared};
 
 use crate::declares::Declares;
 use indexmap::IndexMap;
@@ -109,4 +109,30 @@ impl FirstNames {
         }
         Ok(first)
     }
+}
+
+/// A scope of these parts alone.
+pub fn in_parts<T: Declares>(
+    alloc: Global,
+    first: Option<Broken>,
+    parts: &[T],
+) -> Result<Option<Broken>, NoMemory>
+    ensures { IfOk result (λ r. r ≡ first_after first (flat_map repeated (flat_map T.declares parts.now ∷ []))) }
+{
+    let mut scope = FirstNames::new(alloc);
+    scope.declare_all(first, parts)
+}
+
+/// A scope of parts of two kinds, one after the other.
+pub fn in_both<T: Declares, U: Declares>(
+    alloc: Global,
+    first: Option<Broken>,
+    parts: &[T],
+    others: &[U],
+) -> Result<Option<Broken>, NoMemory>
+    ensures { IfOk result (λ r. r ≡ first_after first (repeated (flat_map T.declares parts.now ++ flat_map U.declares others.now))) }
+{
+    let mut scope = FirstNames::new(alloc);
+    let first = scope.declare_all(first, parts)?;
+    scope.declare_all(first, others)
 }

@@ -2,43 +2,16 @@
 ghost use Rattle.std.specs.Prelude.{◌≡◌, ◌++◌, [], IfOk, OnOk, Some};
 ghost use Rattle.declared_types.specs.Lent.{declaration_of, declarations_of};
 ghost use Rattle.slicc_names.specs.Lookups.{FindSame};
-ghost use Rattle.slicc_plan.specs.Declarations.{function_name, name_of};
+ghost use Rattle.slicc_plan.specs.Declarations.{name_of};
 ghost use Rattle.slicc_plan.specs.Order.{first_after};
 ghost use Rattle.slicc_plan.specs.TwiceDeclared.{declaration_told, globally_repeated_after, listed, stands_for_built_in, takes_built_in_name};
 
 use crate::first_names::{FirstNames, twice};
 use built_ins::built_in_type;
-use declared_types::{Declared, is_external};
-use slicc_ast::tree::{Function, Name};
+use declared_types::{Declared, is_external, name_of};
+use slicc_ast::tree::Name;
 use slicc_plan::{Broken, NoMemory, earlier_broken};
 use std::alloc::Global;
-
-fn function_name<'a>(f: &'a Function) -> &'a Name
-    ensures { result.now ≡ function_name f.now }
-{
-    match f {
-        Function::Plain { name, .. } => name,
-        Function::Skipped(s) => &s.name,
-    }
-}
-
-/// The name that is declared.
-pub fn name_of<'a>(d: Declared<'a>) -> &'a Name
-    ensures { name_of (declaration_of d.entry) ≡ Some result.now }
-{
-    match d {
-        Declared::Machine(m) => &m.name,
-        Declared::Enumeration(e) => &e.name,
-        Declared::Structure(s) => &s.name,
-        Declared::States(s) => &s.name,
-        Declared::Parameter(p) => &p.name,
-        Declared::Object(o) => &o.name,
-        Declared::OutPort(p) => &p.name,
-        Declared::InPort(p) => &p.name,
-        Declared::Action(a) => &a.name,
-        Declared::Function(f) => function_name(f),
-    }
-}
 
 fn stands_for_built_in(d: Declared<'_>) -> bool
     ensures { result ≡ stands_for_built_in (declaration_of d.entry) }

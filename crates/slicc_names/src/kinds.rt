@@ -1,9 +1,10 @@
 //! What there are limits for.
-ghost use Rattle.std.specs.Prelude.{◌≡◌};
+ghost use Rattle.std.specs.Prelude.{◌≡◌, List};
 ghost use Rattle.declared_types.specs.Lent.{declaration_of};
-ghost use Rattle.slicc_names.specs.Counting.{is_of_kind};
+ghost use Rattle.slicc_ast.specs.declared.tree.span.Span.{Span as SpanRecord};
+ghost use Rattle.slicc_names.specs.Counting.{declared_places, is_of_kind, listed_place};
+ghost use Rattle.slicc_names.specs.declared.kinds.Kind.{Kind as KindRecord};
 ghost use Rattle.slicc_plan.specs.Declarations.{function_span, place_of};
-ghost use Rattle.slicc_plan.specs.Limits.{is_action, is_counted_function, is_counted_structure, is_enumeration, is_machine, is_object, is_port};
 
 use declared_types::{Declared, is_external};
 use slicc_ast::tree::{Function, Span};
@@ -24,86 +25,23 @@ pub enum Kind {
     Object,
 }
 
-fn is_machine(d: Declared<'_>) -> bool
-    ensures { result ≡ is_machine (declaration_of d.entry) }
-{
-    match d {
-        Declared::Machine(_) => true,
-        _ => false,
-    }
-}
-
-fn is_enumeration(d: Declared<'_>) -> bool
-    ensures { result ≡ is_enumeration (declaration_of d.entry) }
-{
-    match d {
-        Declared::Enumeration(_) => true,
-        Declared::States(_) => true,
-        _ => false,
-    }
-}
-
-fn is_structure(d: Declared<'_>) -> bool
-    ensures { result ≡ is_counted_structure (declaration_of d.entry) }
-{
-    match d {
-        Declared::Structure(s) => !is_external(s),
-        _ => false,
-    }
-}
-
-fn is_action(d: Declared<'_>) -> bool
-    ensures { result ≡ is_action (declaration_of d.entry) }
-{
-    match d {
-        Declared::Action(_) => true,
-        _ => false,
-    }
-}
-
-fn is_function(d: Declared<'_>) -> bool
-    ensures { result ≡ is_counted_function (declaration_of d.entry) }
-{
-    match d {
-        Declared::Function(f) => match f {
-            Function::Plain { .. } => true,
-            Function::Skipped(_) => false,
-        },
-        _ => false,
-    }
-}
-
-fn is_port(d: Declared<'_>) -> bool
-    ensures { result ≡ is_port (declaration_of d.entry) }
-{
-    match d {
-        Declared::OutPort(_) => true,
-        Declared::InPort(_) => true,
-        _ => false,
-    }
-}
-
-fn is_object(d: Declared<'_>) -> bool
-    ensures { result ≡ is_object (declaration_of d.entry) }
-{
-    match d {
-        Declared::Parameter(_) => true,
-        Declared::Object(_) => true,
-        _ => false,
-    }
-}
-
-pub fn is_of_kind(kind: Kind, d: Declared<'_>) -> bool
+fn is_of_kind(kind: Kind, d: Declared<'_>) -> bool
     ensures { result ≡ is_of_kind kind (declaration_of d.entry) }
 {
     match kind {
-        Kind::Machine => is_machine(d),
-        Kind::Enumeration => is_enumeration(d),
-        Kind::Structure => is_structure(d),
-        Kind::Action => is_action(d),
-        Kind::Function => is_function(d),
-        Kind::Port => is_port(d),
-        Kind::Object => is_object(d),
+        Kind::Machine => matches!(d, Declared::Machine(_)),
+        Kind::Enumeration => matches!(d, Declared::Enumeration(_) | Declared::States(_)),
+        Kind::Structure => match d {
+            Declared::Structure(s) => !is_external(s),
+            _ => false,
+        },
+        Kind::Action => matches!(d, Declared::Action(_)),
+        Kind::Function => match d {
+            Declared::Function(f) => matches!(f, Function::Plain { .. }),
+            _ => false,
+        },
+        Kind::Port => matches!(d, Declared::OutPort(_) | Declared::InPort(_)),
+        Kind::Object => matches!(d, Declared::Parameter(_) | Declared::Object(_)),
     }
 }
 
@@ -116,8 +54,8 @@ fn function_place(f: &Function) -> Span
     }
 }
 
-/// The place of a declaration, which is all of it.
-pub fn place_of(d: Declared<'_>) -> Span
+// The place of a declaration, which is all of it.
+fn place_of(d: Declared<'_>) -> Span
     ensures { result ≡ place_of (declaration_of d.entry) }
 {
     match d {
@@ -131,5 +69,26 @@ pub fn place_of(d: Declared<'_>) -> Span
         Declared::InPort(p) => p.span,
         Declared::Action(a) => a.span,
         Declared::Function(f) => function_place(f),
+    }
+}
+
+/// What declares one thing at most.
+pub trait Counted {
+    ghost places: { KindRecord → Self → List SpanRecord };
+
+    /// The place of what is declared, if it is of this kind.
+    fn place(&self, kind: Kind) -> Option<Span>
+        ensures { listed_place result ≡ places kind self.now };
+}
+
+impl<'a> Counted for Declared<'a> {
+    ghost places = { declared_places };
+
+    fn place(&self, kind: Kind) -> Option<Span> {
+        if is_of_kind(kind, *self) {
+            Some(place_of(*self))
+        } else {
+            None
+        }
     }
 }

@@ -9,6 +9,7 @@ mod declares;
 mod first_names;
 mod globals;
 mod kinds;
+mod laws;
 mod limits;
 mod locals;
 mod names;
@@ -17,6 +18,7 @@ mod scopes;
 mod twice;
 
 pub use collecting::{broken_declarations, collect, refusal};
+pub use laws::{declared_names_are_found, names_have_numbers};
 pub use names::Names;
 pub use protocol::limits_passed;
 pub use slicc_plan::{NoMemory, Refusal};

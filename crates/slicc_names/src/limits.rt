@@ -7,7 +7,7 @@ ghost use Rattle.slicc_plan.specs.Limits.{beyond, beyond_in_body, beyond_in_decl
 ghost use Rattle.slicc_plan.specs.Order.{first_after};
 ghost use Rattle.slicc_plan.specs.Scopes.{bodies_in};
 
-use crate::count::{Found, count_fields, count_kind, limit_at};
+use crate::count::{Found, count_each, count_fields, limit_at};
 use crate::kinds::Kind;
 use crate::locals::count_locals;
 use declared_types::{Declared, is_external};
@@ -31,7 +31,7 @@ pub fn kind_limit(
 ) -> Option<Broken>
     ensures { result ≡ first_after first (beyond limit (filter (is_of_kind kind) (declarations_of declarations.now))) }
 {
-    limit_at(first, count_kind(kind, declarations, limit))
+    limit_at(first, count_each(Found::Left(limit), kind, declarations))
 }
 
 fn symbol_place(d: Declared<'_>, number: u32) -> Option<Span>
@@ -67,7 +67,7 @@ fn fields_limit(first: Option<Broken>, d: Declared<'_>) -> Option<Broken>
             if is_external(s) {
                 first
             } else {
-                limit_at(first, count_fields(&s.members, FIELDS))
+                limit_at(first, count_fields(Found::Left(FIELDS), &s.members))
             }
         }
         _ => first,
@@ -95,7 +95,7 @@ pub fn in_declarations(first: Option<Broken>, declarations: &[Declared<'_>]) -> 
 fn in_body(first: Option<Broken>, b: &Block) -> Option<Broken>
     ensures { result ≡ first_after first (beyond_in_body b.now) }
 {
-    limit_at(first, count_locals(b, LOCALS))
+    limit_at(first, count_locals(Found::Left(LOCALS), b))
 }
 
 fn in_function(first: Option<Broken>, f: &Function) -> Option<Broken>

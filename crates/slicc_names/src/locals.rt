@@ -1,6 +1,6 @@
 //! Counting the locals of a body.
 ghost use Rattle.std.specs.Prelude.{◌≡◌, flat_map, map};
-ghost use Rattle.slicc_names.specs.Counting.{else_if_places, found_in, local_places, optional_places};
+ghost use Rattle.slicc_names.specs.Counting.{else_if_places, found_after, local_places};
 ghost use Rattle.slicc_plan.specs.Blocks.{body_locals, if_locals};
 ghost use Rattle.slicc_plan.specs.Declarations.{place_of};
 
@@ -8,71 +8,54 @@ use crate::count::{Found, count};
 use slicc_ast::tree::{Block, ElseIf, If, Stmt};
 
 #[cycle(locals)]
-pub fn count_locals(b: &Block, left: u32) -> Found
-    ensures { result ≡ found_in left (map place_of (body_locals b.now)) }
+pub fn count_locals(found: Found, b: &Block) -> Found
+    ensures { result ≡ found_after found (map place_of (body_locals b.now)) }
 {
-    in_statements(&b.statements, left)
+    in_statements(found, &b.statements)
 }
 
 #[cycle(locals)]
-fn in_statements(statements: &[Stmt], left: u32) -> Found
-    ensures { result ≡ found_in left (flat_map local_places statements.now) }
+fn in_statements(found: Found, statements: &[Stmt]) -> Found
+    ensures { result ≡ found_after found (flat_map local_places statements.now) }
 {
-    let mut left_now = left;
+    let mut found = found;
     for s in statements {
-        match in_statement(s, left_now) {
-            Found::At(p) => return Found::At(p),
-            Found::Left(l) => left_now = l,
-        }
+        found = in_statement(found, s);
     }
-    Found::Left(left_now)
+    found
 }
 
 #[cycle(locals)]
-fn in_statement(s: &Stmt, left: u32) -> Found
-    ensures { result ≡ found_in left (local_places s.now) }
+fn in_statement(found: Found, s: &Stmt) -> Found
+    ensures { result ≡ found_after found (local_places s.now) }
 {
     match s {
-        Stmt::Declare { span, .. } => count(Some(*span), left),
-        Stmt::If(i) => in_if(i, left),
-        Stmt::Peek { body, .. } | Stmt::Enqueue { body, .. } => count_locals(body, left),
-        _ => Found::Left(left),
+        Stmt::Declare { span, .. } => count(found, Some(*span)),
+        Stmt::If(i) => in_if(found, i),
+        Stmt::Peek { body, .. } | Stmt::Enqueue { body, .. } => count_locals(found, body),
+        _ => found,
     }
 }
 
 #[cycle(locals)]
-fn in_if(i: &If, left: u32) -> Found
-    ensures { result ≡ found_in left (map place_of (if_locals i.now)) }
+fn in_if(found: Found, i: &If) -> Found
+    ensures { result ≡ found_after found (map place_of (if_locals i.now)) }
 {
-    match count_locals(&i.then, left) {
-        Found::At(p) => Found::At(p),
-        Found::Left(l) => match in_others(&i.others, l) {
-            Found::At(p) => Found::At(p),
-            Found::Left(l) => in_otherwise(&i.otherwise, l),
-        },
+    let then = count_locals(found, &i.then);
+    let others = in_others(then, &i.others);
+    match &i.otherwise {
+        None => others,
+        Some(block) => count_locals(others, block),
     }
 }
 
 #[cycle(locals)]
-fn in_otherwise(otherwise: &Option<Block>, left: u32) -> Found
-    ensures { result ≡ found_in left (optional_places otherwise.now) }
+fn in_others(found: Found, others: &[ElseIf]) -> Found
+    ensures { result ≡ found_after found (flat_map else_if_places others.now) }
 {
-    match otherwise {
-        None => Found::Left(left),
-        Some(block) => count_locals(block, left),
-    }
-}
-
-#[cycle(locals)]
-fn in_others(others: &[ElseIf], left: u32) -> Found
-    ensures { result ≡ found_in left (flat_map else_if_places others.now) }
-{
-    let mut left_now = left;
+    let mut found = found;
     for other in others {
-        match count_locals(&other.then, left_now) {
-            Found::At(p) => return Found::At(p),
-            Found::Left(l) => left_now = l,
-        }
+        found = count_locals(found, &other.then);
     }
-    Found::Left(left_now)
+    found
 }

@@ -3,8 +3,7 @@ ghost use Rattle.std.specs.Prelude.{◌≡◌, [], IfOk, OnOk};
 ghost use Rattle.declared_types.specs.Lent.{declarations_of};
 ghost use Rattle.slicc_names.specs.Names.{all_names, name_number, once_each, short_number, texts_declared};
 
-use crate::globals::name_of;
-use declared_types::{Declared, Scopes};
+use declared_types::{Declared, Scopes, name_of};
 use name_index::NameIndex;
 use slicc_ast::Text;
 use slicc_plan::{NoMemory, Seq};

@@ -2,9 +2,8 @@
 ghost use Rattle.std.specs.Prelude.{◌≡◌, filter, flat_map};
 ghost use Rattle.declared_types.specs.Lent.{declaration_of, declarations_of};
 ghost use Rattle.declared_types.specs.Scopes.{scope_at};
-ghost use Rattle.slicc_names.specs.Counting.{found_in, is_sequencer_in, kind_limits, limits_of, listed_place, place_if};
+ghost use Rattle.slicc_names.specs.Counting.{is_sequencer_in, kind_limits, limits_of, listed_place, place_if};
 ghost use Rattle.slicc_plan.specs.declared.built_in.BuiltInType.TheVariants.{Sequencer};
-ghost use Rattle.slicc_plan.specs.BuiltIn.{is_same_type};
 ghost use Rattle.slicc_plan.specs.Declarations.{declared_in, wide_scopes};
 ghost use Rattle.slicc_plan.specs.Limits.{beyond, beyond_in_scope, limits_passed, machine_limits, most_sequencers};
 ghost use Rattle.slicc_plan.specs.Order.{first_after};
@@ -14,7 +13,8 @@ use crate::all::count_all;
 use crate::count::{Found, count, limit_at};
 use crate::kinds::Kind;
 use crate::limits::{Wanted, in_bodies, in_declarations, kind_limit, wanted_limit};
-use declared_types::{Declared, KnownType, Scope, Scopes};
+use declaration_rules::is_built_in;
+use declared_types::{Declared, Scope, Scopes};
 use slicc_ast::tree::Span;
 use slicc_plan::{Broken, BuiltInType};
 
@@ -33,27 +33,10 @@ const ENUMERATIONS: u32 = 16384 - 4;
 
 const STRUCTURES: u32 = 16384;
 
-fn is_sequencer(b: BuiltInType) -> bool
-    ensures { result ≡ is_same_type Sequencer b }
-{
-    match b {
-        BuiltInType::Sequencer => true,
-        _ => false,
-    }
-}
-
 fn names_sequencer(scopes: &Scopes<'_>, number: usize, text: &[u8]) -> bool
     ensures { result ≡ is_built_in Sequencer (type_in scopes.now.trees.now (scope_at scopes.now.trees.now number) text.now) }
 {
-    match scopes.type_in(number, text) {
-        None => false,
-        Some(known) => match known {
-            KnownType::BuiltIn(b) => is_sequencer(b),
-            KnownType::Enumeration(..) => false,
-            KnownType::States(..) => false,
-            KnownType::Structure(..) => false,
-        },
-    }
+    is_built_in(BuiltInType::Sequencer, scopes.type_in(number, text))
 }
 
 fn sequencer_place(scopes: &Scopes<'_>, number: usize, d: Declared<'_>) -> Option<Span>
@@ -78,24 +61,15 @@ fn sequencer_place(scopes: &Scopes<'_>, number: usize, d: Declared<'_>) -> Optio
     }
 }
 
-fn count_sequencers(scopes: &Scopes<'_>, number: usize, left: u32) -> Found
-    ensures { result ≡ found_in left (flat_map (place_if (is_sequencer_in scopes.now.trees.now (scope_at scopes.now.trees.now number))) (declared_in scopes.now.trees.now (scope_at scopes.now.trees.now number))) }
-{
-    let declarations = scopes.declarations(number);
-    let mut left_now = left;
-    for d in declarations {
-        match count(sequencer_place(scopes, number, *d), left_now) {
-            Found::At(p) => return Found::At(p),
-            Found::Left(l) => left_now = l,
-        }
-    }
-    Found::Left(left_now)
-}
-
 fn sequencer_limit(first: Option<Broken>, scopes: &Scopes<'_>, number: usize) -> Option<Broken>
     ensures { result ≡ first_after first (beyond most_sequencers (filter (is_sequencer_in scopes.now.trees.now (scope_at scopes.now.trees.now number)) (declared_in scopes.now.trees.now (scope_at scopes.now.trees.now number)))) }
 {
-    limit_at(first, count_sequencers(scopes, number, SEQUENCERS))
+    let declarations = scopes.declarations(number);
+    let mut found = Found::Left(SEQUENCERS);
+    for d in declarations {
+        found = count(found, sequencer_place(scopes, number, *d));
+    }
+    limit_at(first, found)
 }
 
 fn of_kinds(first: Option<Broken>, declarations: &[Declared<'_>]) -> Option<Broken>
@@ -151,9 +125,9 @@ pub fn limits_passed(first: Option<Broken>, scopes: &Scopes<'_>) -> Option<Broke
 {
     let globals = scopes.declarations(0);
     let machines = kind_limit(first, Kind::Machine, globals, MACHINES);
-    let enumeration = count_all(Kind::Enumeration, globals, ENUMERATIONS);
+    let enumeration = count_all(Found::Left(ENUMERATIONS), Kind::Enumeration, globals);
     let enumerations = limit_at(machines, enumeration);
-    let structure = count_all(Kind::Structure, globals, STRUCTURES);
+    let structure = count_all(Found::Left(STRUCTURES), Kind::Structure, globals);
     let structures = limit_at(enumerations, structure);
     in_scopes(structures, scopes)
 }

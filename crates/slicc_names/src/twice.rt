@@ -4,7 +4,7 @@ ghost use Rattle.slicc_plan.specs.Order.{first_after};
 ghost use Rattle.slicc_plan.specs.TwiceDeclared.{names_twice_declared};
 
 use crate::globals::in_protocol;
-use crate::scopes::in_trees;
+use crate::scopes::in_each;
 use declared_types::Scopes;
 use slicc_plan::{Broken, NoMemory};
 use std::alloc::Global;
@@ -18,5 +18,5 @@ pub fn names_twice_declared(
     ensures { IfOk result (λ r. r ≡ first_after first (names_twice_declared scopes.now.trees.now)) }
 {
     let first = in_protocol(alloc, first, scopes.declarations(0))?;
-    in_trees(alloc, first, scopes.trees)
+    in_each(alloc, first, scopes.trees)
 }

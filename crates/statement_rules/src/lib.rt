@@ -4,7 +4,6 @@
 mod binding;
 mod judging;
 mod messages;
-mod place;
 mod plain;
 
 pub use judging::body_judged;

@@ -11,14 +11,13 @@ ghost use Rattle.slicc_plan.specs.Order.{first_of};
 ghost use Rattle.body_types.specs.Environments.{IsEnvironment, environment_of, sort_of};
 ghost use Rattle.body_types.specs.Views.{meaning_of, type_if, wanted_of};
 
-use crate::place::span_of;
 use body_types::{
     BodySort, Environment, Meaning, Wanted, is_value, like_it, type_named, unless, value_of_type,
     wrong_type_name, wrong_value_name,
 };
 use call_types::not_writable;
 use declared_types::KnownType;
-use expression_types::{broken_where, typed};
+use expression_types::{broken_where, span_of, typed};
 use ruby_base::NoMemory;
 use slicc_ast::tree::{Expr, Name, Span, TypeName};
 use slicc_plan::{Broken, BuiltInType, Rule, earlier_of_two};

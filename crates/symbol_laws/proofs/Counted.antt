@@ -13,13 +13,11 @@ use Rattle.slicc_ast.specs.declared.tree.machine.Decl.{Decl}
 use Rattle.slicc_ast.specs.declared.tree.machine.Decl.TheVariants as decl
 use Rattle.slicc_ast.specs.declared.tree.machine.Literal.{Literal}
 use Rattle.slicc_ast.specs.declared.tree.machine.Machine.{Machine}
-use Rattle.slicc_ast.specs.declared.tree.machine.Parameter.{Parameter}
-use Rattle.slicc_plan.specs.declared.broken.Broken.{Broken}
 use Rattle.slicc_plan.specs.AllRules.{IsAccepted}
 use Rattle.slicc_plan.specs.Buffers.{BufferIn, buffer_in}
-use Rattle.slicc_plan.specs.Declarations.{Declaration, machine, enumeration, structure, states, parameter, object, out_port, in_port, action, function, symbol, state, member, formal, local, within, global_declarations, machine_declarations, machines_of, named_declarations, wide_scopes}
+use Rattle.slicc_plan.specs.Declarations.{Declaration, machine, parameter, object, function, within, global_declarations, machine_declarations, machine_in, machines_of, named_declarations, wide_scopes}
 use Rattle.slicc_plan.specs.FieldTypes.{refused_field_types}
-use Rattle.slicc_plan.specs.Limits.{all_declarations, beyond, beyond_in_body, beyond_in_declaration, beyond_in_machine, beyond_in_scope, built_in_enumerations, event_members, is_action, is_counted_function, is_counted_structure, is_enumeration, is_machine, is_object, is_port, is_sequencer, limit_passed, limits_passed, machine_limits, most_enumerations, most_machines, most_objects, most_of_each, most_ports, most_sequencers, most_structures, state_members}
+use Rattle.slicc_plan.specs.Limits.{all_declarations, beyond, beyond_in_body, beyond_in_declaration, beyond_in_machine, beyond_in_scope, built_in_enumerations, event_members, is_action, is_counted_function, is_counted_structure, is_enumeration, is_machine, is_object, is_port, is_sequencer, limit_passed, limits_passed, most_enumerations, most_machines, most_objects, most_of_each, most_ports, most_sequencers, most_structures, state_members}
 use Rattle.slicc_plan.specs.MachineValues.{line_kind, reference_in, reference_of_kind, value_in, value_of_kind}
 use Rattle.slicc_plan.specs.Prototypes.{unknown_built_ins}
 use Rattle.slicc_plan.specs.Scopes.{machine_bodies}
@@ -34,7 +32,7 @@ use Rattle.slicc_plan.specs.UnknownTypes.{unknown_types}
 use Rattle.slicc_plan.specs.Values.{bad_values}
 use Rattle.slicc_plan.proofs.Room.{left_none, mapped_at, none_at, right_none}
 use Rattle.symbol_laws.specs.Lawful.{HasNumbers}
-use Rattle.symbol_laws.proofs.Machines.{all_machines}
+use Rattle.symbol_laws.proofs.Machines.{all_machines, symbols_counted}
 
 -- what isn't beyond a limit
 
@@ -81,84 +79,36 @@ table_one trees m text None = omega arith
 table_one trees m text (Some sort) = omega arith
 
 table_each : (trees : List Tree) (m : Machine) (d : Declaration) → length (table_symbol trees m d) ≤ cond (is_object d) 1 0
-table_each trees m (machine d) = omega arith
-table_each trees m (enumeration d) = omega arith
-table_each trees m (structure d) = omega arith
-table_each trees m (states d) = omega arith
 table_each trees m (parameter p) = table_one trees m p.name.text (table_in trees m (parameter p))
 table_each trees m (object o) = table_one trees m o.name.text (table_in trees m (object o))
-table_each trees m (out_port d) = omega arith
-table_each trees m (in_port d) = omega arith
-table_each trees m (action d) = omega arith
-table_each trees m (function d) = omega arith
-table_each trees m (symbol d) = omega arith
-table_each trees m (state d) = omega arith
-table_each trees m (member d) = omega arith
-table_each trees m (formal d) = omega arith
-table_each trees m (local kind called span) = omega arith
+table_each trees m _ = omega arith
 
 value_one : (text : List ℕ) (t : Option KnownType) (l : Option Literal) (k : Option Kind) → length (value_of_kind text t l k) ≤ 1
 value_one text t l None = omega arith
 value_one text t l (Some k) = omega arith
 
 value_each : (trees : List Tree) (m : Machine) (d : Declaration) → length (value_in trees m d) ≤ cond (is_object d) 1 0
-value_each trees m (machine d) = omega arith
-value_each trees m (enumeration d) = omega arith
-value_each trees m (structure d) = omega arith
-value_each trees m (states d) = omega arith
 value_each trees m (parameter p) = value_one p.name.text (type_in trees (within m) p.kind.text) p.literal (option_and_then (plain_kind trees) (type_in trees (within m) p.kind.text))
 value_each trees m (object o) = value_one o.name.text (type_in trees (within m) o.kind.text) None (option_and_then (plain_kind trees) (type_in trees (within m) o.kind.text))
-value_each trees m (out_port d) = omega arith
-value_each trees m (in_port d) = omega arith
-value_each trees m (action d) = omega arith
-value_each trees m (function d) = omega arith
-value_each trees m (symbol d) = omega arith
-value_each trees m (state d) = omega arith
-value_each trees m (member d) = omega arith
-value_each trees m (formal d) = omega arith
-value_each trees m (local kind called span) = omega arith
+value_each trees m _ = omega arith
 
 reference_one : (text : List ℕ) (k : Option Kind) → length (reference_of_kind text k) ≤ 1
 reference_one text None = omega arith
 reference_one text (Some k) = omega arith
 
 reference_each : (trees : List Tree) (m : Machine) (d : Declaration) → length (reference_in trees m d) ≤ cond (is_object d) 1 0
-reference_each trees m (machine d) = omega arith
-reference_each trees m (enumeration d) = omega arith
-reference_each trees m (structure d) = omega arith
-reference_each trees m (states d) = omega arith
 reference_each trees m (parameter p) = reference_one p.name.text (option_and_then (line_kind trees m) (type_in trees (within m) p.kind.text))
 reference_each trees m (object o) = reference_one o.name.text (option_and_then (line_kind trees m) (type_in trees (within m) o.kind.text))
-reference_each trees m (out_port d) = omega arith
-reference_each trees m (in_port d) = omega arith
-reference_each trees m (action d) = omega arith
-reference_each trees m (function d) = omega arith
-reference_each trees m (symbol d) = omega arith
-reference_each trees m (state d) = omega arith
-reference_each trees m (member d) = omega arith
-reference_each trees m (formal d) = omega arith
-reference_each trees m (local kind called span) = omega arith
+reference_each trees m _ = omega arith
 
 buffer_one : (trees : List Tree) (number : ℕ) (pairs : Option Pairs) (b : Option BufferIn) → length (buffer_of_place trees number pairs b) ≤ 1
 buffer_one trees number pairs None = omega arith
 buffer_one trees number pairs (Some b) = omega arith
 
 buffer_each : (trees : List Tree) (number : ℕ) (m : Machine) (d : Declaration) → length (buffer_symbol trees number m d) ≤ cond (is_object d) 1 0
-buffer_each trees number m (machine d) = omega arith
-buffer_each trees number m (enumeration d) = omega arith
-buffer_each trees number m (structure d) = omega arith
-buffer_each trees number m (states d) = omega arith
 buffer_each trees number m (parameter p) = buffer_one trees number (attributes_of (parameter p)) (buffer_in trees m (parameter p))
 buffer_each trees number m (object o) = buffer_one trees number (attributes_of (object o)) (buffer_in trees m (object o))
-buffer_each trees number m (out_port d) = omega arith
-buffer_each trees number m (in_port d) = omega arith
-buffer_each trees number m (action d) = omega arith
-buffer_each trees number m (function d) = omega arith
-buffer_each trees number m (symbol d) = omega arith
-buffer_each trees number m (state d) = omega arith
-buffer_each trees number m (member d) = omega arith
-buffer_each trees number m (formal d) = omega arith
-buffer_each trees number m (local kind called span) = omega arith
+buffer_each trees number m _ = omega arith
 
 -- ports, functions and actions
 
@@ -167,26 +117,12 @@ port_one text n None = omega arith
 port_one text n (Some buffer) = omega arith
 
 in_port_each : (buffers : List BufferSymbol) (n : ℕ) (d : Decl) → length (in_port_symbol buffers n d) ≤ length (filter is_port (named_declarations d))
-in_port_each buffers n (decl.States d) = omega arith
-in_port_each buffers n (decl.Enumeration d) = omega arith
-in_port_each buffers n (decl.Structure d) = omega arith
-in_port_each buffers n (decl.OutPort d) = omega arith
 in_port_each buffers n (decl.InPort d) = port_one d.name.text n _
-in_port_each buffers n (decl.Action d) = omega arith
-in_port_each buffers n (decl.Transition d) = omega arith
-in_port_each buffers n (decl.Function d) = omega arith
-in_port_each buffers n (decl.Object d) = omega arith
+in_port_each buffers n _ = omega arith
 
 out_port_each : (buffers : List BufferSymbol) (n : ℕ) (d : Decl) → length (out_port_symbol buffers n d) ≤ length (filter is_port (named_declarations d))
-out_port_each buffers n (decl.States d) = omega arith
-out_port_each buffers n (decl.Enumeration d) = omega arith
-out_port_each buffers n (decl.Structure d) = omega arith
 out_port_each buffers n (decl.OutPort d) = port_one d.name.text n _
-out_port_each buffers n (decl.InPort d) = omega arith
-out_port_each buffers n (decl.Action d) = omega arith
-out_port_each buffers n (decl.Transition d) = omega arith
-out_port_each buffers n (decl.Function d) = omega arith
-out_port_each buffers n (decl.Object d) = omega arith
+out_port_each buffers n _ = omega arith
 
 function_one : (trees : List Tree) (m : Machine) (n : ℕ) (f : Function) → length (function_with_body trees m n f) ≤ length (filter is_counted_function (function f ∷ []))
 function_one trees m n (Plain kind called formals attributes (Some body) span) = omega arith
@@ -194,26 +130,12 @@ function_one trees m n (Plain kind called formals attributes None span) = omega 
 function_one trees m n (Skipped s) = omega arith
 
 function_each : (trees : List Tree) (m : Machine) (n : ℕ) (d : Decl) → length (function_symbol trees m n d) ≤ length (filter is_counted_function (named_declarations d))
-function_each trees m n (decl.States d) = omega arith
-function_each trees m n (decl.Enumeration d) = omega arith
-function_each trees m n (decl.Structure d) = omega arith
-function_each trees m n (decl.OutPort d) = omega arith
-function_each trees m n (decl.InPort d) = omega arith
-function_each trees m n (decl.Action d) = omega arith
-function_each trees m n (decl.Transition d) = omega arith
 function_each trees m n (decl.Function d) = function_one trees m n d
-function_each trees m n (decl.Object d) = omega arith
+function_each trees m n _ = omega arith
 
 action_each : (n : ℕ) (d : Decl) → length (action_symbol n d) ≤ length (filter is_action (named_declarations d))
-action_each n (decl.States d) = omega arith
-action_each n (decl.Enumeration d) = omega arith
-action_each n (decl.Structure d) = omega arith
-action_each n (decl.OutPort d) = omega arith
-action_each n (decl.InPort d) = omega arith
 action_each n (decl.Action d) = omega arith
-action_each n (decl.Transition d) = omega arith
-action_each n (decl.Function d) = omega arith
-action_each n (decl.Object d) = omega arith
+action_each n _ = omega arith
 
 -- the limits that an accepted protocol keeps
 
@@ -279,6 +201,26 @@ machine_counted trees k m l =
       actions = omega (arith, at_most_numbered is_action action_symbol action_each 0 m.declarations, in_machine is_action m, l.actions);
     }
 
+machine_each : (d : Declaration) → length (machine_in d) ≤ cond (is_machine d) 1 0
+machine_each (machine d) = omega arith
+machine_each _ = omega arith
+
+few_machines : (trees : List Tree) → IsAccepted trees → length (machines_of trees) ≤ 16
+few_machines trees h =
+    let machines = beyond most_machines (filter is_machine (global_declarations trees)) in
+    let enumerations = beyond (most_enumerations - built_in_enumerations) (filter is_enumeration (all_declarations trees)) in
+    let structures = beyond most_structures (filter is_counted_structure (all_declarations trees)) in
+    let kept : machines ≡ [] =
+    left_none machines enumerations
+    (left_none (machines ++ enumerations) structures
+    (left_none (machines ++ enumerations ++ structures) (flat_map (beyond_in_scope trees) (wide_scopes trees)) (no_limit_passed trees h))) in
+    omega (arith, at_most is_machine machine_in machine_each (global_declarations trees), within_limit 16 (filter is_machine (global_declarations trees)) kept)
+
+pub machines_counted : (trees : List Tree) → IsAccepted trees → length (symbols_of trees).machines ≤ 16
+machines_counted trees h = omega (arith, symbols_counted trees, few_machines trees h)
+
+pub machine_has_numbers : (trees : List Tree) (k : ℕ) (m : Machine) → IsAccepted trees → slice_get (machines_of trees) k ≡ Some m → HasNumbers (machine_symbols trees k m)
+machine_has_numbers trees k m h at = machine_counted trees k m (limits_of trees m (machine_kept trees k m h at))
+
 pub lists_counted : (trees : List Tree) → IsAccepted trees → All HasNumbers (symbols_of trees).machines
-lists_counted trees h =
-    all_machines HasNumbers trees (λ k m at. machine_counted trees k m (limits_of trees m (machine_kept trees k m h at)))
+lists_counted trees h = all_machines HasNumbers trees (λ k m at. machine_has_numbers trees k m h at)

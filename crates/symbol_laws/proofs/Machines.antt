@@ -1,16 +1,40 @@
 -- What holds for each machine holds for all machines of a protocol, and the rules that each of them keeps.
-use Rattle.std.proofs.Common.{◌≡◌, ◌++◌, ◌+◌, ℕ, zero, suc, Option, Some, List, [], ◌∷◌, All, slice_get, refl, sym, ◌∙◌, subst, arith, add-zero}
+use Rattle.std.proofs.Common.{◌≡◌, ◌+◌, ℕ, zero, suc, Some, List, [], ◌∷◌, All, length, slice_get, refl, sym, ◌∙◌, ap, subst, arith, add-zero}
+use Rattle.std.specs.Option.{option_map}
 use Rattle.std.proofs.lemmas.List.Elements.{All-cons, All-nil}
 use Rattle.ruby_symbols.specs.declared.machine.MachineSymbols.{MachineSymbols}
 use Rattle.slicc_ast.specs.declared.tree.item.Tree.{Tree}
 use Rattle.slicc_ast.specs.declared.tree.machine.Machine.{Machine}
 use Rattle.slicc_plan.specs.declared.broken.Broken.{Broken}
-use Rattle.slicc_plan.specs.AllRules.{IsAccepted}
 use Rattle.slicc_plan.specs.Declarations.{machines_of}
 use Rattle.slicc_plan.specs.Machines.{in_each_from}
 use Rattle.slicc_plan.specs.SymbolsOf.{machines_from, symbols_of}
 use Rattle.slicc_plan.specs.SymbolsOfMachines.{machine_symbols}
 use Rattle.slicc_plan.proofs.Room.{left_none, right_none}
+
+-- by their numbers
+
+symbols_from : (trees : List Tree) (n : ℕ) (ms : List Machine) (k : ℕ) → slice_get (machines_from trees n ms) k ≡ option_map (machine_symbols trees (n + k)) (slice_get ms k)
+symbols_from trees n [] k = refl
+symbols_from trees n (m ∷ ms) zero =
+    let same : n ≡ n + 0 = omega arith in ap (λ j. Some (machine_symbols trees j m)) same
+symbols_from trees n (m ∷ ms) (suc k) =
+    let same : n + 1 + k ≡ n + suc k = omega arith in
+    symbols_from trees (n + 1) ms k ∙ ap (λ j. option_map (machine_symbols trees j) (slice_get ms k)) same
+
+pub symbols_at : (trees : List Tree) (k : ℕ) → slice_get (symbols_of trees).machines k ≡ option_map (machine_symbols trees k) (slice_get (machines_of trees) k)
+unfolding symbols_of
+symbols_at trees k =
+    let same : 0 + k ≡ k = omega arith in
+    symbols_from trees 0 (machines_of trees) k ∙ ap (λ j. option_map (machine_symbols trees j) (slice_get (machines_of trees) k)) same
+
+counted_from : (trees : List Tree) (n : ℕ) (ms : List Machine) → length (machines_from trees n ms) ≡ length ms
+counted_from trees n [] = refl
+counted_from trees n (m ∷ ms) = ap suc (counted_from trees (n + 1) ms)
+
+pub symbols_counted : (trees : List Tree) → length (symbols_of trees).machines ≡ length (machines_of trees)
+unfolding symbols_of
+symbols_counted trees = counted_from trees 0 (machines_of trees)
 
 all_from : (P : MachineSymbols → Type 0) (trees : List Tree) (n : ℕ) (ms : List Machine) → ((k : ℕ) (m : Machine) → slice_get ms k ≡ Some m → P (machine_symbols trees (n + k) m)) → All P (machines_from trees n ms)
 all_from P trees n [] h = All-nil P

@@ -1,5 +1,5 @@
 -- The networks of an accepted protocol are those from 0 to 15, and each carries messages of one structure.
-use Rattle.std.proofs.Common.{◌≡◌, ◌++◌, ◌≤◌, ℕ, Option, None, Some, IfSome, List, [], ◌∷◌, All, flat_map, slice_get, refl}
+use Rattle.std.proofs.Common.{◌≡◌, ◌≤◌, ℕ, Option, None, Some, IfSome, List, [], ◌∷◌, All, flat_map, slice_get, refl}
 use Rattle.std.specs.Prelude.{option_and_then}
 use Rattle.std.proofs.lemmas.List.Elements.{All-append, All-cons, All-nil}
 use Rattle.ruby_symbols.specs.declared.machine.BufferSymbol.{BufferSymbol}

@@ -1,14 +1,13 @@
 -- The tables of an accepted protocol have room.
-use Rattle.std.proofs.Common.{◌≡◌, ◌++◌, ℕ, Option, None, Some, List, [], ◌∷◌, All, flat_map, slice_get}
+use Rattle.std.proofs.Common.{◌≡◌, ℕ, Option, None, Some, List, [], ◌∷◌, All, flat_map, slice_get}
 use Rattle.std.proofs.lemmas.List.Elements.{All-append, All-cons, All-nil}
-use Rattle.ruby_symbols.specs.declared.machine.MachineSymbols.{MachineSymbols}
 use Rattle.ruby_symbols.specs.declared.machine.TableSort.{TableSort}
 use Rattle.ruby_symbols.specs.declared.machine.TableSort.TheVariants as sort
 use Rattle.ruby_symbols.specs.declared.machine.TableSymbol.{TableSymbol}
 use Rattle.slicc_ast.specs.declared.tree.item.Tree.{Tree}
 use Rattle.slicc_ast.specs.declared.tree.machine.Machine.{Machine}
 use Rattle.slicc_plan.specs.AllRules.{IsAccepted}
-use Rattle.slicc_plan.specs.Declarations.{Declaration, machine, enumeration, structure, states, parameter, object, out_port, in_port, action, function, symbol, state, member, formal, local, within, machine_declarations, machines_of}
+use Rattle.slicc_plan.specs.Declarations.{Declaration, parameter, object, within, machine_declarations, machines_of}
 use Rattle.slicc_plan.specs.SymbolsOf.{symbols_of}
 use Rattle.slicc_plan.specs.SymbolsOfMachines.{machine_symbols, table_of_sort, table_symbol}
 use Rattle.slicc_plan.specs.Tables.{table_in}
@@ -32,19 +31,7 @@ of_sort trees m text (Some s) h = All-cons Roomy _ [] (room_of s h) (All-nil Roo
 declared_roomy : (trees : List Tree) (m : Machine) (d : Declaration) → bad_values_of trees (within m) d ≡ [] → All Roomy (table_symbol trees m d)
 declared_roomy trees m (parameter p) e = of_sort trees m p.name.text (table_in trees m (parameter p)) (declared_within trees m (parameter p) e)
 declared_roomy trees m (object o) e = of_sort trees m o.name.text (table_in trees m (object o)) (declared_within trees m (object o) e)
-declared_roomy trees m (machine d) e = All-nil Roomy
-declared_roomy trees m (enumeration d) e = All-nil Roomy
-declared_roomy trees m (structure d) e = All-nil Roomy
-declared_roomy trees m (states d) e = All-nil Roomy
-declared_roomy trees m (out_port d) e = All-nil Roomy
-declared_roomy trees m (in_port d) e = All-nil Roomy
-declared_roomy trees m (action d) e = All-nil Roomy
-declared_roomy trees m (function d) e = All-nil Roomy
-declared_roomy trees m (symbol d) e = All-nil Roomy
-declared_roomy trees m (state d) e = All-nil Roomy
-declared_roomy trees m (member d) e = All-nil Roomy
-declared_roomy trees m (formal d) e = All-nil Roomy
-declared_roomy trees m (local kind called span) e = All-nil Roomy
+declared_roomy trees m _ e = All-nil Roomy
 
 all_roomy : (trees : List Tree) (m : Machine) (ds : List Declaration) → flat_map (bad_values_of trees (within m)) ds ≡ [] → All Roomy (flat_map (table_symbol trees m) ds)
 all_roomy trees m [] e = All-nil Roomy

@@ -1,5 +1,5 @@
 -- The machines of a protocol: as trees, as symbols, and as what they are to their controllers, by one number.
-use Rattle.std.proofs.Common.{◌≡◌, ◌<◌, ◌+◌, ◌∙◌, ℕ, zero, suc, Some, List, [], ◌∷◌, ap, refl, sym, arith, get_or, length, option_and_then}
+use Rattle.std.proofs.Common.{◌≡◌, ◌<◌, ◌+◌, ◌∙◌, ℕ, Some, List, [], ◌∷◌, ap, sym, arith, get_or, length, option_and_then}
 use Rattle.std.specs.Prelude.{slice_get}
 use Rattle.std.specs.Option.{option_map}
 use Rattle.std.proofs.lemmas.Option.{slice_get-get_or, slice_get_within}
@@ -10,34 +10,13 @@ use Rattle.slicc_ast.specs.declared.tree.item.Tree.{Tree}
 use Rattle.slicc_ast.specs.declared.tree.machine.Machine.{Machine}
 use Rattle.slicc_plan.specs.Declarations.{machines_of}
 use Rattle.slicc_plan.specs.Setups.{setup_in, setup_of}
-use Rattle.slicc_plan.specs.SymbolsOf.{machines_from, symbols_of}
+use Rattle.slicc_plan.specs.SymbolsOf.{symbols_of}
 use Rattle.slicc_plan.specs.SymbolsOfMachines.{machine_symbols}
+use Rattle.symbol_laws.proofs.Machines.{symbols_at}
 use Rattle.topology_fit.specs.Setups.{setups_of}
 use Rattle.topology_fit.proofs.Places.{AreThere, and_then_found, each_at, each_counted, map_found}
 
 -- Symbols.
-
-symbols_from : (trees : List Tree) (n : ℕ) (ms : List Machine) (k : ℕ) → slice_get (machines_from trees n ms) k ≡ option_map (machine_symbols trees (n + k)) (slice_get ms k)
-symbols_from trees n [] k = refl
-symbols_from trees n (m ∷ ms) zero =
-    let same : n ≡ n + 0 = omega arith in ap (λ j. Some (machine_symbols trees j m)) same
-symbols_from trees n (m ∷ ms) (suc k) =
-    let same : n + 1 + k ≡ n + suc k = omega arith in
-    symbols_from trees (n + 1) ms k ∙ ap (λ j. option_map (machine_symbols trees j) (slice_get ms k)) same
-
-counted_from : (trees : List Tree) (n : ℕ) (ms : List Machine) → length (machines_from trees n ms) ≡ length ms
-counted_from trees n [] = refl
-counted_from trees n (m ∷ ms) = ap suc (counted_from trees (n + 1) ms)
-
-pub symbols_at : (trees : List Tree) (k : ℕ) → slice_get (symbols_of trees).machines k ≡ option_map (machine_symbols trees k) (slice_get (machines_of trees) k)
-unfolding symbols_of
-symbols_at trees k =
-    let same : 0 + k ≡ k = omega arith in
-    symbols_from trees 0 (machines_of trees) k ∙ ap (λ j. option_map (machine_symbols trees j) (slice_get (machines_of trees) k)) same
-
-pub symbols_counted : (trees : List Tree) → length (symbols_of trees).machines ≡ length (machines_of trees)
-unfolding symbols_of
-symbols_counted trees = counted_from trees 0 (machines_of trees)
 
 -- a machine of the symbols is one of the trees
 pub record IsMachineOf (trees : List Tree) (k : ℕ) (x : MachineSymbols) : Type 0 where

@@ -28,10 +28,11 @@ use Rattle.ruby_topology.specs.Within.{IsWithin}
 use Rattle.ruby_topology.proofs.Totals.{length_of_members, links_between, links_short, network_within}
 use Rattle.topology_fit.specs.FitsPlan.{AreSeatsOf, AreSizesIn, AreSizesOfAll, FitsPlan}
 use Rattle.topology_fit.specs.Setups.{ranges_of, setups_of}
-use Rattle.topology_fit.proofs.Alike.{all_alike}
+use Rattle.machine_setup.proofs.Lawful.{all_alike}
 use Rattle.topology_fit.proofs.Counts.{jitter_small}
 use Rattle.topology_fit.proofs.Lines.{AreKnown, IsSound}
-use Rattle.topology_fit.proofs.ByNumber.{IsSetupOf, setup_found, setups_counted, symbols_counted, symbols_found}
+use Rattle.symbol_laws.proofs.Machines.{symbols_counted}
+use Rattle.topology_fit.proofs.ByNumber.{IsSetupOf, setup_found, setups_counted, symbols_found}
 use Rattle.topology_fit.proofs.Numbers.{ranges_counted, ranges_numbered}
 use Rattle.topology_fit.proofs.Paths.{own_paths_none, rows_shaped, rows_small}
 use Rattle.topology_fit.proofs.Places.{all_at, all_from_gets, if_some, ranged_at, some_and}

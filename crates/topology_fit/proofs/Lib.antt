@@ -1,4 +1,3 @@
-pub mod Alike
 pub mod Buffers
 pub mod ByNumber
 pub mod Counts

@@ -12,7 +12,8 @@ use Rattle.ctl_face.specs.RoutesFit.{AreNumbered, IsOfMachine}
 use Rattle.protocol_runs.specs.Machines.{is_in_range}
 use Rattle.ruby_topology.specs.declared.statement.Member.{Member}
 use Rattle.ruby_topology.specs.Topology.{members_from, members_of, ranges_from}
-use Rattle.topology_fit.proofs.Places.{get_left, get_right, position_first, position_next, ranged_at}
+use Rattle.symbol_laws.proofs.There.{get_left, get_right}
+use Rattle.topology_fit.proofs.Places.{position_first, position_next, ranged_at}
 
 pub ranges_counted : (first : ℕ) (counts : List ℕ) → length (ranges_from first counts) ≡ length counts
 ranges_counted first [] = refl

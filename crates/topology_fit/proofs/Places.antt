@@ -1,5 +1,5 @@
 -- What is found in a list, and where.
-use Rattle.std.proofs.Common.{◌≡◌, ◌<◌, ◌≤◌, ◌+◌, ◌∙◌, ℕ, zero, suc, Bool, true, false, cond, ltb, Option, None, Some, List, [], ◌∷◌, ◌++◌, ◌||◌, ap, refl, sym, subst, arith, length, get_or, map, lt-ltb, option_and_then}
+use Rattle.std.proofs.Common.{◌≡◌, ◌<◌, ◌≤◌, ◌+◌, ◌∙◌, ℕ, zero, suc, Bool, true, false, cond, ltb, Option, None, Some, List, [], ◌∷◌, ◌||◌, ap, refl, sym, subst, arith, length, get_or, map, lt-ltb, option_and_then}
 use Rattle.std.specs.Prelude.{AllPairs, IfSome, IsSomeAnd, count_by, position, slice_get}
 use Rattle.std.specs.List.{All, cons_option, enumerate_from, filter_map, list_any, position_or_len, range_with_len}
 use Rattle.std.specs.Option.{option_map}
@@ -127,18 +127,6 @@ any_position {X} p (x ∷ xs) e = by_test (any_position p xs) (p x) refl e
 pub any_get : {X : Type 0} (p : X → Bool) (xs : List X) (k : ℕ) (x : X) → slice_get xs k ≡ Some x → p x ≡ true → list_any p xs ≡ true
 any_get p xs k x at e =
     list_any_at p xs k x (slice_get_within xs k x at) (ap p (get_or_from_slice_get xs k x x at) ∙ e)
-
--- Lists one after the other.
-
-pub get_left : {X : Type 0} (xs ys : List X) (n : ℕ) → n < length xs → slice_get (xs ++ ys) n ≡ slice_get xs n
-get_left [] ys n lt = absurd (omega arith)
-get_left (x ∷ xs) ys zero lt = refl
-get_left (x ∷ xs) ys (suc n) lt = get_left xs ys n (omega arith)
-
-pub get_right : {X : Type 0} (xs ys : List X) (n m : ℕ) → n ≡ length xs + m → slice_get (xs ++ ys) n ≡ slice_get ys m
-get_right [] ys n m e = let same : n ≡ m = omega arith in ap (slice_get ys) same
-get_right (x ∷ xs) ys zero m e = absurd (omega arith)
-get_right (x ∷ xs) ys (suc n) m e = get_right xs ys n m (omega arith)
 
 -- All items.
 

@@ -39,7 +39,8 @@ use Rattle.topology_fit.specs.Setups.{ranges_of}
 use Rattle.topology_fit.proofs.Buffers.{buffers_paired, setup_of_symbol}
 use Rattle.topology_fit.proofs.Fit.{AreLawful, fits_with, sized, sizes_counted}
 use Rattle.topology_fit.proofs.Lines.{none_known}
-use Rattle.topology_fit.proofs.ByNumber.{machine_found, symbols_counted}
+use Rattle.symbol_laws.proofs.Machines.{symbols_counted}
+use Rattle.topology_fit.proofs.ByNumber.{machine_found}
 use Rattle.topology_fit.proofs.Places.{all_at, any_get, any_position, at_number, at_position, number_is, position_first, some_and}
 use Rattle.topology_fit.proofs.Queues.{own_queue, takes_by_type}
 use Rattle.topology_fit.proofs.Requests.{request_by_number}

@@ -30,7 +30,7 @@ use Rattle.topology_fit.specs.Setups.{ranges_of}
 use Rattle.topology_fit.proofs.Counts.{some_of_each}
 use Rattle.topology_fit.proofs.Fit.{AreLawful, fits_with, sized, sizes_counted}
 use Rattle.topology_fit.proofs.Lines.{AreKnown, IsSound, all_known}
-use Rattle.topology_fit.proofs.ByNumber.{symbols_counted}
+use Rattle.symbol_laws.proofs.Machines.{symbols_counted}
 use Rattle.topology_fit.proofs.Seats.{all_seats, seats_in_order}
 
 pub no_wrong_networks : (trees : List Tree) → IsAccepted trees → wrong_networks trees ≡ []

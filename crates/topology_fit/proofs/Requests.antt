@@ -20,18 +20,15 @@ use Rattle.slicc_plan.specs.declared.built_in.BuiltInType.TheVariants.{Request}
 use Rattle.slicc_plan.specs.AllRules.{IsAccepted}
 use Rattle.slicc_plan.specs.BuiltIn.{built_in_type}
 use Rattle.slicc_plan.specs.Declarations.{Declaration, machine, structure, everywhere, within, global_declarations, is_external, machine_declarations, machine_in, machines_of, name_of}
-use Rattle.slicc_plan.specs.FieldTypes.{refused_field_types}
-use Rattle.slicc_plan.specs.Limits.{is_counted_structure, limits_passed}
-use Rattle.slicc_plan.specs.Prototypes.{unknown_built_ins}
+use Rattle.slicc_plan.specs.Limits.{is_counted_structure}
 use Rattle.slicc_plan.specs.Scopes.{scopes_within}
 use Rattle.slicc_plan.specs.SymbolsOf.{symbols_of}
 use Rattle.slicc_plan.specs.SymbolsOfTypes.{field_symbols, owner, request_symbol, structure_symbol, structure_symbols}
-use Rattle.slicc_plan.specs.TwiceDeclared.{declaration_told, globally_repeated_after, listed, names_twice_declared, repeated, takes_built_in_name, told_globally}
+use Rattle.slicc_plan.specs.TwiceDeclared.{declaration_told, globally_repeated_after, listed, repeated, takes_built_in_name, told_globally}
 use Rattle.slicc_plan.specs.TypeNumbers.{ScopedDeclaration, declared_structures, declares, made_in, made_with_its_own, request_number, scoped_declarations, structure_number}
 use Rattle.slicc_plan.specs.Types.{KnownType, built_in, enumerated, structured}
-use Rattle.slicc_plan.specs.UnknownTypes.{unknown_types}
-use Rattle.slicc_plan.specs.Values.{bad_values}
 use Rattle.slicc_plan.proofs.Room.{left_none, right_none}
+use Rattle.symbol_laws.proofs.Names.{none_twice}
 use Rattle.topology_fit.proofs.Places.{any_position, at_position, position_is, position_numbered}
 
 -- Names that are declared right in a protocol.
@@ -58,11 +55,7 @@ names_kept : (trees : List Tree) → IsAccepted trees → All NotTaken (global_d
 names_kept trees h =
     none_taken [] (global_declarations trees)
     (left_none (globally_repeated_after [] (global_declarations trees)) (flat_map repeated (scopes_within trees))
-    (left_none (names_twice_declared trees) (unknown_types trees)
-    (left_none (names_twice_declared trees ++ unknown_types trees) (limits_passed trees)
-    (left_none (names_twice_declared trees ++ unknown_types trees ++ limits_passed trees) (refused_field_types trees)
-    (left_none (names_twice_declared trees ++ unknown_types trees ++ limits_passed trees ++ refused_field_types trees) (bad_values trees)
-    (left_none (names_twice_declared trees ++ unknown_types trees ++ limits_passed trees ++ refused_field_types trees ++ bad_values trees) (unknown_built_ins trees) h.of_declarations))))))
+    (none_twice trees h))
 
 -- Machines are found by their names.
 

@@ -1,5 +1,4 @@
 pub mod DefaultWords
 pub mod Lists
 mod DefaultMembers
-pub mod FieldKinds
 pub mod AllPorts

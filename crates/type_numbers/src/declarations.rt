@@ -1,58 +1,12 @@
 //! What is declared right in a machine, and what the names of types stand for there.
-ghost use Rattle.std.specs.Prelude.{◌≡◌, ◌++◌, IfOk, OnOk, Some, find, flat_map, map};
+ghost use Rattle.std.specs.Prelude.{◌≡◌, find, flat_map, map};
 ghost use Rattle.std.specs.Option.{option_map};
-ghost use Rattle.slicc_plan.specs.Buffers.{listed};
-ghost use Rattle.slicc_plan.specs.Declarations.{first_named, function_name, is_named, machine_declarations, name_of, named_declarations, parameter};
+ghost use Rattle.slicc_plan.specs.Declarations.{first_named, is_named, machine_declarations, named_declarations, parameter};
 ghost use Rattle.slicc_plan.specs.Types.{type_in};
-ghost use Rattle.declared_types.specs.Lent.{declaration_of, declarations_of, scope_of, type_of};
+ghost use Rattle.declared_types.specs.Lent.{declaration_of, scope_of, type_of};
 
-use declared_types::{Declared, KnownType, Scope, Scopes, declared_type};
-use ruby_base::{NoMemory, Seq};
-use slicc_ast::tree::{Decl, Function, Machine, Name, Parameter};
-use std::alloc::Global;
-
-/// What a declaration of a machine declares by a name. A transition has none.
-pub fn declared<'a>(d: &'a Decl) -> Option<Declared<'a>>
-    ensures { listed (option_map declaration_of result) ≡ named_declarations d.now }
-{
-    match d {
-        Decl::States(s) => Some(Declared::States(s)),
-        Decl::Enumeration(e) => Some(Declared::Enumeration(e)),
-        Decl::Structure(s) => Some(Declared::Structure(s)),
-        Decl::OutPort(p) => Some(Declared::OutPort(p)),
-        Decl::InPort(p) => Some(Declared::InPort(p)),
-        Decl::Action(a) => Some(Declared::Action(a)),
-        Decl::Transition(_) => None,
-        Decl::Function(f) => Some(Declared::Function(f)),
-        Decl::Object(o) => Some(Declared::Object(o)),
-    }
-}
-
-fn function_name(f: &Function) -> &Name
-    ensures { result.now ≡ function_name f.now }
-{
-    match f {
-        Function::Plain { name, .. } => name,
-        Function::Skipped(s) => &s.name,
-    }
-}
-
-fn name_of<'a>(d: Declared<'a>) -> &'a Name
-    ensures { Some result.now ≡ name_of (declaration_of d.entry) }
-{
-    match d {
-        Declared::Machine(m) => &m.name,
-        Declared::Enumeration(e) => &e.name,
-        Declared::Structure(s) => &s.name,
-        Declared::States(s) => &s.name,
-        Declared::Parameter(p) => &p.name,
-        Declared::Object(o) => &o.name,
-        Declared::OutPort(p) => &p.name,
-        Declared::InPort(p) => &p.name,
-        Declared::Action(a) => &a.name,
-        Declared::Function(f) => function_name(f),
-    }
-}
+use declared_types::{Declared, KnownType, Scope, Scopes, declared, declared_type, name_of};
+use slicc_ast::tree::{Decl, Machine, Parameter};
 
 fn bears(d: Declared<'_>, name: &[u8]) -> bool
     ensures { result ≡ is_named name.now (declaration_of d.entry) }
@@ -118,47 +72,4 @@ pub fn type_in<'a>(scopes: &Scopes<'a>, scope: Scope<'a>, name: &[u8]) -> Option
             Some(d) => declared_type(scope, d),
         },
     }
-}
-
-fn add_parameters<'a>(
-    list: &mut Seq<Declared<'a>>,
-    parameters: &'a [Parameter],
-) -> Result<(), NoMemory>
-    ensures { OnOk result (declarations_of list.new ≡ declarations_of list.old ++ map parameter parameters.now) }
-{
-    for p in parameters {
-        list.push(Declared::Parameter(p))?;
-    }
-    Ok(())
-}
-
-fn add_declared<'a>(list: &mut Seq<Declared<'a>>, d: &'a Decl) -> Result<(), NoMemory>
-    ensures { OnOk result (declarations_of list.new ≡ declarations_of list.old ++ named_declarations d.now) }
-{
-    match declared(d) {
-        None => Ok(()),
-        Some(found) => list.push(found),
-    }
-}
-
-fn add_declarations<'a>(
-    list: &mut Seq<Declared<'a>>,
-    declarations: &'a [Decl],
-) -> Result<(), NoMemory>
-    ensures { OnOk result (declarations_of list.new ≡ declarations_of list.old ++ flat_map named_declarations declarations.now) }
-{
-    for d in declarations {
-        add_declared(list, d)?;
-    }
-    Ok(())
-}
-
-/// What is declared right in a machine, in the order of the text.
-pub fn machine_list<'a>(alloc: Global, m: &'a Machine) -> Result<Seq<Declared<'a>>, NoMemory>
-    ensures { IfOk result (λ list. declarations_of list ≡ machine_declarations m.now) }
-{
-    let mut list = Seq::new(alloc);
-    add_parameters(&mut list, &m.parameters)?;
-    add_declarations(&mut list, &m.declarations)?;
-    Ok(list)
 }

@@ -1,5 +1,5 @@
 //! The values that fields have before anything is written to them.
-ghost use Rattle.std.specs.Prelude.{◌≡◌, IfOk, pos, unwrap_or};
+ghost use Rattle.std.specs.Prelude.{◌≡◌, ◌<◌, ◌^◌, IfOk, unwrap_or};
 ghost use Rattle.std.specs.Option.{option_map};
 ghost use Rattle.ruby_value.specs.DefaultValue.{default_value};
 ghost use Rattle.slicc_plan.specs.Attributes.{number_value};
@@ -20,23 +20,15 @@ use ruby_value::{Kind, Value, default_of};
 use slicc_ast::tree::PairValue;
 use std::alloc::Global;
 
+// No number of SLICC is above 2^63 - 1.
 fn number_or_zero(value: &PairValue) -> u64
-    ensures { result ≡ unwrap_or (number_value value.now) 0 }
+    ensures value { result ≡ unwrap_or (number_value value.now) 0 }
+    ensures bound { result < 2 ^ 63 }
 {
-    match number_value(value) {
-        None => 0,
-        Some(n) => n,
+    match value {
+        PairValue::Number(n) => { if *n < 0 { 0 } else { *n as u64 } }
+        PairValue::Quoted(_) | PairValue::Name(_) => number_value(value).unwrap_or(0),
     }
-}
-
-// A number as one of SLICC, of which none is above 2^63 - 1.
-fn kept_int(n: u64) -> Result<i64, NoMemory>
-    ensures { IfOk result (λ i. i ≡ pos n) }
-{
-    if n > i64::MAX as u64 {
-        return Err(NoMemory);
-    }
-    Ok(n as i64)
 }
 
 fn value_written(
@@ -51,7 +43,7 @@ fn value_written(
     ensures { IfOk result (λ v. v ≡ value_written (trees_of types.now) text.now (type_of t.entry) k value.now) }
 {
     match k {
-        Kind::Int => Ok(Value::Int(kept_int(number_or_zero(value))?)),
+        Kind::Int => Ok(Value::Int(number_or_zero(value) as i64)),
         Kind::Addr => Ok(Value::Addr(number_or_zero(value))),
         Kind::Bool => Ok(Value::Bool(is_word(value, b"true"))),
         Kind::Enum(number, member) => Ok(Value::Enum(

@@ -1,6 +1,5 @@
-//! The fields of structures as symbols, and their kinds.
-ghost use Rattle.std.specs.Prelude.{◌≡◌, ◌++◌, IfOk, OnOk, flat_map, map};
-ghost use Rattle.ruby_symbols.specs.declared.types.FieldSymbol.{FieldSymbol as FieldRecord};
+//! The fields of structures as symbols.
+ghost use Rattle.std.specs.Prelude.{◌≡◌, ◌++◌, IfOk, OnOk, flat_map};
 ghost use Rattle.slicc_plan.specs.SymbolsOfTypes.{field_of_type, field_symbol, field_symbols};
 ghost use Rattle.declared_types.specs.Lent.{scope_of};
 ghost use Rattle.type_numbers.specs.Fields.{field_seen};
@@ -13,7 +12,6 @@ use crate::numbering::TypeNumbers;
 use declared_types::Scope;
 use ruby_base::{NoMemory, Seq, Text};
 use ruby_symbols::FieldSymbol;
-use ruby_value::Kind;
 use slicc_ast::tree::{Member, Pairs, Structure, TypeName};
 use std::alloc::Global;
 
@@ -95,15 +93,4 @@ pub fn structure_fields<'a>(
     let mut list = Seq::new(alloc);
     add_fields(alloc, &mut list, types, scope, &s.members)?;
     Ok(list)
-}
-
-/// The kinds of fields, in their order.
-pub fn kinds_of(alloc: Global, fields: &[FieldSymbol]) -> Result<Seq<Kind>, NoMemory>
-    ensures { IfOk result (λ kinds. kinds ≡ map (λ (f : FieldRecord). f.kind) fields.now) }
-{
-    let mut kinds = Seq::new(alloc);
-    for f in fields {
-        kinds.push(f.kind)?;
-    }
-    Ok(kinds)
 }

@@ -1,7 +1,8 @@
-//! The numbers of a protocol's enumerations and structures, the kinds of values, the fields of structures and messages, and what
-//! the buffers and ports of machines are.
+//! The numbers of a protocol's enumerations and structures, the kinds of values, the fields of structures, and what the buffers
+//! and ports of machines are.
 #![tactic(auto)]
 
+mod buffer_places;
 mod buffers;
 mod declarations;
 mod default_words;
@@ -11,24 +12,21 @@ mod fields;
 mod kinds;
 mod members;
 mod message_types;
-mod messages;
 mod names;
 mod numbering;
 mod numbers;
 mod ports;
 mod receivers;
-mod setups;
 
+pub use buffer_places::{buffer_place, is_ordered};
 pub use buffers::{BufferIn, Place, buffer_in};
-pub use declarations::{first_named, machine_list, type_in};
+pub use declarations::type_in;
 pub use defaults::{kept_or, own_default};
-pub use fields::{Field, kinds_of, structure_fields};
+pub use fields::{Field, structure_fields};
 pub use kinds::plain_kind;
 pub use message_types::message_type;
-pub use messages::message_kinds;
 pub use names::Named;
 pub use numbering::{Scoped, TypeNumbers, number_types};
-pub use numbers::{declared_number, kept, parameters_number, structure_number, type_number};
+pub use numbers::{declared_number, kept, structure_number, type_number};
 pub use ports::{PortOn, all_ports};
 pub use ruby_base::NoMemory;
-pub use setups::{buffer_place, buffer_setups, is_ordered};

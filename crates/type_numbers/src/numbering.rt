@@ -5,9 +5,8 @@ ghost use Rattle.slicc_plan.specs.TypeNumbers.{made_in, made_with_its_own, scope
 ghost use Rattle.declared_types.specs.Lent.{declaration_of, declarations_of, scope_of};
 ghost use Rattle.type_numbers.specs.Numbered.{AreLists, AreNumbered, has_sort, is_of_sort, scoped_of, trees_of};
 
-use crate::declarations::declared;
 use crate::defaults::defaults_of;
-use declared_types::{Declared, Scope, Scopes, is_external};
+use declared_types::{Declared, Scope, Scopes, declared, is_external};
 use machine_table::machines;
 use ruby_base::{NoMemory, Seq};
 use slicc_ast::tree::{Decl, Machine};

@@ -1,6 +1,6 @@
 //! The numbers of declared types.
 ghost use Rattle.std.specs.Prelude.{◌≡◌, ◌<◌, ◌≤◌, IfOk, IfSome, length, map, position};
-ghost use Rattle.slicc_plan.specs.TypeNumbers.{declared_number, declared_structures, declares, parameters_number, request_number, structure_number};
+ghost use Rattle.slicc_plan.specs.TypeNumbers.{declared_number, declared_structures, declares, request_number, structure_number};
 ghost use Rattle.slicc_plan.specs.Types.{structured};
 ghost use Rattle.declared_types.specs.Lent.{scope_of, type_of};
 ghost use Rattle.type_numbers.specs.declared.numbering.Scoped.{Scoped as ScopedLent};
@@ -98,12 +98,4 @@ pub fn type_number<'a>(types: &TypeNumbers<'a>, t: KnownType<'a>) -> Option<u16>
         KnownType::Enumeration(..) | KnownType::States(..) => None,
         KnownType::Structure(scope, s) => structure_number(types, scope, s),
     }
-}
-
-/// The number of what the parameters of the machine of this number are kept in.
-pub fn parameters_number(types: &TypeNumbers<'_>, machine: u16) -> Result<u16, NoMemory>
-    requires { AreNumbered types.now }
-    ensures { IfOk result (λ number. number ≡ parameters_number (trees_of types.now) machine) }
-{
-    kept_number(last_number(types) as usize + 1 + machine as usize)
 }

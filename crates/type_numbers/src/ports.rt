@@ -10,9 +10,9 @@ ghost use Rattle.type_numbers.specs.Ports.{buffer_seen, port_seen};
 ghost use Rattle.type_numbers.specs.Numbered.{AreNumbered, trees_of};
 
 use crate::buffers::{BufferIn, buffer_in};
-use crate::declarations::{first_named, machine_list, type_in};
+use crate::declarations::{first_named, type_in};
 use crate::numbering::TypeNumbers;
-use declared_types::{Declared, KnownType, Scope};
+use declared_types::{Declared, KnownType, Scope, machine_list};
 use ruby_base::{NoMemory, Seq};
 use slicc_ast::tree::{Machine, Name, TypeName};
 use slicc_plan::Span;

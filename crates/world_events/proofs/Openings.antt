@@ -36,7 +36,8 @@ use Rattle.protocol_runs.proofs.Ranges.{below-free, machine-is, machine-says, ma
 use Rattle.protocol_meaning.specs.Setting.{setting_of}
 use Rattle.topology_fit.specs.FitsPlan.{AreSizesIn, AtSetup, FitsPlan, IsSeat}
 use Rattle.topology_fit.specs.Setups.{ranges_of, setups_of}
-use Rattle.topology_fit.proofs.ByNumber.{setups_at, setups_counted, symbols_counted, symbols_found}
+use Rattle.symbol_laws.proofs.Machines.{symbols_counted}
+use Rattle.topology_fit.proofs.ByNumber.{setups_at, setups_counted, symbols_found}
 use Rattle.topology_fit.proofs.Numbers.{ranges_counted}
 use Rattle.topology_fit.proofs.Places.{all_at, all_from_gets}
 use Rattle.topology_fit.proofs.Sizes.{sizes_have_room}

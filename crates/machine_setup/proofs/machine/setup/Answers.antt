@@ -1,17 +1,23 @@
-use Rattle.std.proofs.Common.{List, Some, ap, subst, sym, ◌∙◌}
+use Rattle.std.proofs.Common.{Some, ap, sym, ◌∙◌}
+use Rattle.std.specs.Prelude.{slice_get}
 use Rattle.std.specs.Option.{option_map}
-use Rattle.slicc_ast.specs.declared.tree.item.Tree.{Tree}
-use Rattle.slicc_plan.specs.Setups.{setup_in}
-use Rattle.machine_setup.specs.Seen.{IsOwn}
+use Rattle.ruby_symbols.specs.declared.machine.MachineSymbols.{MachineSymbols}
+use Rattle.ruby_symbols.specs.declared.symbols.Symbols.{Symbols}
+use Rattle.machine_setup.specs.BySymbols.{setup_by}
+use Rattle.machine_setup.proofs.BySymbols.{of_number}
 use Rattle.machine_setup.proofs.machine.setup.Goals as goal
 
-pub setup_in-requires-clause-own : goal.setup_in-requires-clause-own
-setup_in-requires-clause-own c =
-    subst (λ (trees : List Tree). IsOwn trees c.in-Some.m.now c.in-Some-own_symbols.own.now)
-    (sym (c.in_ok-types.ensures.trees ∙ c.in_ok-scopes.ensures ∙ c.trees.ensures.trees)) c.in-Some-own_symbols.ensures
+pub returns-in-None : goal.returns-in-None
+returns-in-None c =
+    let made = λ (s : Symbols). option_map (λ (own : MachineSymbols). setup_by s c.args.machine own c.args.sizes.now) in
+    ap (made c.symbols-symbols.result.now) c.in-None.ensures
+    ∙ ap (λ (s : Symbols). made s (slice_get s.machines c.args.machine)) c.symbols-symbols.ensures
+    ∙ sym (of_number c.args.plan.now c.trees-accepted.ensures.accepted c.args.machine c.args.sizes.now)
 
-pub returns : goal.returns
-returns c =
-    let setup = λ (trees : List Tree). setup_in trees c.args.machine c.args.sizes.now c.in-Some.m.now in
-    ap Some (c.in_ok-setup_in.ensures ∙ ap setup (c.in_ok-types.ensures.trees ∙ c.in_ok-scopes.ensures ∙ c.trees.ensures.trees))
-    ∙ ap (option_map (setup_in c.args.plan.now c.args.machine c.args.sizes.now)) c.in-Some.ensures
+pub returns-in_ok-setup_by-in-Some : goal.returns-in_ok-setup_by-in-Some
+returns-in_ok-setup_by-in-Some c =
+    let made = λ (s : Symbols). option_map (λ (own : MachineSymbols). setup_by s c.args.machine own c.args.sizes.now) in
+    ap Some c.in_ok-setup_by-in-Some.ensures
+    ∙ ap (made c.symbols-symbols.result.now) c.in-Some.ensures
+    ∙ ap (λ (s : Symbols). made s (slice_get s.machines c.args.machine)) c.symbols-symbols.ensures
+    ∙ sym (of_number c.args.plan.now c.trees-accepted.ensures.accepted c.args.machine c.args.sizes.now)

@@ -1,12 +1,12 @@
 use Rattle.std.proofs.Common.{◌∙◌, ap}
 use Rattle.std.specs.Prelude.{codes}
 use Rattle.ruby_symbols.specs.Names.{action_among, function_among}
-use Rattle.slicc_plan.specs.SymbolsOfMachines.{buffer_symbols, in_port_symbol, machine_symbols, numbered_from, out_port_symbol}
+use Rattle.slicc_plan.specs.SymbolsOfMachines.{in_port_symbol, machine_symbols, numbered_from, out_port_symbol}
 use Rattle.protocol_symbols.proofs.machine.together.Goals as goal
 
 pub returns : goal.returns
 unfolding machine_symbols
-returns c trees number m numbers objects bodies rest = λ i. record {
+returns c trees number m numbers sequencer objects bodies rest = λ i. record {
   name = rest.name i;
   states = numbers.states i;
   permissions = rest.permissions i;
@@ -15,9 +15,9 @@ returns c trees number m numbers objects bodies rest = λ i. record {
   values = objects.values i;
   references = objects.references i;
   buffers = objects.buffers i;
-  sequencer = rest.sequencer i;
-  in_ports = bodies.in_ports i;
-  out_ports = bodies.out_ports i;
+  sequencer = sequencer i;
+  in_ports = (bodies.in_ports ∙ ap (λ bs. numbered_from (in_port_symbol bs) 0 m.declarations) objects.buffers) i;
+  out_ports = (bodies.out_ports ∙ ap (λ bs. numbered_from (out_port_symbol bs) 0 m.declarations) objects.buffers) i;
   functions = bodies.functions i;
   actions = bodies.actions i;
   transitions = rest.transitions i;

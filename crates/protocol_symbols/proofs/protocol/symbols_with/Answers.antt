@@ -1,10 +1,17 @@
-use Rattle.slicc_plan.specs.SymbolsOf.{symbols_of}
+use Rattle.std.proofs.Common.{◌≡◌, ◌++◌, List, ap, ◌∙◌, []}
+use Rattle.slicc_plan.specs.Declarations.{machines_of}
+use Rattle.slicc_plan.specs.SymbolsOf.{machines_from, symbols_of}
+use Rattle.slicc_plan.specs.SymbolsOfTypes.{enumeration_symbols, structure_symbols}
+use Rattle.type_numbers.specs.Numbered.{trees_of}
 use Rattle.protocol_symbols.proofs.protocol.symbols_with.Goals as goal
 
 pub returns : goal.returns
 unfolding symbols_of
-returns c = λ i. record {
-  enumerations = c.in_ok-enumerations.ensures i;
-  structures = c.in_ok-structures.ensures i;
-  machines = c.in_ok-machines.ensures i;
-}
+returns c =
+    let trees = trees_of c.args.types.now in
+    let made = c.in_ok-add_symbols.ensures in
+    λ i. record {
+      enumerations = (made.enumerations ∙ ap (λ xs. xs ++ enumeration_symbols trees) c.new.ensures) i;
+      structures = (made.structures ∙ ap (λ xs. xs ++ structure_symbols trees) c.new-2.ensures) i;
+      machines = (made.machines ∙ ap (λ xs. xs ++ machines_from trees 0 (machines_of trees)) c.new-3.ensures) i;
+    }

@@ -14,7 +14,8 @@ pub in_block-returns : goal.in_block-returns
 in_block-returns t c =
     IfOk-weaker c.in_statements.result _ _
     (λ r told. told_in_body (flat_map local_of c.args.b.now.statements) (flat_map blocks_in c.args.b.now.statements) c.args.first c.in_ok-first.first r
-    (c.in_ok-first.ensures ∙ ap (λ ss. first_after c.args.first (repeated (flat_map local_of ss))) c.deref.ensures)
+    (c.in_ok-first.ensures ∙ ap (first_after c.args.first) (append-nil (repeated (flat_map local_of c.deref.result.now)))
+    ∙ ap (λ ss. first_after c.args.first (repeated (flat_map local_of ss))) c.deref.ensures)
     (told ∙ ap (λ ss. first_after c.in_ok-first.first (flat_map repeated (flat_map blocks_in ss))) c.deref-2.ensures))
     c.in_statements.ensures
 

@@ -5,14 +5,15 @@ use Rattle.slicc_plan.specs.Declarations.{global_declarations}
 use Rattle.slicc_plan.specs.Order.{first_after}
 use Rattle.slicc_plan.specs.Scopes.{scopes_within}
 use Rattle.slicc_plan.specs.TwiceDeclared.{globally_repeated_after, repeated}
+use Rattle.slicc_names.proofs.Parts.{trees_inside}
 use Rattle.slicc_names.proofs.twice.names_twice_declared.Goals as goal
 
 pub returns : goal.returns
 returns c =
-    IfOk-weaker c.in_trees.result _ _
+    IfOk-weaker c.in_each.result _ _
     (λ r told.
-    told
+    told ∙ ap (λ xs. first_after c.in_ok-first.first (flat_map repeated xs)) (sym (trees_inside c.args.scopes.now.trees.now))
     ∙ ap (λ o. first_after o (flat_map repeated (scopes_within c.args.scopes.now.trees.now)))
     (c.in_ok-first.ensures ∙ ap (λ ds. first_after c.args.first (globally_repeated_after [] ds)) c.declarations.ensures)
     ∙ sym (first_after-append c.args.first (globally_repeated_after [] (global_declarations c.args.scopes.now.trees.now)) (flat_map repeated (scopes_within c.args.scopes.now.trees.now))))
-    c.in_trees.ensures
+    c.in_each.ensures

@@ -1,5 +1,0 @@
-use Rattle.std.proofs.Common.{◌≡◌, map, take}
-use Rattle.protocol_symbols.proofs.names.texts_of.Given as goal
-
-abbrev pub invariant-loop-m : goal.invariant-loop-m
-invariant-loop-m g l = l.list ≡ map g.T.Named.text (take l.m-index l.members)

@@ -1,0 +1,9 @@
+use Rattle.std.proofs.Common.{◌≡◌, flat_map, take}
+use Rattle.declared_types.specs.Lent.{declaration_of}
+use Rattle.declared_types.specs.Scopes.{scope_at}
+use Rattle.slicc_names.specs.Counting.{found_after, is_sequencer_in, place_if}
+use Rattle.slicc_names.specs.declared.count.Found.TheVariants.{Left}
+use Rattle.slicc_names.proofs.protocol.sequencer_limit.Given as goal
+
+abbrev pub invariant-loop-d : goal.invariant-loop-d
+invariant-loop-d l = l.found ≡ found_after (Left 1) (flat_map (λ d. place_if (is_sequencer_in l.scopes.trees.now (scope_at l.scopes.trees.now l.number)) (declaration_of d)) (take l.d-index l.declarations))

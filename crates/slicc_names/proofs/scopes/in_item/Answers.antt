@@ -1,6 +1,0 @@
-use Rattle.std.proofs.Common.{rules}
-use Rattle.slicc_names.proofs.Parts.{each_symbol}
-use Rattle.slicc_names.proofs.scopes.in_item.Goals as goal
-
-pub returns-in-Enumeration : goal.returns-in-Enumeration
-returns-in-Enumeration c = search (rules, each_symbol)

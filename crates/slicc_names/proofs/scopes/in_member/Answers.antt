@@ -1,6 +1,0 @@
-use Rattle.std.proofs.Common.{rules}
-use Rattle.slicc_names.proofs.Parts.{each_formal}
-use Rattle.slicc_names.proofs.scopes.in_member.Goals as goal
-
-pub returns-in-Method : goal.returns-in-Method
-returns-in-Method c = search (rules, each_formal)
