@@ -3,3 +3,14 @@ pub mod Laws
 pub mod Walk
 pub mod Calls
 pub mod Requirements
+pub mod Lists
+pub mod Effects
+pub mod Lawful
+pub mod Scans
+pub mod Marks
+pub mod Mail
+pub mod Frames
+pub mod Later
+pub mod Framed
+pub mod Instances
+pub mod Left

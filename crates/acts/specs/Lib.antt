@@ -5,3 +5,7 @@ pub mod Acting
 pub mod DoesAs
 pub mod After
 pub mod Required
+pub mod Kept
+pub mod Mailed
+pub mod Added
+pub mod Left

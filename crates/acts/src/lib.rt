@@ -1,8 +1,10 @@
 //! What can be done to a controller as data, and what a body does as a tree of such acts. For each act there is a function that
-//! tests whether the machine serves it, and does it in a local; the laws of all bodies stand above this crate.
+//! tests whether the machine serves it, and does it in a local; what holds of every body, whatever
+//! it does, is proved once for each act: `body_laws.rt` has it as contracts of functions that do nothing, at whatever type a body's answer has.
 #![tactic(auto, using(crate::proofs::Calls::calls_of_acts))]
 
 mod body_fault;
+mod body_laws;
 mod messages;
 mod own;
 mod requests;
@@ -11,6 +13,10 @@ mod serving;
 mod tables;
 
 pub use body_fault::BodyFault;
+pub use body_laws::{
+    bodies_keep_marks, bodies_keep_what_holds, bodies_move_mail, bodies_never_stop_as_invalid,
+    what_comes_later_changes_nothing,
+};
 pub use ctl_face::{
     Block, Fault, Fields, Local, MachineSetup, Message, NoMemory, Ref, Trouble, Value,
 };

@@ -11,3 +11,8 @@ pub mod Expressions
 pub mod Places
 pub mod Statements
 pub mod Bodies
+pub mod Trying
+pub mod Actions
+pub mod Transition
+pub mod Scan
+pub mod Round

@@ -1,2 +1,7 @@
 mod Lists
 mod Walks
+pub mod EndRows
+pub mod ReturnRows
+pub mod WayLists
+mod MissingNames
+mod Walks

@@ -6,14 +6,14 @@ ghost use Rattle.slicc_plan.specs.Order.{first_after, first_of};
 ghost use Rattle.declared_types.specs.Scopes.{scope_at};
 ghost use Rattle.body_rules.specs.InScopes.{broken_within};
 
+use crate::all_scopes::wrong_names;
 use crate::declarations::judge_machine;
 use crate::machine_in::machine_in;
+use crate::ways::missing_returns;
 use declared_types::{Scope, Scopes};
-use return_rules::missing_returns;
 use ruby_base::NoMemory;
 use slicc_plan::Broken;
 use std::alloc::Global;
-use transition_names::wrong_names;
 
 fn judge_scope(
     alloc: Global,

@@ -1,13 +1,14 @@
 -- The arms of the walk over expressions: what an expression does that has another one in a box, or arguments, where those have done theirs.
-use Rattle.std.proofs.Common.{◌≡◌, ◌∙◌, ◌++◌, ◌∷◌, [], ℕ, List, Option, Result, Ok, Err, sym, ap, subst}
+use Rattle.std.proofs.Common.{◌≡◌, ◌∙◌, ◌⊎◌, ◌++◌, ◌∷◌, [], ℕ, ℤ, List, Option, Result, Ok, Err, inl, inr, refl, sym, ap, subst}
 use Rattle.slicc_ast.specs.declared.tree.span.Span.{Span}
 use Rattle.slicc_ast.specs.declared.tree.name.Name.{Name}
 use Rattle.slicc_ast.specs.declared.tree.name.TypeName.{TypeName}
 use Rattle.slicc_ast.specs.declared.tree.expression.Args.{Args}
-use Rattle.slicc_ast.specs.declared.tree.expression.Expr.{Expr}
+use Rattle.slicc_ast.specs.declared.tree.expression.Expr.{Expr, Number, True, False, Nothing, Variable, Member, New}
 use Rattle.slicc_ast.specs.declared.tree.expression.Operand.{Operand}
 use Rattle.slicc_ast.specs.declared.tree.expression.Suffix.{Suffix, Method}
 use Rattle.slicc_ast.specs.declared.tree.expression.Expr.TheViews as views
+use Rattle.slicc_ast.proofs.Boxes.{Not_is, Negate_is, IsValid_is, IsInvalid_is}
 use Rattle.ruby_value.specs.declared.value.Value.{Value}
 use Rattle.ctl_face.specs.declared.trouble.Trouble.{Trouble}
 use Rattle.ctl_face.specs.LocalView.{LocalView}
@@ -24,7 +25,7 @@ use Rattle.body_meaning.specs.Expressions.{negation_of, operand_step, suffixed, 
 use Rattle.body_meaning.specs.Things.{value_in}
 use Rattle.body_walk.specs.declared.operators.Unary.{Unary}
 use Rattle.body_walk.specs.declared.operators.Unary.TheVariants.{Not, Negate, IsValid, IsInvalid}
-use Rattle.body_walk.specs.Parts.{called, of_operand, operation, thing_made}
+use Rattle.body_walk.specs.Parts.{called, leaf, of_operand, operation, thing_made, unary_of}
 use Rattle.body_walk.proofs.Forms.{suffixed_of_Method, value_of_Call, value_of_Cast, value_of_Group, value_of_IsInvalid, value_of_IsValid, value_of_Negate, value_of_Not, value_of_Operation, value_of_Postfix}
 
 -- Something, and then what comes of it.
@@ -42,42 +43,51 @@ module _ {A B : Type 0} (whole : Acting B) (p q : Acting A) (next : A → Acting
 
 module _ (s : Reading) (calls : Calls) (frame : Frame) where
   -- what is made of one operand
-  unary_does : (unary : Unary) (e inner got : Expr) (result : Result Thing Trouble) (u v : LocalView) → value s calls frame e ≡ value s calls frame inner >>= thing_made unary → got ≡ inner
-      → DoesAs itself (of_operand s calls frame unary got) result u v → DoesAs itself (value s calls frame e) result u v
-  unary_does unary e inner got result u v is same does =
-      subst (λ (p : Acting Thing). DoesAs itself p result u v) (sym (is ∙ ap (λ (x : Expr). value s calls frame x >>= thing_made unary) (sym same))) does
+  unary_does : (unary known : Unary) (e inner got : Expr) (result : Result Thing Trouble) (u v : LocalView) → value s calls frame e ≡ value s calls frame inner >>= thing_made known → unary ≡ known
+      → got ≡ inner → DoesAs itself (of_operand s calls frame unary got) result u v → DoesAs itself (value s calls frame e) result u v
+  unary_does unary known e inner got result u v is made same does =
+      subst (λ (p : Acting Thing). DoesAs itself p result u v)
+      (sym (is ∙ ap (λ (x : Expr). value s calls frame x >>= thing_made known) (sym same) ∙ ap (λ (x : Unary). of_operand s calls frame x got) (sym made))) does
 
-  pub not_does : (e inner got : Expr) (span : Span) (result : Result Thing Trouble) (u v : LocalView) → e ≡ views.Not inner span → got ≡ inner
-      → DoesAs itself (of_operand s calls frame Not got) result u v → DoesAs itself (value s calls frame e) result u v
-  unfolding thing_made given ◌>>=◌
-  not_does e inner got span result u v is = unary_does Not e inner got result u v (ap (value s calls frame) is ∙ value_of_Not s calls frame inner span)
+  pub operand_does : (e inner got : Expr) (unary : Unary) (result : Result Thing Trouble) (u v : LocalView)
+      → ((span : Span) × (e ≡ views.Not inner span)) ⊎ (((span : Span) × (e ≡ views.Negate inner span)) ⊎ (((span : Span) × (e ≡ views.IsValid inner span)) ⊎ ((span : Span) × (e ≡ views.IsInvalid inner span))))
+      → unary ≡ unary_of e → got ≡ inner → DoesAs itself (of_operand s calls frame unary got) result u v → DoesAs itself (value s calls frame e) result u v
+  unfolding thing_made given negation_of ◌>>=◌
+  operand_does e inner got unary result u v (inl (span, is)) made =
+      unary_does unary Not e inner got result u v (ap (value s calls frame) is ∙ value_of_Not s calls frame inner span) (made ∙ ap unary_of (is ∙ Not_is inner span))
+  operand_does e inner got unary result u v (inr (inl (span, is))) made =
+      unary_does unary Negate e inner got result u v (ap (value s calls frame) is ∙ value_of_Negate s calls frame inner span) (made ∙ ap unary_of (is ∙ Negate_is inner span))
+  operand_does e inner got unary result u v (inr (inr (inl (span, is)))) made =
+      unary_does unary IsValid e inner got result u v (ap (value s calls frame) is ∙ value_of_IsValid s calls frame inner span) (made ∙ ap unary_of (is ∙ IsValid_is inner span))
+  operand_does e inner got unary result u v (inr (inr (inr (span, is)))) made =
+      unary_does unary IsInvalid e inner got result u v (ap (value s calls frame) is ∙ value_of_IsInvalid s calls frame inner span) (made ∙ ap unary_of (is ∙ IsInvalid_is inner span))
 
-  pub negate_does : (e inner got : Expr) (span : Span) (result : Result Thing Trouble) (u v : LocalView) → e ≡ views.Negate inner span → got ≡ inner
-      → DoesAs itself (of_operand s calls frame Negate got) result u v → DoesAs itself (value s calls frame e) result u v
-  unfolding thing_made negation_of
-  negate_does e inner got span result u v is = unary_does Negate e inner got result u v (ap (value s calls frame) is ∙ value_of_Negate s calls frame inner span)
-
-  pub valid_does : (e inner got : Expr) (span : Span) (result : Result Thing Trouble) (u v : LocalView) → e ≡ views.IsValid inner span → got ≡ inner
-      → DoesAs itself (of_operand s calls frame IsValid got) result u v → DoesAs itself (value s calls frame e) result u v
-  unfolding thing_made given ◌>>=◌
-  valid_does e inner got span result u v is = unary_does IsValid e inner got result u v (ap (value s calls frame) is ∙ value_of_IsValid s calls frame inner span)
-
-  pub invalid_does : (e inner got : Expr) (span : Span) (result : Result Thing Trouble) (u v : LocalView) → e ≡ views.IsInvalid inner span → got ≡ inner
-      → DoesAs itself (of_operand s calls frame IsInvalid got) result u v → DoesAs itself (value s calls frame e) result u v
-  unfolding thing_made given ◌>>=◌
-  invalid_does e inner got span result u v is = unary_does IsInvalid e inner got result u v (ap (value s calls frame) is ∙ value_of_IsInvalid s calls frame inner span)
-
-  pub group_does : (e inner got : Expr) (span : Span) (result : Result Thing Trouble) (u v : LocalView) → e ≡ views.Group inner span → got ≡ inner
-      → DoesAs itself (value s calls frame got) result u v → DoesAs itself (value s calls frame e) result u v
-  group_does e inner got span result u v is same first =
+  -- what another one in a box gives, unchanged
+  pub inner_does : (e inner got : Expr) (result : Result Thing Trouble) (u v : LocalView)
+      → ((target : TypeName) × (mode : Option (List ℕ)) × (span : Span) × (e ≡ views.Cast target mode inner span)) ⊎ ((span : Span) × (e ≡ views.Group inner span))
+      → got ≡ inner → DoesAs itself (value s calls frame got) result u v → DoesAs itself (value s calls frame e) result u v
+  inner_does e inner got result u v (inl (target, mode, span, is)) same first =
+      subst (λ (p : Acting Thing). DoesAs itself p result u v)
+      (sym (ap (value s calls frame) is ∙ value_of_Cast s calls frame target mode inner span ∙ ap (value s calls frame) (sym same))) first
+  inner_does e inner got result u v (inr (span, is)) same first =
       subst (λ (p : Acting Thing). DoesAs itself p result u v)
       (sym (ap (value s calls frame) is ∙ value_of_Group s calls frame inner span ∙ ap (value s calls frame) (sym same))) first
 
-  pub cast_does : (e inner got : Expr) (target : TypeName) (mode : Option (List ℕ)) (span : Span) (result : Result Thing Trouble) (u v : LocalView) → e ≡ views.Cast target mode inner span → got ≡ inner
-      → DoesAs itself (value s calls frame got) result u v → DoesAs itself (value s calls frame e) result u v
-  cast_does e inner got target mode span result u v is same first =
-      subst (λ (p : Acting Thing). DoesAs itself p result u v)
-      (sym (ap (value s calls frame) is ∙ value_of_Cast s calls frame target mode inner span ∙ ap (value s calls frame) (sym same))) first
+  -- what has no other expression in it
+  same_leaf : (e x : Expr) → e ≡ x → leaf s frame x ≡ value s calls frame x → leaf s frame e ≡ value s calls frame e
+  same_leaf e x is there = ap (leaf s frame) is ∙ there ∙ sym (ap (value s calls frame) is)
+
+  pub leaf_is : (e : Expr)
+      → ((n : ℤ) × (span : Span) × (e ≡ Number n span)) ⊎ (((span : Span) × (e ≡ True span)) ⊎ (((span : Span) × (e ≡ False span)) ⊎ (((span : Span) × (e ≡ Nothing span)) ⊎ (((name : Name) × (e ≡ Variable name))
+      ⊎ (((owner : Name) × (member : Name) × (span : Span) × (e ≡ Member owner member span)) ⊎ ((made : Name) × (span : Span) × (e ≡ New made span)))))))
+      → leaf s frame e ≡ value s calls frame e
+  leaf_is e (inl (n, span, is)) = same_leaf e (Number n span) is refl
+  leaf_is e (inr (inl (span, is))) = same_leaf e (True span) is refl
+  leaf_is e (inr (inr (inl (span, is)))) = same_leaf e (False span) is refl
+  leaf_is e (inr (inr (inr (inl (span, is))))) = same_leaf e (Nothing span) is refl
+  leaf_is e (inr (inr (inr (inr (inl (name, is)))))) = same_leaf e (Variable name) is refl
+  leaf_is e (inr (inr (inr (inr (inr (inl (owner, member, span, is))))))) = same_leaf e (Member owner member span) is refl
+  leaf_is e (inr (inr (inr (inr (inr (inr (made, span, is))))))) = same_leaf e (New made span) is refl
 
   pub postfix_does : (e inner got : Expr) (suffixes held : List Suffix) (span : Span) (t : Thing) (result : Result Thing Trouble) (u v w : LocalView)
       → e ≡ views.Postfix inner suffixes span → got ≡ inner → held ≡ suffixes

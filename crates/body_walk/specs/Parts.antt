@@ -1,8 +1,9 @@
 -- What the answers of a walk mean, and parts of what expressions give, under names by which its contracts cite them. They say nothing of
 -- their own: what an expression gives stands in `body_meaning`, with these parts written out.
-use Rattle.std.specs.Prelude.{ℕ, not, Result, Ok, List, is_none, is_some}
-use Rattle.slicc_ast.specs.declared.tree.expression.Expr.{Expr}
+use Rattle.std.specs.Prelude.{ℕ, true, false, not, Result, Ok, List, is_none, is_some}
+use Rattle.slicc_ast.specs.declared.tree.expression.Expr.{Expr, Number, True, False, Nothing, Variable, Member}
 use Rattle.slicc_ast.specs.declared.tree.expression.Operand.{Operand}
+use Rattle.slicc_ast.specs.Boxes.{Not', Negate', IsValid'}
 use Rattle.ruby_value.specs.declared.value.Value.{Value}
 use Rattle.ruby_value.specs.declared.value.Value.TheVariants as plain
 use Rattle.acts.specs.declared.body_fault.BodyFault.{BodyFault}
@@ -11,18 +12,26 @@ use Rattle.built_in_acts.specs.Values.{reference, truth}
 use Rattle.body_meaning.specs.declared.frame.Frame.{Frame}
 use Rattle.body_meaning.specs.declared.thing.Thing.{Thing}
 use Rattle.body_meaning.specs.declared.thing.Thing.TheVariants as thing
-use Rattle.body_meaning.specs.Calls.{Calls, named_call}
+use Rattle.body_meaning.specs.Calls.{Calls, named_call, value_found}
 use Rattle.body_meaning.specs.Each.{each}
-use Rattle.body_meaning.specs.Expressions.{operand_step, value, values_of}
+use Rattle.body_meaning.specs.Expressions.{operand_step, value, values_of, variable}
+use Rattle.body_meaning.specs.Names.{member_value}
 use Rattle.body_meaning.specs.Operators.{negated}
 use Rattle.body_meaning.specs.Reading.{Reading}
-use Rattle.body_meaning.specs.Things.{value_in}
+use Rattle.body_meaning.specs.Things.{boolean, no_line, value_in}
 use Rattle.body_walk.specs.declared.operators.Unary.{Unary}
 use Rattle.body_walk.specs.declared.operators.Unary.TheVariants.{Not, Negate, IsValid, IsInvalid}
 
 -- of a call that changes what the body has of its own, and answers nothing
 abbrev pub left_frame : Frame → Unit {0} → Frame
 left_frame frame done = frame
+
+-- what an expression makes of its operand, where it has one
+abbrev pub unary_of : Expr → Unary
+unary_of (Not' operand span) = Not
+unary_of (Negate' operand span) = Negate
+unary_of (IsValid' operand span) = IsValid
+unary_of _ = IsInvalid
 
 -- what is made of one operand
 abbrev pub value_made : Unary → Value → Result Value BodyFault
@@ -33,6 +42,16 @@ value_made IsInvalid v = Ok (plain.Bool (is_none (reference v)))
 
 unfoldable pub thing_made : Unary → Thing → Acting Thing
 thing_made unary t = given (value_made unary (value_in t)) >>= (λ v. ends (thing.Value v))
+
+-- what an expression gives that has no other one in it
+abbrev pub leaf : Reading → Frame → Expr → Acting Thing
+leaf s frame (Number n span) = ends (thing.Value (plain.Int n))
+leaf s frame (True span) = ends (boolean true)
+leaf s frame (False span) = ends (boolean false)
+leaf s frame (Nothing span) = ends no_line
+leaf s frame (Variable name) = variable s frame name.text
+leaf s frame (Member owner member span) = value_found (member_value s owner.text member.text)
+leaf s frame _ = ends thing.Nothing
 
 module _ (s : Reading) (calls : Calls) (frame : Frame) where
   abbrev pub of_operand : Unary → Expr → Acting Thing

@@ -5,9 +5,9 @@ ghost use Rattle.body_meaning.specs.Bodies.{calls_within};
 ghost use Rattle.body_meaning.specs.Each.{each};
 ghost use Rattle.body_meaning.specs.Expressions.{operand_step, suffixed, value, value_behind, values_of};
 ghost use Rattle.body_meaning.specs.Reading.{reading};
-ghost use Rattle.body_walk.specs.Parts.{called, of_operand, operation};
+ghost use Rattle.body_walk.specs.Parts.{called, leaf, of_operand, operation};
 
-use crate::operators::{Unary, joined_values, thing_made};
+use crate::operators::{Unary, joined_values, thing_made, unary_of};
 use acts::{Local, Trouble, Value};
 use body_calls::{field_in, index, method_call, named_call, value_found, variable};
 use body_meaning::{Frame, Scope, Thing, member_value, settled, value_in};
@@ -15,6 +15,24 @@ use ruby_base::Seq;
 use slicc_ast::tree::{Expr, Operand, Suffix};
 use std::alloc::Global;
 use std::mem;
+
+// What an expression gives that has no other one in it.
+fn leaf<T: Local>(s: Scope<'_>, frame: &Frame, e: &Expr, local: &T) -> Result<Thing, Trouble>
+    ensures { DoesAs itself (leaf (reading s.entry) frame.now e.now) result (T.view local.now)
+        (T.view local.now) }
+{
+    match e {
+        Expr::Number(n, _) => Ok(Thing::Value(Value::Int(*n))),
+        Expr::True(_) => Ok(Thing::Value(Value::Bool(true))),
+        Expr::False(_) => Ok(Thing::Value(Value::Bool(false))),
+        Expr::Nothing(_) => Ok(Thing::Value(Value::Entry(None))),
+        Expr::Variable(name) => variable(s, frame, &name.text, local),
+        Expr::Member { owner, member, .. } => {
+            value_found(member_value(s, &owner.text, &member.text), local)
+        }
+        _ => Ok(Thing::Nothing),
+    }
+}
 
 /// What an expression gives in a body that has this of its own.
 #[cycle(value)]
@@ -38,13 +56,12 @@ pub fn value<T: Local, F: Fn(u16, Seq<Value>, &mut T) -> Result<Thing, Trouble>>
             let t = value(alloc, s, depth, calls, frame, first.get(), local)?;
             operation(alloc, s, depth, calls, frame, value_in(t), others, local)
         }
-        Expr::Not(operand, _) => {
-            let operand = operand.get();
-            of_operand(alloc, s, depth, calls, frame, Unary::Not, operand, local)
-        }
-        Expr::Negate(operand, _) => {
-            let operand = operand.get();
-            of_operand(alloc, s, depth, calls, frame, Unary::Negate, operand, local)
+        Expr::Not(operand, _)
+        | Expr::Negate(operand, _)
+        | Expr::IsValid(operand, _)
+        | Expr::IsInvalid(operand, _) => {
+            let unary = unary_of(e);
+            of_operand(alloc, s, depth, calls, frame, unary, operand.get(), local)
         }
         Expr::Postfix {
             value: inner,
@@ -54,59 +71,24 @@ pub fn value<T: Local, F: Fn(u16, Seq<Value>, &mut T) -> Result<Thing, Trouble>>
             let t = value(alloc, s, depth, calls, frame, inner.get(), local)?;
             suffixed_all(alloc, s, depth, calls, frame, t, suffixes, local)
         }
-        Expr::Number(n, _) => Ok(Thing::Value(Value::Int(*n))),
-        Expr::True(_) => Ok(Thing::Value(Value::Bool(true))),
-        Expr::False(_) => Ok(Thing::Value(Value::Bool(false))),
-        Expr::Nothing(_) => Ok(Thing::Value(Value::Entry(None))),
-        Expr::Variable(name) => variable(s, frame, &name.text, local),
-        Expr::Member { owner, member, .. } => {
-            value_found(member_value(s, &owner.text, &member.text), local)
-        }
         Expr::Call {
             name,
             arguments,
             ..
-        } => called(
-            alloc,
-            s,
-            depth,
-            calls,
-            frame,
-            &name.text,
-            &arguments.items,
-            local,
-        ),
-        Expr::New(..) => Ok(Thing::Nothing),
-        Expr::IsValid(inner, _) => {
-            let operand = inner.get();
-            of_operand(
-                alloc,
-                s,
-                depth,
-                calls,
-                frame,
-                Unary::IsValid,
-                operand,
-                local,
-            )
+        } => {
+            let items = arguments.items.as_slice();
+            called(alloc, s, depth, calls, frame, &name.text, items, local)
         }
-        Expr::IsInvalid(inner, _) => {
-            let operand = inner.get();
-            of_operand(
-                alloc,
-                s,
-                depth,
-                calls,
-                frame,
-                Unary::IsInvalid,
-                operand,
-                local,
-            )
-        }
-        Expr::Cast { value: inner, .. } => {
+        Expr::Cast { value: inner, .. } | Expr::Group(inner, _) => {
             value(alloc, s, depth, calls, frame, inner.get(), local)
         }
-        Expr::Group(inner, _) => value(alloc, s, depth, calls, frame, inner.get(), local),
+        Expr::Number(..)
+        | Expr::True(_)
+        | Expr::False(_)
+        | Expr::Nothing(_)
+        | Expr::Variable(_)
+        | Expr::Member { .. }
+        | Expr::New(..) => leaf(s, frame, e, local),
     }
 }
 

@@ -3,12 +3,12 @@ ghost use Rattle.std.specs.Prelude.{◌≡◌};
 ghost use Rattle.acts.specs.Acting.{given};
 ghost use Rattle.acts.specs.DoesAs.{DoesAs, itself};
 ghost use Rattle.body_meaning.specs.Operators.{joined};
-ghost use Rattle.body_walk.specs.Parts.{thing_made, value_made};
+ghost use Rattle.body_walk.specs.Parts.{thing_made, unary_of, value_made};
 
 use acts::{BodyFault, Local, Trouble, Value};
 use body_meaning::{Thing, joined, negated, value_in};
 use built_in_acts::{reference, truth};
-use slicc_ast::tree::Operator;
+use slicc_ast::tree::{Expr, Operator};
 
 /// What an expression makes of the value of one operand.
 #[derive(Clone, Copy)]
@@ -21,6 +21,18 @@ pub(crate) enum Unary {
     IsValid,
     /// Whether it is a reference to nothing.
     IsInvalid,
+}
+
+/// What an expression makes of its operand, where it has one.
+pub(crate) fn unary_of(e: &Expr) -> Unary
+    ensures { result ≡ unary_of e.now }
+{
+    match e {
+        Expr::Not(..) => Unary::Not,
+        Expr::Negate(..) => Unary::Negate,
+        Expr::IsValid(..) => Unary::IsValid,
+        _ => Unary::IsInvalid,
+    }
 }
 
 fn value_made(unary: Unary, v: &Value) -> Result<Value, BodyFault>

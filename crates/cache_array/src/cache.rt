@@ -18,7 +18,7 @@ use std::alloc::Global;
 use std::marker::Model;
 
 /// Why a cache refuses a call.
-#[derive(Clone, Copy, Debug, PartialEq, Eq)]
+#[derive(Clone, Copy, PartialEq, Eq)]
 pub enum CacheFault {
     /// An allocation, of a line that isn't in the cache, where its set has as many lines as ways.
     SetFull,

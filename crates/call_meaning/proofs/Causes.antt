@@ -17,7 +17,7 @@ use Rattle.slicc_front.specs.Fronts.{IsFrontFor, IsFrontOf}
 use Rattle.slicc_front.specs.Fronts.IsFrontFor.{keeps_all, breaks_one}
 use Rattle.run_journal.specs.declared.verdict.Verdict.{Verdict}
 use Rattle.run_journal.specs.declared.verdict.Verdict.TheVariants.{Passed, Quiet}
-use Rattle.gen_protocol.specs.Generated.{generated_name}
+use Rattle.call_meaning.specs.Generated.{generated_name}
 use Rattle.ruby_options.specs.declared.options.Command.{Command}
 use Rattle.ruby_options.specs.declared.options.Command.TheVariants.{Run, Plain, Check, Table, Code, Gen}
 use Rattle.ruby_options.specs.declared.options.Options.{Options}

@@ -7,3 +7,4 @@ pub mod OverFiles
 pub mod RightRuns
 pub mod Causes
 pub mod Clauses
+pub mod Steps

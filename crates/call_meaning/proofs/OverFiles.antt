@@ -13,7 +13,7 @@ use Rattle.slicc_front.specs.declared.answer.Front.TheVariants as front
 use Rattle.slicc_front.specs.Fronts.{IsFrontOf}
 use Rattle.slicc_front.proofs.OneFront.{one_front}
 use Rattle.slicc_plan.specs.SymbolsOf.{symbols_of}
-use Rattle.gen_protocol.specs.Generated.{generated_name}
+use Rattle.call_meaning.specs.Generated.{generated_name}
 use Rattle.ruby_options.specs.declared.options.Command.{Command}
 use Rattle.ruby_options.specs.declared.options.Command.TheVariants.{Run, Plain, Check, Table, Code, Gen}
 use Rattle.ruby_options.specs.declared.options.Options.{Options}

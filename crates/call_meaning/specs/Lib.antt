@@ -4,3 +4,4 @@ pub mod Headline
 pub mod Record
 pub mod Right
 pub mod Words
+pub mod Generated

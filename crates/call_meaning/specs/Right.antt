@@ -6,7 +6,7 @@
 -- judged as if it were in a file, though none of the library is read for it. Over files one answer at most is right, but that one run
 -- may go another way than another of the same beginning. All this is this project's own.
 use Rattle.std.specs.Prelude.{◌≡◌, ◌≢◌, ◌⊎◌, ◌<◌, ◌≤◌, ◌++◌, ℕ, Option, None, Some, List, [], ◌∷◌, length}
-use Rattle.gen_protocol.specs.Generated.{generated_name, generated_text}
+use Rattle.call_meaning.specs.Generated.{generated_name, generated_text}
 use Rattle.ruby_outside.specs.Files.{Files}
 use Rattle.ruby_outside.specs.declared.library.Got.{Got}
 use Rattle.ruby_outside.specs.declared.library.Got.TheVariants as got

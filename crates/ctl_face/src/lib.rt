@@ -9,7 +9,6 @@ mod mail_laws;
 mod routes;
 mod serving;
 mod trouble;
-mod uses;
 
 pub use lawful::{has_routes, is_machine};
 pub use laws::{

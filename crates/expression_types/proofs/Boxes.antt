@@ -1,7 +1,9 @@
 -- What is told of an expression that has another one in a box, and where it is.
 use Rattle.std.proofs.Common.{rules, ◌≡◌, ◌∙◌, ap, List, ℕ, Option}
 use Rattle.slicc_ast.specs.declared.tree.span.Span.{Span}
+use Rattle.slicc_ast.specs.declared.tree.name.Name.{Name}
 use Rattle.slicc_ast.specs.declared.tree.name.TypeName.{TypeName}
+use Rattle.slicc_ast.specs.declared.tree.expression.Args.{Args}
 use Rattle.slicc_ast.specs.declared.tree.expression.Expr.{Expr}
 use Rattle.slicc_ast.specs.declared.tree.expression.Operand.{Operand}
 use Rattle.slicc_ast.specs.declared.tree.expression.Suffix.{Suffix}
@@ -9,11 +11,12 @@ use Rattle.slicc_ast.specs.declared.tree.expression.Expr.TheViews as views
 use Rattle.slicc_ast.specs.declared.tree.expression.Expr.TheViews.{the_lemmas}
 use Rattle.slicc_ast.proofs.Boxes.{Operation_is, Postfix_is, Not_is, Negate_is, IsValid_is, IsInvalid_is, Cast_is, Group_is}
 use Rattle.slicc_plan.specs.declared.built_in.BuiltInType.TheVariants.{Int, Bool as Boolean}
+use Rattle.slicc_plan.specs.CallTypes.{named_call}
 use Rattle.slicc_plan.specs.Environment.{Environment, type_named}
 use Rattle.slicc_plan.specs.ExpressionTypes.{cast_to, from_operand, given_at, span_of, typed}
 use Rattle.slicc_plan.specs.Meanings.{any_line, of_built_in}
-use Rattle.expression_types.specs.Lists.{all_operands, all_suffixes}
-use Rattle.expression_types.proofs.Rows.{operands_of_row, suffixes_of_row}
+use Rattle.expression_types.specs.Lists.{all_arguments, all_operands, all_suffixes}
+use Rattle.expression_types.proofs.Rows.{arguments_of_row, operands_of_row, suffixes_of_row}
 
 pub span_of_Operation : (e : Expr) (others : List Operand) (span : Span) → span_of (views.Operation e others span) ≡ span
 span_of_Operation e others span = ap span_of (Operation_is e others span)
@@ -54,6 +57,9 @@ typed_of_Negate env e span = ap (typed env) (Negate_is e span)
 pub typed_of_Postfix : (env : Environment) (e : Expr) (suffixes : List Suffix) (span : Span) → typed env (views.Postfix e suffixes span) ≡ all_suffixes env span (typed env e) suffixes
 typed_of_Postfix env e suffixes span =
     ap (typed env) (Postfix_is e suffixes span) ∙ search (rules, the_lemmas, suffixes_of_row env)
+
+pub typed_of_Call : (env : Environment) (n : Name) (arguments : Args) (span : Span) → typed env (views.Call n arguments span) ≡ named_call env span n (all_arguments env arguments.items)
+typed_of_Call env n arguments span = search (rules, the_lemmas, arguments_of_row env)
 
 pub typed_of_IsValid : (env : Environment) (e : Expr) (span : Span) → typed env (views.IsValid e span) ≡ from_operand env any_line Boolean (given_at (span_of e) (typed env e))
 typed_of_IsValid env e span = ap (typed env) (IsValid_is e span)

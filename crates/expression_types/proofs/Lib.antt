@@ -1,5 +1,6 @@
 pub mod Boxes
 pub mod Calls
+pub mod Firsts
 pub mod Fixed
 pub mod Known
 pub mod Machines

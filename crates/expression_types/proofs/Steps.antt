@@ -55,6 +55,9 @@ arguments_step env es i d gs new g t below is_new is_g is_t kept =
 
 -- Expressions of which the parts are known.
 
+pub at_part : (env : Environment) (F : Expr → call.Typed) (e v w : Expr) (t : call.Typed) → typed env e ≡ F v → w ≡ v → found_of t ≡ found_of (F w) → found_of t ≡ found_of (typed env e)
+at_part env F e v w t same is_v is_t = is_t ∙ ap (λ x. found_of (F x)) is_v ∙ ap found_of (sym same)
+
 pub operation_found : (env : Environment) (e v w : Expr) (at : Span) (left t : call.Typed) (os ps : List Operand) → typed env e ≡ all_operands env (span_of v) (typed env v) ps → w ≡ v → at ≡ span_of w → found_of left ≡ found_of (typed env w) → os ≡ ps → found_of t ≡ found_of (all_operands env at left os) → found_of t ≡ found_of (typed env e)
 operation_found env e v w at left t os ps same is_v is_at is_left is_os is_t =
     is_t ∙ operands_same env at os left (typed env w) is_left
@@ -68,31 +71,28 @@ postfix_found env e v w at left t ss rs same is_v is_left is_ss is_t =
     ∙ ap (λ x. found_of (all_suffixes env at (typed env x) ss)) is_v
     ∙ ap (λ qs. found_of (all_suffixes env at (typed env v) qs)) is_ss ∙ ap found_of (sym same)
 
-pub call_found : (env : Environment) (at : Span) (n : Name) (gs hs : List call.Given) (f : call.Typed) (t : call.Typed) → f ≡ call.named_call env at n hs → all_known gs ≡ all_known hs → found_of t ≡ found_of (call.named_call env at n gs) → found_of t ≡ found_of f
-call_found env at n gs hs f t same is_given is_t =
-    is_t ∙ by_all_known (λ ks. found_of (call.named_call env at n ks)) (named_known env at n) gs hs is_given ∙ ap found_of (sym same)
+pub from_same : (f g t : call.Typed) → f ≡ g → found_of t ≡ found_of g → found_of t ≡ found_of f
+from_same f g t same is_t = is_t ∙ ap found_of (sym same)
 
-pub method_found : (env : Environment) (at : Span) (on : call.Typed) (n : Name) (gs hs : List call.Given) (f t : call.Typed) → f ≡ call.method_call env at on n hs → all_known gs ≡ all_known hs → found_of t ≡ found_of (call.method_call env at on n gs) → found_of t ≡ found_of f
-method_found env at on n gs hs f t same is_given is_t =
-    is_t ∙ by_all_known (λ ks. found_of (call.method_call env at on n ks)) (method_known env at on n) gs hs is_given ∙ ap found_of (sym same)
+pub call_found : (env : Environment) (at : Span) (n : Name) (gs hs : List call.Given) (t : call.Typed) → all_known gs ≡ all_known hs → found_of t ≡ found_of (call.named_call env at n gs) → found_of t ≡ found_of (call.named_call env at n hs)
+call_found env at n gs hs t is_given is_t =
+    is_t ∙ by_all_known (λ ks. found_of (call.named_call env at n ks)) (named_known env at n) gs hs is_given
 
-pub index_found : (env : Environment) (at : Span) (on : call.Typed) (v w : Expr) (g : call.Given) (k f t : call.Typed) → f ≡ call.index_call env at on (given_at (span_of v) (typed env v)) → w ≡ v → found_of k ≡ found_of (typed env w) → g ≡ given_at (span_of w) k → found_of t ≡ found_of (call.index_call env at on g) → found_of t ≡ found_of f
-index_found env at on v w g k f t same is_v is_k is_g is_t =
+pub method_found : (env : Environment) (at : Span) (on : call.Typed) (n : Name) (gs hs : List call.Given) (t : call.Typed) → all_known gs ≡ all_known hs → found_of t ≡ found_of (call.method_call env at on n gs) → found_of t ≡ found_of (call.method_call env at on n hs)
+method_found env at on n gs hs t is_given is_t =
+    is_t ∙ by_all_known (λ ks. found_of (call.method_call env at on n ks)) (method_known env at on n) gs hs is_given
+
+pub index_found : (env : Environment) (at : Span) (on : call.Typed) (v : Expr) (g : call.Given) (k t : call.Typed) → found_of k ≡ found_of (typed env v) → g ≡ given_at (span_of v) k → found_of t ≡ found_of (call.index_call env at on g) → found_of t ≡ found_of (call.index_call env at on (given_at (span_of v) (typed env v)))
+index_found env at on v g k t is_k is_g is_t =
     is_t ∙ ap (λ h. found_of (call.index_call env at on h)) is_g
-    ∙ by_known (λ x. found_of (call.index_call env at on (given_at (span_of w) x))) (λ x. index_known env at on (given_at (span_of w) x)) k (typed env w) is_k
-    ∙ ap (λ x. found_of (call.index_call env at on (given_at (span_of x) (typed env x)))) is_v ∙ ap found_of (sym same)
+    ∙ by_known (λ x. found_of (call.index_call env at on (given_at (span_of v) x))) (λ x. index_known env at on (given_at (span_of v) x)) k (typed env v) is_k
 
-pub operand_found : (env : Environment) (o : Wanted) (b : BuiltInType) (v w : Expr) (k f t : call.Typed) → f ≡ from_operand env o b (given_at (span_of v) (typed env v)) → w ≡ v → found_of k ≡ found_of (typed env w) → found_of t ≡ found_of (from_operand env o b (given_at (span_of w) k)) → found_of t ≡ found_of f
-operand_found env o b v w k f t same is_v is_k is_t =
-    is_t ∙ by_known (λ x. found_of (from_operand env o b (given_at (span_of w) x))) (operand_known env o b (span_of w)) k (typed env w) is_k
-    ∙ ap (λ x. found_of (from_operand env o b (given_at (span_of x) (typed env x)))) is_v ∙ ap found_of (sym same)
+pub operand_found : (env : Environment) (o : Wanted) (b : BuiltInType) (v : Expr) (g : call.Given) (k t : call.Typed) → found_of k ≡ found_of (typed env v) → g ≡ given_at (span_of v) k → found_of t ≡ found_of (from_operand env o b g) → found_of t ≡ found_of (from_operand env o b (given_at (span_of v) (typed env v)))
+operand_found env o b v g k t is_k is_g is_t =
+    is_t ∙ ap (λ h. found_of (from_operand env o b h)) is_g
+    ∙ by_known (λ x. found_of (from_operand env o b (given_at (span_of v) x))) (operand_known env o b (span_of v)) k (typed env v) is_k
 
-pub cast_found : (env : Environment) (n : TypeName) (v w : Expr) (g : call.Given) (k f t : call.Typed) → f ≡ cast_to env n (given_at (span_of v) (typed env v)) (type_named env n.text) → w ≡ v → found_of k ≡ found_of (typed env w) → g ≡ given_at (span_of w) k → found_of t ≡ found_of (cast_to env n g (type_named env n.text)) → found_of t ≡ found_of f
-cast_found env n v w g k f t same is_v is_k is_g is_t =
+pub cast_found : (env : Environment) (n : TypeName) (v : Expr) (g : call.Given) (k t : call.Typed) → found_of k ≡ found_of (typed env v) → g ≡ given_at (span_of v) k → found_of t ≡ found_of (cast_to env n g (type_named env n.text)) → found_of t ≡ found_of (cast_to env n (given_at (span_of v) (typed env v)) (type_named env n.text))
+cast_found env n v g k t is_k is_g is_t =
     is_t ∙ ap (λ h. found_of (cast_to env n h (type_named env n.text))) is_g
-    ∙ by_known (λ x. found_of (cast_to env n (given_at (span_of w) x) (type_named env n.text))) (cast_known env n (type_named env n.text) (span_of w)) k (typed env w) is_k
-    ∙ ap (λ x. found_of (cast_to env n (given_at (span_of x) (typed env x)) (type_named env n.text))) is_v ∙ ap found_of (sym same)
-
-pub group_found : (env : Environment) (e v w : Expr) (t : call.Typed) → typed env e ≡ typed env v → w ≡ v → found_of t ≡ found_of (typed env w) → found_of t ≡ found_of (typed env e)
-group_found env e v w t same is_v is_t =
-    is_t ∙ ap (λ x. found_of (typed env x)) is_v ∙ ap found_of (sym same)
+    ∙ by_known (λ x. found_of (cast_to env n (given_at (span_of v) x) (type_named env n.text))) (cast_known env n (type_named env n.text) (span_of v)) k (typed env v) is_k

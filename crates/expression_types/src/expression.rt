@@ -1,8 +1,10 @@
 //! Expressions.
-ghost use Rattle.std.specs.Prelude.{◌≡◌, [], IfOk};
-ghost use Rattle.slicc_plan.specs.CallTypes.{plain as plain_of};
-ghost use Rattle.slicc_plan.specs.ExpressionTypes.{broken_where as broken_where_of, from_operand as from_operand_in, given_at as given_at_in, span_of as span_in, suffix_typed, typed as typed_in};
-ghost use Rattle.slicc_plan.specs.Meanings.{value};
+ghost use Rattle.std.specs.Prelude.{◌≡◌, [], ◌∷◌, IfOk};
+ghost use Rattle.slicc_plan.specs.CallTypes.{index_call as index_call_in, method_call as method_call_in, named_call as named_call_in, plain as plain_of};
+ghost use Rattle.slicc_plan.specs.Environment.{type_named};
+ghost use Rattle.slicc_plan.specs.ExpressionTypes.{broken_where as broken_where_of, cast_to as cast_to_in, from_operand as from_operand_in, given_at, span_of as span_in, suffix_typed, typed as typed_in};
+ghost use Rattle.slicc_plan.specs.Meanings.{new_line as new_line_of, told as told_of, value};
+ghost use Rattle.slicc_plan.specs.declared.broken.Rule.TheVariants.{NotAllowedHere};
 ghost use Rattle.slicc_plan.specs.Order.{first_of};
 ghost use Rattle.slicc_plan.specs.Types.{built_in};
 ghost use Rattle.body_types.specs.Environments.{IsEnvironment, environment_of};
@@ -19,14 +21,18 @@ use body_types::{Environment, Given, Meaning, Typed, Wanted, told, unfit};
 use call_types::{index_call, method_call, named_call, plain};
 use declared_types::KnownType;
 use ruby_base::{NoMemory, Seq};
-use slicc_ast::tree::{Expr, Operand, Span, Suffix};
+use slicc_ast::tree::{Expr, Name, Operand, Span, Suffix, TypeName};
 use slicc_plan::{Broken, BuiltInType, Rule, earlier_of_two};
 use std::alloc::Global;
 
-fn given_at<'a>(place: Span, typed: Typed<'a>) -> Given<'a>
-    ensures { given_of result ≡ given_at_in place (typed_of typed.entry) }
+// What an expression is, with its place.
+fn with_place<'a>(e: &Expr, typed: Typed<'a>) -> Given<'a>
+    ensures { given_of result ≡ given_at (span_in e.now) (typed_of typed.entry) }
 {
-    Given { place, typed }
+    Given {
+        place: span_of(e),
+        typed,
+    }
 }
 
 // A value of a built-in type.
@@ -36,18 +42,11 @@ fn value_of<'a>(b: BuiltInType) -> Typed<'a>
     plain(Meaning::Value(KnownType::BuiltIn(b)), None)
 }
 
-// Of an operand alone, which that is, where that is wanted and something is answered of this type.
-fn alone<'a>(
-    env: Environment<'_, 'a>,
-    wanted: Wanted<'a>,
-    answered: BuiltInType,
-    operand: &Expr,
-    t: Typed<'a>,
-) -> Typed<'a>
-    requires { IsEnvironment env }
-    ensures { found_of (typed_of result) ≡ found_of (from_operand_in (environment_of env.entry) (wanted_of wanted.entry) answered (given_at_in (span_in operand.now) (typed_of t.entry))) }
+// A new line, which an expression alone may not make.
+fn new_line<'a>(made: &'a Name, at: Span) -> Typed<'a>
+    ensures { typed_of result ≡ plain_of (new_line_of made.now) (told_of NotAllowedHere at ∷ []) }
 {
-    from_operand(env, wanted, answered, given_at(span_of(operand), t))
+    plain(Meaning::NewLine(made), Some(told(Rule::NotAllowedHere, at)))
 }
 
 /// What an expression is in a body.
@@ -66,28 +65,20 @@ pub fn typed<'a>(
             let left = typed(alloc, env, first)?;
             operands(alloc, env, left, others, first)
         }
-        Expr::Not(operand, _) => {
-            let operand = operand.get();
-            let t = typed(alloc, env, operand)?;
-            Ok(alone(
-                env,
-                of_built_in(BuiltInType::Bool),
-                BuiltInType::Bool,
-                operand,
-                t,
-            ))
-        }
-        Expr::Negate(operand, _) => {
-            let operand = operand.get();
-            let t = typed(alloc, env, operand)?;
-            Ok(alone(
-                env,
-                of_built_in(BuiltInType::Int),
-                BuiltInType::Int,
-                operand,
-                t,
-            ))
-        }
+        Expr::Not(operand, _) => alone(
+            alloc,
+            env,
+            of_built_in(BuiltInType::Bool),
+            BuiltInType::Bool,
+            operand.get(),
+        ),
+        Expr::Negate(operand, _) => alone(
+            alloc,
+            env,
+            of_built_in(BuiltInType::Int),
+            BuiltInType::Int,
+            operand.get(),
+        ),
         Expr::Postfix {
             value,
             suffixes,
@@ -105,28 +96,36 @@ pub fn typed<'a>(
             name,
             arguments,
             span,
-        } => {
-            let given = all_given(alloc, env, &arguments.items)?;
-            named_call(alloc, env, *span, name, &given)
-        }
-        Expr::New(made, span) => {
-            Ok(plain(
-                Meaning::NewLine(made),
-                Some(told(Rule::NotAllowedHere, *span)),
-            ))
-        }
+        } => called(alloc, env, *span, name, &arguments.items),
+        Expr::New(made, span) => Ok(new_line(made, *span)),
         Expr::IsValid(operand, _) | Expr::IsInvalid(operand, _) => {
-            let operand = operand.get();
-            let t = typed(alloc, env, operand)?;
-            Ok(alone(env, Wanted::AnyLine, BuiltInType::Bool, operand, t))
+            alone(
+                alloc,
+                env,
+                Wanted::AnyLine,
+                BuiltInType::Bool,
+                operand.get(),
+            )
         }
-        Expr::Cast { target, value, .. } => {
-            let value = value.get();
-            let t = typed(alloc, env, value)?;
-            Ok(cast_to(env, target, given_at(span_of(value), t)))
-        }
+        Expr::Cast { target, value, .. } => cast(alloc, env, target, value.get()),
         Expr::Group(inner, _) => typed(alloc, env, inner.get()),
     }
+}
+
+// An operator's operand alone, where that is wanted and something is answered of this type.
+#[cycle(expression_type)]
+fn alone<'a>(
+    alloc: Global,
+    env: Environment<'_, 'a>,
+    wanted: Wanted<'a>,
+    answered: BuiltInType,
+    operand: &'a Expr,
+) -> Result<Typed<'a>, NoMemory>
+    requires { IsEnvironment env }
+    ensures { IfOk result (λ t. found_of (typed_of t) ≡ found_of (from_operand_in (environment_of env.entry) (wanted_of wanted.entry) answered (given_at (span_in operand.now) (typed_in (environment_of env.entry) operand.now)))) }
+{
+    let t = typed(alloc, env, operand)?;
+    Ok(from_operand(env, wanted, answered, with_place(operand, t)))
 }
 
 // What stands left of operands, joined with each of them, where the whole starts with this operand.
@@ -147,11 +146,75 @@ fn operands<'a>(
         left = joined(
             env,
             o.operator,
-            given_at(span_of(first), left),
-            given_at(span_of(&o.value), right),
+            with_place(first, left),
+            with_place(&o.value, right),
         );
     }
     Ok(left)
+}
+
+// A value of the type of this name.
+#[cycle(expression_type)]
+fn cast<'a>(
+    alloc: Global,
+    env: Environment<'_, 'a>,
+    target: &TypeName,
+    value: &'a Expr,
+) -> Result<Typed<'a>, NoMemory>
+    requires { IsEnvironment env }
+    ensures { IfOk result (λ t. found_of (typed_of t) ≡ found_of (cast_to_in (environment_of env.entry) target.now (given_at (span_in value.now) (typed_in (environment_of env.entry) value.now)) (type_named (environment_of env.entry) target.now.text))) }
+{
+    let t = typed(alloc, env, value)?;
+    Ok(cast_to(env, target, with_place(value, t)))
+}
+
+// A call on nothing.
+#[cycle(expression_type)]
+fn called<'a>(
+    alloc: Global,
+    env: Environment<'_, 'a>,
+    at: Span,
+    name: &Name,
+    arguments: &'a [Expr],
+) -> Result<Typed<'a>, NoMemory>
+    requires { IsEnvironment env }
+    ensures { IfOk result (λ t. found_of (typed_of t) ≡ found_of (named_call_in (environment_of env.entry) at name.now (all_arguments (environment_of env.entry) arguments.now))) }
+{
+    let given = all_given(alloc, env, arguments)?;
+    named_call(alloc, env, at, name, &given)
+}
+
+// A call on what stands left of it.
+#[cycle(expression_type)]
+fn method<'a>(
+    alloc: Global,
+    env: Environment<'_, 'a>,
+    at: Span,
+    left: Typed<'a>,
+    name: &Name,
+    arguments: &'a [Expr],
+) -> Result<Typed<'a>, NoMemory>
+    requires { IsEnvironment env }
+    ensures { IfOk result (λ t. found_of (typed_of t) ≡ found_of (method_call_in (environment_of env.entry) at (typed_of left.entry) name.now (all_arguments (environment_of env.entry) arguments.now))) }
+{
+    let given = all_given(alloc, env, arguments)?;
+    method_call(alloc, env, at, left, name, &given)
+}
+
+// What stands left of a key in brackets, with that.
+#[cycle(expression_type)]
+fn indexed<'a>(
+    alloc: Global,
+    env: Environment<'_, 'a>,
+    at: Span,
+    left: Typed<'a>,
+    key: &'a Expr,
+) -> Result<Typed<'a>, NoMemory>
+    requires { IsEnvironment env }
+    ensures { IfOk result (λ t. found_of (typed_of t) ≡ found_of (index_call_in (environment_of env.entry) at (typed_of left.entry) (given_at (span_in key.now) (typed_in (environment_of env.entry) key.now)))) }
+{
+    let t = typed(alloc, env, key)?;
+    index_call(alloc, env, at, left, with_place(key, t))
 }
 
 #[cycle(expression_type)]
@@ -171,14 +234,8 @@ fn suffixed<'a>(
             name,
             arguments,
             ..
-        } => {
-            let given = all_given(alloc, env, &arguments.items)?;
-            method_call(alloc, env, at, left, name, &given)
-        }
-        Suffix::Index(key, _) => {
-            let t = typed(alloc, env, key)?;
-            index_call(alloc, env, at, left, given_at(span_of(key), t))
-        }
+        } => method(alloc, env, at, left, name, &arguments.items),
+        Suffix::Index(key, _) => indexed(alloc, env, at, left, key),
     }
 }
 
@@ -213,7 +270,7 @@ fn all_given<'a>(
     let mut given = Seq::new(alloc);
     for e in arguments {
         let t = typed(alloc, env, e)?;
-        given.push(given_at(span_of(e), t))?;
+        given.push(with_place(e, t))?;
     }
     Ok(given)
 }

@@ -18,7 +18,7 @@ use Rattle.slicc_front.specs.Fronts.{IsFrontBy, IsFrontIfRoom, IsFrontOf}
 use Rattle.slicc_files.proofs.OneNameEach.{one_name_each}
 use Rattle.slicc_files.proofs.Told.{HasFailed, all_read}
 use Rattle.slicc_files.proofs.Ways.{begun, given_or_failed}
-use Rattle.gen_protocol.specs.Generated.{generated_name}
+use Rattle.call_meaning.specs.Generated.{generated_name}
 use Rattle.ruby_options.specs.declared.options.Command.{Command}
 use Rattle.ruby_options.specs.declared.options.Command.TheVariants.{Run, Plain, Check, Table, Code, Gen}
 use Rattle.ruby_options.specs.declared.options.Options.{Options}

@@ -3,12 +3,13 @@ ghost use Rattle.std.specs.Prelude.{◌≡◌, ◌≢◌, [], Some, IfOk, IsUtf8
 ghost use Rattle.call_meaning.specs.Find.{IsAfter, IsAloneAnswer, IsAnswerOf, IsFoundBy, IsFoundFurther, is_generated};
 ghost use Rattle.call_meaning.specs.Headline.{IsByOneWorker};
 ghost use Rattle.call_meaning.specs.Right.{IsRight, IsRightBy, IsRightGot, IsRightTo, IsTable, generated_files};
-ghost use Rattle.gen_protocol.specs.Generated.{generated_name, generated_text};
+ghost use Rattle.call_meaning.specs.Generated.{generated_name, generated_text};
 ghost use Rattle.ruby_options.specs.Within.{IsWithin};
 ghost use Rattle.ruby_options.specs.declared.options.Command.TheVariants.{Code, Run};
 ghost use Rattle.ruby_answers.specs.declared.answer.Answer.TheVariants.{Generated, Ran};
 
 use crate::runs::{plain_run, said_run};
+use call_meaning::generated;
 use ruby_answers::{Answer, table_rows};
 use ruby_base::{NoMemory, Seq, Text};
 use ruby_options::{Command, Options};
@@ -160,8 +161,8 @@ fn find_read<L: Library>(
 fn generated_file(alloc: Global, count: u64) -> Result<(Text, Text), NoMemory>
     ensures { IfOk result (λ file. file ≡ (generated_name, generated_text count)) }
 {
-    let name = Text::copied(alloc, gen_protocol::name().as_bytes())?;
-    let text = gen_protocol::text(alloc, count)?;
+    let name = Text::copied(alloc, generated::name().as_bytes())?;
+    let text = generated::text(alloc, count)?;
     Ok((name, text))
 }
 
@@ -183,7 +184,7 @@ fn find_generated(alloc: Global, options: Options) -> Result<Answer, NoMemory>
     ensures right { IfOk result (IsRight (Some options) []) }
     ensures alone { IfOk result IsAloneAnswer }
 {
-    let name = Text::copied(alloc, gen_protocol::name().as_bytes())?;
+    let name = Text::copied(alloc, generated::name().as_bytes())?;
     let mut library = generated_library(alloc, options.count)?;
     let found = front(alloc, &mut library, &name);
     answer_front(alloc, options, found, &mut library)

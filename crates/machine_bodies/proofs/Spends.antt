@@ -11,7 +11,7 @@ use Rattle.slicc_ast.specs.declared.tree.statement.ElseIf.{ElseIf}
 use Rattle.slicc_ast.specs.declared.tree.statement.If.{If, If', None', Some', Row_of-ElseIf, end_of-ElseIf, more_of-ElseIf, items-the_row-ElseIf, out-If}
 use Rattle.slicc_ast.specs.declared.tree.statement.Stmt.{Stmt, Row_of-Stmt, end_of-Stmt, more_of-Stmt, items-the_row-Stmt}
 use Rattle.slicc_ast.specs.declared.tree.statement.Stmt.TheViews.{the_lemmas}
-use Rattle.scan_meaning.specs.Actions.{block_checked, checked, if_checked, others_checked, otherwise_checked, row_checked}
+use Rattle.body_meaning.specs.Actions.{block_checked, checked, if_checked, others_checked, otherwise_checked, row_checked}
 use Rattle.machine_bodies.specs.Spending.{else_if_checked, one_less, spend, spent}
 
 -- The names in the rows of a tree are those of the items, one after another.

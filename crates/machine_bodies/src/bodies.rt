@@ -3,8 +3,8 @@ ghost use Rattle.std.specs.Prelude.{◌≡◌, slice_get};
 ghost use Rattle.std.specs.Option.{option_copied};
 ghost use Rattle.body_meaning.specs.Bodies.{body_of as body_of_function_is};
 ghost use Rattle.body_meaning.specs.Reading.{reading};
-ghost use Rattle.scan_meaning.specs.Actions.{body_of_action as body_of_action_is};
-ghost use Rattle.scan_meaning.specs.Scan.{port_block as port_block_is};
+ghost use Rattle.body_meaning.specs.Actions.{body_of_action as body_of_action_is};
+ghost use Rattle.body_meaning.specs.Scan.{port_block as port_block_is};
 
 use body_meaning::Scope;
 use ruby_symbols::{FunctionSymbol, PortSymbol};

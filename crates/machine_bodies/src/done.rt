@@ -3,8 +3,8 @@ ghost use Rattle.std.specs.Prelude.{◌≡◌};
 ghost use Rattle.acts.specs.DoesAs.{DoesAs, itself};
 ghost use Rattle.body_meaning.specs.Reading.{reading};
 ghost use Rattle.machine_bodies.specs.Few.{HasFew};
-ghost use Rattle.scan_meaning.specs.Scan.{port_done};
-ghost use Rattle.scan_meaning.specs.Transition.{about_left, action_done};
+ghost use Rattle.body_meaning.specs.Scan.{port_done};
+ghost use Rattle.body_meaning.specs.Transition.{about_left, action_done};
 
 use crate::bodies::{body_of_action, body_of_port};
 use crate::functions::body_done;

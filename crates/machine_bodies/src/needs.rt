@@ -1,6 +1,6 @@
 // Whether actions need more free lines of a table than there are.
 ghost use Rattle.std.specs.Prelude.{◌≡◌, flat_map, nat_lt};
-ghost use Rattle.scan_meaning.specs.Actions.{block_checked, body_of_action as body_of_action_is, checked, if_checked, names_table as names_table_is, need};
+ghost use Rattle.body_meaning.specs.Actions.{block_checked, body_of_action as body_of_action_is, checked, if_checked, names_table as names_table_is, need};
 ghost use Rattle.machine_bodies.specs.Spending.{else_if_checked, one_less as one_less_is, spend as spend_is, spent};
 ghost use Rattle.body_meaning.specs.Reading.{reading};
 

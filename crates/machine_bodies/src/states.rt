@@ -1,7 +1,7 @@
 // The state of a line, which the machine's own functions read and set, or else the built-in map does.
 ghost use Rattle.std.specs.Prelude.{◌≡◌, IfOk};
 ghost use Rattle.acts.specs.DoesAs.{DoesAs, itself};
-ghost use Rattle.scan_meaning.specs.Transition.{arguments_for as arguments_for_is, permission_set as permission_set_is, state_argument as state_argument_is, state_by as state_by_is, state_set as state_set_is};
+ghost use Rattle.body_meaning.specs.Transition.{arguments_for as arguments_for_is, permission_set as permission_set_is, state_argument as state_argument_is, state_by as state_by_is, state_set as state_set_is};
 ghost use Rattle.machine_bodies.specs.Few.{HasFew};
 ghost use Rattle.body_meaning.specs.Reading.{reading};
 

@@ -18,7 +18,7 @@ use Rattle.slicc_ast.specs.declared.tree.machine.Machine.{Machine}
 use Rattle.slicc_ast.specs.declared.tree.machine.Transition.{Transition}
 use Rattle.slicc_plan.specs.Limits.{event_members, is_action, state_members}
 use Rattle.slicc_plan.specs.Machines.{actions_of, each_once, names_in, next_number, transitions_of, written, written_of}
-use Rattle.machine_table.specs.declared.written.PartNumbers.{PartNumbers}
+use Rattle.machine_table.specs.declared.numbers.PartNumbers.{PartNumbers}
 use Rattle.slicc_plan.specs.Buffers.{listed}
 use Rattle.slicc_plan.specs.Declarations.{Declaration, action, is_named, is_text, name_of, named_declarations}
 use Rattle.name_index.specs.Numbering.{is_name, number_among, with_name}

@@ -12,7 +12,7 @@ use Rattle.slicc_plan.specs.Declarations.{Declaration, is_named, named_declarati
 use Rattle.slicc_plan.specs.Limits.{is_action}
 use Rattle.slicc_plan.specs.Machines.{each_once, names_in}
 use Rattle.machine_table.specs.declared.by_name.Numbers.{Numbers}
-use Rattle.machine_table.specs.declared.written.PartNumbers.{PartNumbers}
+use Rattle.machine_table.specs.declared.numbers.PartNumbers.{PartNumbers}
 
 -- what is found by each name
 abbrev pub Finding : Type 0

@@ -6,12 +6,21 @@ use ruby_base::{NoMemory, Seq};
 use std::alloc::Global;
 
 /// Numbers that are found by names. A search takes the time of a hash of the name.
-#[derive(Drop)]
 pub struct Numbers {
     names: NameIndex,
     // The number of each name.
     numbers: Seq<u16>,
     ghost same_length: { length numbers ≡ length names },
+}
+
+// It is written out, so that a function that lets one go proves a call there, and not how each of its parts goes.
+impl Drop for Numbers {
+    fn drop(self) {
+        let Numbers {
+            names: _,
+            numbers: _,
+        } = self;
+    }
 }
 
 /// The number as one that tables keep. They have no room for more than 65,536 states, events or actions of a machine, which are

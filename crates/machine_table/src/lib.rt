@@ -14,7 +14,7 @@ pub use by_name::{Numbers, kept_number};
 pub use counting::counts;
 pub use machine_list::machines;
 pub use making::{build, build_of_trees, tabulate};
-pub use numbers::{action_numbers, event_numbers, state_numbers};
+pub use numbers::{PartNumbers, part_numbers};
 pub use parts::{event_count, events, state_count, states};
 pub use ruby_base::{NoMemory, Seq};
 pub use table::{TableFault, Tables};

@@ -45,8 +45,8 @@ fn member_numbers<T: Member>(alloc: Global, members: &[T]) -> Result<Numbers, No
     Ok(numbers)
 }
 
-/// The numbers of a machine's states.
-pub fn state_numbers(alloc: Global, m: &Machine) -> Result<Numbers, NoMemory>
+// The numbers of a machine's states.
+fn state_numbers(alloc: Global, m: &Machine) -> Result<Numbers, NoMemory>
     ensures { IfOk result (AreNumbersOf (state_members m.now)) }
 {
     match states(m) {
@@ -55,8 +55,8 @@ pub fn state_numbers(alloc: Global, m: &Machine) -> Result<Numbers, NoMemory>
     }
 }
 
-/// The numbers of a machine's events.
-pub fn event_numbers(alloc: Global, m: &Machine) -> Result<Numbers, NoMemory>
+// The numbers of a machine's events.
+fn event_numbers(alloc: Global, m: &Machine) -> Result<Numbers, NoMemory>
     ensures { IfOk result (AreNumbersOf (event_members m.now)) }
 {
     match events(m) {
@@ -65,8 +65,8 @@ pub fn event_numbers(alloc: Global, m: &Machine) -> Result<Numbers, NoMemory>
     }
 }
 
-/// The numbers of a machine's actions.
-pub fn action_numbers(alloc: Global, m: &Machine) -> Result<Numbers, NoMemory>
+// The numbers of a machine's actions.
+fn action_numbers(alloc: Global, m: &Machine) -> Result<Numbers, NoMemory>
     ensures { IfOk result (AreNumbersOf (actions_of m.now)) }
 {
     let mut numbers = Numbers::new(alloc);
@@ -80,4 +80,28 @@ pub fn action_numbers(alloc: Global, m: &Machine) -> Result<Numbers, NoMemory>
         number += 1;
     }
     Ok(numbers)
+}
+
+/// The numbers of a machine's states, events and actions.
+#[derive(Drop)]
+pub struct PartNumbers {
+    pub states: Numbers,
+    pub events: Numbers,
+    pub actions: Numbers,
+}
+
+/// Those of this machine.
+pub fn part_numbers(alloc: Global, m: &Machine) -> Result<PartNumbers, NoMemory>
+    ensures states { IfOk result (λ n. AreNumbersOf (state_members m.now) n.states) }
+    ensures events { IfOk result (λ n. AreNumbersOf (event_members m.now) n.events) }
+    ensures actions { IfOk result (λ n. AreNumbersOf (actions_of m.now) n.actions) }
+{
+    let states = state_numbers(alloc, m)?;
+    let events = event_numbers(alloc, m)?;
+    let actions = action_numbers(alloc, m)?;
+    Ok(PartNumbers {
+        states,
+        events,
+        actions,
+    })
 }

@@ -5,7 +5,7 @@ ghost use Rattle.slicc_plan.specs.Machines.{each_once, includes, names_in, trans
 ghost use Rattle.machine_table.specs.Found.{found_by, found_name, found_next, written_with};
 
 use crate::by_name::Numbers;
-use crate::numbers::{action_numbers, event_numbers, state_numbers};
+use crate::numbers::{PartNumbers, part_numbers};
 use ruby_base::{NoMemory, Seq};
 use slicc_ast::tree::{Decl, Machine, Name, Names, Transition};
 use slicc_plan::Written;
@@ -88,14 +88,6 @@ fn next_number(next: &Option<Name>, numbers: &Numbers) -> Option<u16>
     }
 }
 
-// The numbers of a machine's states, events and actions.
-#[derive(Drop)]
-struct PartNumbers {
-    states: Numbers,
-    events: Numbers,
-    actions: Numbers,
-}
-
 fn written(alloc: Global, t: &Transition, parts: &PartNumbers) -> Result<Written, NoMemory>
     ensures { IfOk result (λ w. w ≡ written_with parts.now t.now) }
 {
@@ -132,13 +124,6 @@ fn written_by_parts(
 pub fn written_transitions(alloc: Global, m: &Machine) -> Result<Seq<Written>, NoMemory>
     ensures { IfOk result (λ ws. ws ≡ written_of m.now) }
 {
-    let states = state_numbers(alloc, m)?;
-    let events = event_numbers(alloc, m)?;
-    let actions = action_numbers(alloc, m)?;
-    let parts = PartNumbers {
-        states,
-        events,
-        actions,
-    };
+    let parts = part_numbers(alloc, m)?;
     written_by_parts(alloc, m, &parts)
 }

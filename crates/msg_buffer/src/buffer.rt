@@ -10,7 +10,7 @@ use std::collections::VecDeque;
 use std::marker::Model;
 
 /// There is no message with an arrival up to now.
-#[derive(Clone, Copy, Debug, PartialEq, Eq)]
+#[derive(Clone, Copy)]
 pub struct NotReady;
 
 /// The messages of one buffer. A contract sees the list of them, ascending by arrival and then by number, in which no number is

@@ -32,10 +32,10 @@ use Rattle.protocol_runs.specs.Meaning.{Meaning, acts_told}
 use Rattle.protocol_runs.specs.Setting.{Setting}
 use Rattle.protocol_runs.proofs.Controllers.{IsOne, and-some, controller-is, one-of}
 use Rattle.protocol_runs.proofs.Scans as scans
-use Rattle.scan_meaning.specs.declared.round.RoundEnd.{RoundEnd}
-use Rattle.scan_meaning.specs.declared.round.RoundEnd.TheVariants as round
-use Rattle.scan_meaning.specs.Round.{IsRoundOf}
-use Rattle.scan_meaning.specs.Scan.{left_idle}
+use Rattle.body_meaning.specs.declared.round.RoundEnd.{RoundEnd}
+use Rattle.body_meaning.specs.declared.round.RoundEnd.TheVariants as round
+use Rattle.body_meaning.specs.Round.{IsRoundOf}
+use Rattle.body_meaning.specs.Scan.{left_idle}
 use Rattle.sequencer.specs.Drive.{Drive}
 use Rattle.sequencer.specs.Seats.{Seat}
 use Rattle.world_state.specs.Ended.{rested}

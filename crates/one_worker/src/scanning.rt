@@ -4,12 +4,12 @@ ghost use Rattle.ctl_store.specs.Drafted.{view_of};
 ghost use Rattle.one_worker.specs.Scanned.{IsScanned, begun};
 ghost use Rattle.world_events.specs.Held.{Holds};
 
+use body_meaning::RoundEnd;
 use ctl_store::{Draft, Outcome};
 use protocol_meaning::{Protocol, meanings_are_lawful, settings_are_lawful};
 use protocol_runs::controllers_fit;
 use ruby_value::NoMemory;
 use run_journal::End;
-use scan_meaning::RoundEnd;
 use sequencer::Driver;
 use std::alloc::Global;
 use world_events::{Held, World};

@@ -20,7 +20,7 @@ pub fn add_parts<L: Library>(rows: &mut RowText, library: &mut L) {
     rows.add("# symbols\n");
     symbols::add(rows, library);
     rows.add("# calls\n");
-    calls::add(rows);
+    calls::add(rows, library);
     rows.add("# topologies\n");
     topologies::add(rows, library);
     rows.add("# tester\n");

@@ -3,7 +3,6 @@
 use crate::protocols::plan_in;
 use row_text::RowText;
 use ruby_outside::Library;
-use sample_stores::let_go;
 use slicc_plan::{Plan, same_plan};
 
 // A folder and a file in it.
@@ -41,7 +40,7 @@ fn add_answer<L: Library>(rows: &mut RowText, library: &mut L, plan: &Plan, othe
     match plan_in(rows, library, other.0, other.1) {
         Some(other) => {
             let is_same = same_plan(plan, &other);
-            let_go(other);
+            drop(other);
             rows.add(if is_same {
                 "the same\n"
             } else {
@@ -58,7 +57,7 @@ fn add_pair<L: Library>(rows: &mut RowText, library: &mut L, first: File, second
     match plan_in(rows, library, first.0, first.1) {
         Some(plan) => {
             add_answer(rows, library, &plan, second);
-            let_go(plan);
+            drop(plan);
         }
         None => rows.lose(),
     }

@@ -9,7 +9,6 @@ use list::add_list;
 use row_text::RowText;
 use ruby_outside::Library;
 use ruby_symbols::Symbols;
-use sample_stores::let_go;
 
 // The protocols, in the folder `symbols`.
 const FILES: &[&str] = &["tick.sm", "msi.sm", "tables.sm", "values.sm", "shared.sm"];
@@ -26,7 +25,7 @@ fn add_file<L: Library>(rows: &mut RowText, library: &mut L, file: &str) {
     match plan_in(rows, library, "symbols", file) {
         Some(plan) => {
             add_symbols(rows, plan.symbols());
-            let_go(plan);
+            drop(plan);
         }
         None => rows.add("no plan\n"),
     }

@@ -12,7 +12,7 @@ use std::marker::Model;
 /// kept beside them so that a draw costs one step.
 ///
 /// That an actor draws from the stream of its own number is this project's rule. No call takes memory.
-#[derive(Debug, Drop)]
+#[derive(Drop)]
 pub struct Words {
     seed: u64,
     stream: u64,

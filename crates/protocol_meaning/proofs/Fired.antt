@@ -6,16 +6,16 @@ use Rattle.run_journal.specs.declared.entry.StopAt.{StopAt}
 use Rattle.slicc_ast.specs.declared.tree.item.Tree.{Tree}
 use Rattle.ctl_face.specs.LocalView.{LocalView, SameScan}
 use Rattle.acts.specs.Done.{Done}
-use Rattle.act_laws.specs.Left.{IsLeft}
-use Rattle.act_laws.proofs.Left.{left_scan}
+use Rattle.acts.specs.Left.{IsLeft}
+use Rattle.acts.proofs.Left.{left_scan}
 use Rattle.body_meaning.specs.Reading.{Reading}
-use Rattle.scan_meaning.specs.declared.round.RoundEnd.{RoundEnd}
-use Rattle.scan_meaning.specs.declared.round.RoundEnd.TheVariants as round
-use Rattle.scan_meaning.specs.declared.tried.Tried.{Tried}
-use Rattle.scan_meaning.specs.declared.tried.Tried.TheVariants.{Fires, Waits}
-use Rattle.scan_meaning.specs.Round.{IsRoundOf}
-use Rattle.scan_meaning.specs.Scan.{Scanned, by_outcome, by_try, ports_tried}
-use Rattle.scan_meaning.specs.Trying.{run_scan}
+use Rattle.body_meaning.specs.declared.round.RoundEnd.{RoundEnd}
+use Rattle.body_meaning.specs.declared.round.RoundEnd.TheVariants as round
+use Rattle.body_meaning.specs.declared.tried.Tried.{Tried}
+use Rattle.body_meaning.specs.declared.tried.Tried.TheVariants.{Fires, Waits}
+use Rattle.body_meaning.specs.Round.{IsRoundOf}
+use Rattle.body_meaning.specs.Scan.{Scanned, by_outcome, by_try, ports_tried}
+use Rattle.body_meaning.specs.Trying.{run_scan}
 use Rattle.protocol_meaning.specs.Meaning.{scan_by, scan_of}
 use Rattle.protocol_meaning.specs.Readings.{reading_of}
 use Rattle.protocol_meaning.proofs.Tries.{scan_leaves}

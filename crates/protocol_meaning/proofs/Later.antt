@@ -10,16 +10,16 @@ use Rattle.acts.specs.Act.{Act, Again, answer}
 use Rattle.acts.specs.Acting.{Acting, ends as ends_body, acts as acts_in, follow, run}
 use Rattle.acts.specs.After.{HoldsAfter}
 use Rattle.acts.specs.Done.{Done, does}
-use Rattle.act_laws.specs.Added.{Added, AreNew, IsNew, after_adding, with_added}
-use Rattle.act_laws.proofs.Framed.{frame}
-use Rattle.act_laws.proofs.Instances.{stays_in_scan, stays_lawful}
+use Rattle.acts.specs.Added.{Added, AreNew, IsNew, after_adding, with_added}
+use Rattle.acts.proofs.Framed.{frame}
+use Rattle.acts.proofs.Instances.{stays_in_scan, stays_lawful}
 use Rattle.body_meaning.specs.Reading.{Reading}
-use Rattle.scan_meaning.specs.declared.round.RoundEnd.TheVariants.{Idle}
-use Rattle.scan_meaning.specs.declared.tried.Known.{Known}
-use Rattle.scan_meaning.specs.declared.tried.Tried.{Tried}
-use Rattle.scan_meaning.specs.declared.tried.Tried.TheVariants.{Waits, Fires}
-use Rattle.scan_meaning.specs.Scan.{Scanned, by_outcome, by_try, left_idle, pairs_tried, ports_tried, scan}
-use Rattle.scan_meaning.specs.Trying.{Pair, Trying, ends, stops, acts, looks_up, follow_pairs, follow_scan, pairs_of, run_scan}
+use Rattle.body_meaning.specs.declared.round.RoundEnd.TheVariants.{Idle}
+use Rattle.body_meaning.specs.declared.tried.Known.{Known}
+use Rattle.body_meaning.specs.declared.tried.Tried.{Tried}
+use Rattle.body_meaning.specs.declared.tried.Tried.TheVariants.{Waits, Fires}
+use Rattle.body_meaning.specs.Scan.{Scanned, by_outcome, by_try, left_idle, pairs_tried, ports_tried, scan}
+use Rattle.body_meaning.specs.Trying.{Pair, Trying, ends, stops, acts, looks_up, follow_pairs, follow_scan, pairs_of, run_scan}
 use Rattle.protocol_meaning.specs.Adding.{scanned_with}
 use Rattle.protocol_meaning.proofs.Left.{does_again}
 

@@ -5,13 +5,13 @@ use Rattle.ctl_face.specs.Again.{again}
 use Rattle.ctl_face.specs.LocalView.{LocalView}
 use Rattle.acts.specs.Act.{Again}
 use Rattle.acts.specs.Done.{Done, does}
-use Rattle.act_laws.specs.Left.{IsLeft}
-use Rattle.act_laws.proofs.Left.{left_by_act, left_here}
+use Rattle.acts.specs.Left.{IsLeft}
+use Rattle.acts.proofs.Left.{left_by_act, left_here}
 use Rattle.body_meaning.specs.Reading.{Reading}
-use Rattle.scan_meaning.specs.declared.tried.Tried.{Tried}
-use Rattle.scan_meaning.specs.declared.tried.Tried.TheVariants.{Waits, Fires}
-use Rattle.scan_meaning.specs.Scan.{by_outcome, by_try, left_idle, ports_tried, scan}
-use Rattle.scan_meaning.specs.Trying.{run_scan}
+use Rattle.body_meaning.specs.declared.tried.Tried.{Tried}
+use Rattle.body_meaning.specs.declared.tried.Tried.TheVariants.{Waits, Fires}
+use Rattle.body_meaning.specs.Scan.{by_outcome, by_try, left_idle, ports_tried, scan}
+use Rattle.body_meaning.specs.Trying.{run_scan}
 use Rattle.protocol_meaning.proofs.Tries.{scan_leaves}
 
 pub does_again : (v : LocalView) → does Again v ≡ Ok (record { value = tt; view = again v })

@@ -39,7 +39,7 @@ use Rattle.slicc_plan.specs.TableNeeds.{checks_or_none, needs}
 use Rattle.symbol_laws.specs.Numbering.{HasSymbols, need_of}
 use Rattle.symbol_laws.proofs.Numbering.{actions_written, needs_by_symbols, one_numbering, symbols_are}
 use Rattle.body_meaning.specs.Reading.{Reading}
-use Rattle.scan_meaning.specs.Actions.{action_block, block_checked, block_of, body_of_action, checked, if_checked, is_table, names_table, need, others_checked, otherwise_checked, row_checked}
+use Rattle.body_meaning.specs.Actions.{action_block, block_checked, block_of, body_of_action, checked, if_checked, is_table, names_table, need, others_checked, otherwise_checked, row_checked}
 use Rattle.protocol_meaning.specs.Readings.{reading_of, reading_with}
 
 -- Statements: what a body has of checks is what its `check_allocate` statements name.

@@ -1,10 +1,10 @@
 -- What code has done as a round is what a run has of the scan.
 use Rattle.std.proofs.Common.{◌≡◌, Ok, ap, ap₂}
 use Rattle.ctl_face.specs.LocalView.{LocalView}
-use Rattle.scan_meaning.specs.declared.round.RoundEnd.{RoundEnd}
-use Rattle.scan_meaning.specs.declared.round.RoundEnd.TheVariants as round
-use Rattle.scan_meaning.specs.Round.{IsRoundOf}
-use Rattle.scan_meaning.specs.Scan.{Scanned}
+use Rattle.body_meaning.specs.declared.round.RoundEnd.{RoundEnd}
+use Rattle.body_meaning.specs.declared.round.RoundEnd.TheVariants as round
+use Rattle.body_meaning.specs.Round.{IsRoundOf}
+use Rattle.body_meaning.specs.Scan.{Scanned}
 use Rattle.protocol_meaning.specs.Meaning.{outcome_by, outcome_of}
 use Rattle.protocol_meaning.specs.Rounds.{outcome_of_round}
 

@@ -13,11 +13,11 @@ use Rattle.acts.specs.declared.body_fault.BodyFault.TheVariants as own
 use Rattle.acts.specs.Act.{Act, answer}
 use Rattle.acts.specs.Acting.{Acting, ends as ends_body, stops as stops_body, acts as acts_in, fault_of, follow, run}
 use Rattle.acts.specs.Done.{Done, does}
-use Rattle.act_laws.specs.Left.{IsLeft}
-use Rattle.act_laws.proofs.Instances.{never_as_invalid}
-use Rattle.act_laws.proofs.Left.{left_by_act, left_here}
-use Rattle.scan_meaning.specs.declared.tried.Known.{Known}
-use Rattle.scan_meaning.specs.Trying.{Pair, Trying, ends, stops, acts, looks_up, follow_pairs, follow_scan, pairs_of, run_scan, stop_at, then_try, with_known}
+use Rattle.acts.specs.Left.{IsLeft}
+use Rattle.acts.proofs.Instances.{never_as_invalid}
+use Rattle.acts.proofs.Left.{left_by_act, left_here}
+use Rattle.body_meaning.specs.declared.tried.Known.{Known}
+use Rattle.body_meaning.specs.Trying.{Pair, Trying, ends, stops, acts, looks_up, follow_pairs, follow_scan, pairs_of, run_scan, stop_at, then_try, with_known}
 use Rattle.protocol_meaning.specs.Meaning.{tried_pair}
 
 -- What is left.

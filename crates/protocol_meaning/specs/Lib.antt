@@ -5,3 +5,6 @@ pub mod Kept
 pub mod Rounds
 pub mod Records
 pub mod Adding
+pub mod Extent
+pub mod Held
+pub mod Runs

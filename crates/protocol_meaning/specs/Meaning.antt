@@ -12,12 +12,12 @@ use Rattle.ctl_face.specs.LocalView.{LocalView}
 use Rattle.body_meaning.specs.Reading.{Reading}
 use Rattle.slicc_plan.specs.SymbolsOf.{symbols_of}
 use Rattle.protocol_runs.specs.Meaning.{Meaning, acts_told}
-use Rattle.scan_meaning.specs.declared.round.RoundEnd.{RoundEnd}
-use Rattle.scan_meaning.specs.declared.round.RoundEnd.TheVariants as round
-use Rattle.scan_meaning.specs.declared.tried.Tried.TheVariants.{Waits}
-use Rattle.scan_meaning.specs.Scan.{Scanned, by_try, pairs_tried, scan}
-use Rattle.scan_meaning.specs.Transition.{is_for}
-use Rattle.scan_meaning.specs.Trying.{Pair}
+use Rattle.body_meaning.specs.declared.round.RoundEnd.{RoundEnd}
+use Rattle.body_meaning.specs.declared.round.RoundEnd.TheVariants as round
+use Rattle.body_meaning.specs.declared.tried.Tried.TheVariants.{Waits}
+use Rattle.body_meaning.specs.Scan.{Scanned, by_try, pairs_tried, scan}
+use Rattle.body_meaning.specs.Transition.{is_for}
+use Rattle.body_meaning.specs.Trying.{Pair}
 use Rattle.protocol_meaning.specs.Readings.{reading_of}
 
 -- Scans of a controller that has fired `fired_before` transitions in this cycle and may fire `limit`.

@@ -5,9 +5,9 @@ use Rattle.ruby_value.specs.declared.message.Message.{Message}
 use Rattle.ruby_runs.specs.Rules.{Outcome}
 use Rattle.ctl_face.specs.Ctl.{Ctl}
 use Rattle.ctl_face.specs.LocalView.{LocalView, SameScan}
-use Rattle.scan_meaning.specs.declared.round.RoundEnd.{RoundEnd}
-use Rattle.scan_meaning.specs.declared.round.RoundEnd.TheVariants.{Fired, Idle}
-use Rattle.scan_meaning.specs.Scan.{left_idle}
+use Rattle.body_meaning.specs.declared.round.RoundEnd.{RoundEnd}
+use Rattle.body_meaning.specs.declared.round.RoundEnd.TheVariants.{Fired, Idle}
+use Rattle.body_meaning.specs.Scan.{left_idle}
 use Rattle.protocol_meaning.specs.Meaning.{outcome_by}
 
 -- the local that a scan leaves, where code that did it has left this one

@@ -6,12 +6,12 @@ ghost use Rattle.ctl_face.specs.Fits.{IsLawful};
 ghost use Rattle.ctl_face.specs.FitsReceiver.{FitsReceiver};
 ghost use Rattle.ctl_face.specs.InRun.{IsInRun};
 ghost use Rattle.ctl_face.specs.LocalView.{LocalView, SameScan};
-ghost use Rattle.act_laws.specs.Added.{Added, AreNew, with_added};
-ghost use Rattle.act_laws.specs.Kept.{CountsStay, IsMarked, MarksStay};
-ghost use Rattle.act_laws.specs.Left.{IsLeft};
-ghost use Rattle.act_laws.specs.Mailed.{HasMailed};
+ghost use Rattle.acts.specs.Added.{Added, AreNew, with_added};
+ghost use Rattle.acts.specs.Kept.{CountsStay, IsMarked, MarksStay};
+ghost use Rattle.acts.specs.Left.{IsLeft};
+ghost use Rattle.acts.specs.Mailed.{HasMailed};
 ghost use Rattle.body_meaning.specs.Reading.{Reading};
-ghost use Rattle.scan_meaning.specs.Scan.{pairs_tried, scan};
+ghost use Rattle.body_meaning.specs.Scan.{pairs_tried, scan};
 ghost use Rattle.protocol_meaning.specs.Adding.{scanned_with};
 
 /// However a scan ends, it leaves a local that acts leave of the one in which it began. So it stays lawful and in the same scan, counts

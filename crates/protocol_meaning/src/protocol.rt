@@ -1,10 +1,10 @@
 ghost use Rattle.std.specs.Prelude.{List};
 ghost use Rattle.slicc_ast.specs.declared.tree.item.Tree.{Tree as TreeRecord};
-ghost use Rattle.scan_meaning.specs.Round.{IsRoundOf};
+ghost use Rattle.body_meaning.specs.Round.{IsRoundOf};
 ghost use Rattle.protocol_meaning.specs.Meaning.{scan_of};
 
+use body_meaning::RoundEnd;
 use ctl_face::{Local, NoMemory};
-use scan_meaning::RoundEnd;
 use std::alloc::Global;
 
 /// What does the scans of a protocol's controllers, whatever way it knows the protocol. It may serve several protocols, given by

@@ -31,8 +31,8 @@ use Rattle.ctl_face.proofs.Betweens.{arrival_keeps, begun_keeps, driver_mail, ha
 use Rattle.ctl_face.proofs.Moved as moved
 use Rattle.ctl_face.proofs.OneKey.{marks_from-has, with_mark-has}
 use Rattle.ctl_face.proofs.Opened.{opening_fits}
-use Rattle.act_laws.specs.Kept.{AreMarked}
-use Rattle.act_laws.proofs.Marks.{marked_put, marked_with, marks_kept, marks_with, same_bool}
+use Rattle.acts.specs.Kept.{AreMarked}
+use Rattle.acts.proofs.Marks.{marked_put, marked_with, marks_kept, marks_with, same_bool}
 use Rattle.sequencer.specs.Drive as own
 use Rattle.sequencer.specs.Seats.{Seat}
 use Rattle.protocol_runs.specs.IsSetting.{IsSetting}

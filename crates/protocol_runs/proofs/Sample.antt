@@ -13,8 +13,8 @@ use Rattle.ctl_face.specs.LocalView.{LocalView}
 use Rattle.ctl_face.specs.ScanView.{scan_view}
 use Rattle.acts.specs.Acting.{run}
 use Rattle.acts.specs.Done.{Done}
-use Rattle.act_laws.proofs.Instances.{never_as_invalid}
-use Rattle.act_laws.proofs.Left.{left_by}
+use Rattle.acts.proofs.Instances.{never_as_invalid}
+use Rattle.acts.proofs.Left.{left_by}
 use Rattle.protocol_runs.specs.Meaning.{IsFired, IsMeaning, Rests}
 use Rattle.protocol_runs.specs.Sample.{outcome_of, sample, taking}
 

@@ -23,11 +23,11 @@ use Rattle.ctl_face.specs.ScanView.{scan_view}
 use Rattle.ctl_face.proofs.Betweens.{fired_keeps}
 use Rattle.ctl_face.proofs.LawfulAfter.{scan_begins}
 use Rattle.ctl_face.proofs.OwnBuffers.{fit_each}
-use Rattle.act_laws.specs.Kept.{AreMarked, IsMarked}
-use Rattle.act_laws.specs.Left.{IsLeft}
-use Rattle.act_laws.specs.Mailed as mailed_acts
-use Rattle.act_laws.specs.Mailed.{HasMailed, IsPosted}
-use Rattle.act_laws.proofs.Left.{left_copies, left_counts, left_lawful, left_mailed, left_marked as left_marked_after, left_marks, left_scan}
+use Rattle.acts.specs.Kept.{AreMarked, IsMarked}
+use Rattle.acts.specs.Left.{IsLeft}
+use Rattle.acts.specs.Mailed as mailed_acts
+use Rattle.acts.specs.Mailed.{HasMailed, IsPosted}
+use Rattle.acts.proofs.Left.{left_copies, left_counts, left_lawful, left_mailed, left_marked as left_marked_after, left_marks, left_scan}
 use Rattle.sequencer.specs.Drive as own
 use Rattle.sequencer.specs.Seats.{Seat}
 use Rattle.protocol_runs.specs.IsSetting.{IsSetting}

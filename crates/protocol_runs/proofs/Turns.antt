@@ -23,7 +23,7 @@ use Rattle.ruby_runs.specs.Rules.{Rules}
 use Rattle.ruby_runs.specs.Step.{delivery_numbers}
 use Rattle.ctl_face.specs.Between.{DriverAct, IsDriverAct, Issues, Takes, after_driver_act, after_driver_acts}
 use Rattle.ctl_face.specs.Ctl.{Ctl, Mail}
-use Rattle.act_laws.specs.Kept.{AreMarked}
+use Rattle.acts.specs.Kept.{AreMarked}
 use Rattle.ctl_face.specs.Fits.{FitsSequencer}
 use Rattle.ctl_face.specs.OfMachine.{TakesFields}
 use Rattle.ctl_face.proofs.Betweens.{driver_keeps, driver_mail}

@@ -9,7 +9,7 @@ use Rattle.ruby_value.specs.declared.setup.MachineSetup.{MachineSetup}
 use Rattle.ctl_face.specs.Ctl.{Ctl}
 use Rattle.ctl_face.specs.Fits.{Fits}
 use Rattle.ctl_face.specs.OfMachine.{TakesFields}
-use Rattle.act_laws.specs.Kept.{AreMarked}
+use Rattle.acts.specs.Kept.{AreMarked}
 use Rattle.protocol_runs.specs.Machines.{setup_of}
 use Rattle.protocol_runs.specs.Setting.{Setting}
 

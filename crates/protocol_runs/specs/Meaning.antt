@@ -19,7 +19,7 @@ use Rattle.ctl_face.specs.Between.{with_wake_up}
 use Rattle.ctl_face.specs.Ctl.{Ctl}
 use Rattle.ctl_face.specs.LocalView.{Actor, LocalView}
 use Rattle.ctl_face.specs.ScanView.{scan_view}
-use Rattle.act_laws.specs.Left.{IsLeft}
+use Rattle.acts.specs.Left.{IsLeft}
 
 pub record Meaning : Type 0 where
   pub scan : (machine : ℕ) → LocalView → (limit : ℕ) → Scan Ctl Message

@@ -1,19 +1,16 @@
 -- The parts in which a machine's symbols are made.
 use Rattle.std.specs.Prelude.{◌≡◌, ◌++◌, ℕ, List, [], Option, find, flat_map, map}
 use Rattle.ruby_symbols.specs.declared.machine.BufferSymbol.{BufferSymbol}
-use Rattle.ruby_symbols.specs.declared.symbols.Symbols.{Symbols}
 use Rattle.slicc_ast.specs.declared.tree.declaration.Pairs.{Pairs}
 use Rattle.slicc_ast.specs.declared.tree.item.Tree.{Tree}
 use Rattle.slicc_ast.specs.declared.tree.machine.Decl.{Decl}
 use Rattle.slicc_ast.specs.declared.tree.machine.Literal.{Literal}
 use Rattle.slicc_ast.specs.declared.tree.machine.Machine.{Machine}
-use Rattle.slicc_plan.specs.Declarations.{Declaration, machine_declarations, machines_of, within}
+use Rattle.slicc_plan.specs.Declarations.{Declaration, machine_declarations, within}
 use Rattle.slicc_plan.specs.Limits.{is_events, is_states}
 use Rattle.slicc_plan.specs.MachineValues.{reference_in, reference_of_type, value_in, value_of_type}
 use Rattle.slicc_plan.specs.Machines.{directory_structure, entry_structure, tbe_structure, written_of}
 use Rattle.slicc_plan.specs.SymbolsOfMachines.{action_symbol, buffer_symbol, function_symbol, in_port_symbol, line_number, number_of_found, numbered_from, out_port_symbol, permissions_found, table_of_sort, table_symbol, transition_symbol}
-use Rattle.slicc_plan.specs.SymbolsOf.{machines_from}
-use Rattle.slicc_plan.specs.SymbolsOfTypes.{enumeration_symbols, structure_symbols}
 use Rattle.slicc_plan.specs.Tables.{table_sort}
 use Rattle.slicc_plan.specs.Types.{type_in}
 use Rattle.protocol_symbols.specs.declared.bodies.Bodies.{Bodies}
@@ -74,8 +71,3 @@ pub record AddRest (m : Machine) (old new : Rest) : Type 0 where
 
 abbrev pub no_rest : Rest
 no_rest = record { name = []; permissions = []; transitions = [] }
-
-pub record AddSymbols (trees : List Tree) (old new : Symbols) : Type 0 where
-  pub enumerations : new.enumerations ≡ old.enumerations ++ enumeration_symbols trees
-  pub structures : new.structures ≡ old.structures ++ structure_symbols trees
-  pub machines : new.machines ≡ old.machines ++ machines_from trees 0 (machines_of trees)

@@ -1,7 +1,6 @@
 //! The enumerations of a protocol.
-ghost use Rattle.std.specs.Prelude.{◌≡◌, ◌++◌, [], ◌∷◌, IfOk, None, OnOk, codes, flat_map, map};
+ghost use Rattle.std.specs.Prelude.{◌≡◌, ◌++◌, [], ◌∷◌, IfOk, None, OnOk, flat_map, map};
 ghost use Rattle.slicc_plan.specs.BuiltIn.{members_of};
-ghost use Rattle.slicc_plan.specs.Declarations.{machine_names};
 ghost use Rattle.slicc_plan.specs.SymbolsOfTypes.{built_in_symbols, enumeration_symbol, enumeration_symbols, owner};
 ghost use Rattle.declared_types.specs.Lent.{scope_of};
 ghost use Rattle.type_numbers.specs.Numbered.{AreNumbered, scoped_of, trees_of};
@@ -59,18 +58,6 @@ fn add_fixed(
     add_members(alloc, list, name, None, 0, fixed_members(b))
 }
 
-// Adds the enumeration of the machines.
-fn add_machine_type(
-    alloc: Global,
-    list: &mut Seq<EnumerationSymbol>,
-    types: &TypeNumbers<'_>,
-) -> Result<(), NoMemory>
-    requires { AreNumbered types.now }
-    ensures { OnOk result (list.new ≡ list.old ++ record { name = codes "MachineType"; machine = None; members = machine_names (trees_of types.now); default = 0 } ∷ []) }
-{
-    add_members(alloc, list, b"MachineType", None, 0, &types.machines)
-}
-
 fn add_enumeration<'a>(
     alloc: Global,
     list: &mut Seq<EnumerationSymbol>,
@@ -123,7 +110,7 @@ fn add_built_ins(
     requires { AreNumbered types.now }
     ensures { OnOk result (list.new ≡ list.old ++ built_in_symbols (trees_of types.now)) }
 {
-    add_machine_type(alloc, list, types)?;
+    add_members(alloc, list, b"MachineType", None, 0, &types.machines)?;
     add_fixed(
         alloc,
         list,

@@ -17,6 +17,7 @@ use crate::sequencers::sequencer;
 use crate::states::{add_permissions, events_number, states_number};
 use crate::transitions::add_transitions;
 use declared_types::{Declared, LineSort, machine_list};
+use machine_table::{events, states};
 use ruby_base::{NoMemory, Seq, Text};
 use ruby_symbols::{MachineSymbols, TransitionSymbol, action_among, function_among};
 use slicc_ast::tree::Machine;
@@ -62,8 +63,8 @@ fn numbers_of<'a>(types: &TypeNumbers<'a>, m: &'a Machine, declarations: &[Decla
     let directory = line_structure(m, declarations, LineSort::Directory);
     let tbe = line_structure(m, declarations, LineSort::Tbe);
     Numbers {
-        states: states_number(types, m),
-        events: events_number(types, m),
+        states: states_number(types, m, states(m)),
+        events: events_number(types, m, events(m)),
         entry: line_number(types, m, entry),
         directory: line_number(types, m, directory),
         tbe: line_number(types, m, tbe),
@@ -89,7 +90,7 @@ fn add_rest(alloc: Global, rest: &mut Rest, m: &Machine) -> Result<(), NoMemory>
     ensures { OnOk result (AddRest m.now rest.old rest.new) }
 {
     rest.name.append(&m.name.text)?;
-    add_permissions(&mut rest.permissions, m)?;
+    add_permissions(&mut rest.permissions, states(m))?;
     add_transitions(alloc, &mut rest.transitions, m)?;
     Ok(())
 }

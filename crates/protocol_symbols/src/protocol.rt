@@ -3,7 +3,6 @@ ghost use Rattle.std.specs.Prelude.{◌≡◌, ◌++◌, IfOk, OnOk, map};
 ghost use Rattle.slicc_plan.specs.Declarations.{machines_of};
 ghost use Rattle.slicc_plan.specs.Networks.{all_ports};
 ghost use Rattle.slicc_plan.specs.SymbolsOf.{machines_from, symbols_of};
-ghost use Rattle.protocol_symbols.specs.Parts.{AddSymbols};
 ghost use Rattle.type_numbers.specs.Ports.{port_seen};
 ghost use Rattle.type_numbers.specs.Numbered.{AreNumbered, trees_of};
 
@@ -48,20 +47,6 @@ fn add_all_machines<'a>(
     add_machines(alloc, list, types, &ports, &types.machines)
 }
 
-fn add_symbols(
-    alloc: Global,
-    symbols: &mut Symbols,
-    types: &TypeNumbers<'_>,
-) -> Result<(), NoMemory>
-    requires { AreNumbered types.now }
-    ensures { OnOk result (AddSymbols (trees_of types.now) symbols.old symbols.new) }
-{
-    add_all_enumerations(alloc, &mut symbols.enumerations, types)?;
-    add_all_structures(alloc, &mut symbols.structures, types)?;
-    add_all_machines(alloc, &mut symbols.machines, types)?;
-    Ok(())
-}
-
 fn symbols_with(alloc: Global, types: &TypeNumbers<'_>) -> Result<Symbols, NoMemory>
     requires { AreNumbered types.now }
     ensures { IfOk result (λ s. s ≡ symbols_of (trees_of types.now)) }
@@ -71,7 +56,9 @@ fn symbols_with(alloc: Global, types: &TypeNumbers<'_>) -> Result<Symbols, NoMem
         structures: Seq::new(alloc),
         machines: Seq::new(alloc),
     };
-    add_symbols(alloc, &mut symbols, types)?;
+    add_all_enumerations(alloc, &mut symbols.enumerations, types)?;
+    add_all_structures(alloc, &mut symbols.structures, types)?;
+    add_all_machines(alloc, &mut symbols.machines, types)?;
     Ok(symbols)
 }
 

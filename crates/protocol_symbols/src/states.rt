@@ -1,11 +1,10 @@
 //! The states and events of a machine.
-ghost use Rattle.std.specs.Prelude.{◌≡◌, ◌++◌, IfOk, OnOk, find, map, position};
+ghost use Rattle.std.specs.Prelude.{◌≡◌, ◌++◌, IfOk, OnOk, map, position};
 ghost use Rattle.std.specs.Option.{option_copied, option_map};
 ghost use Rattle.std.specs.Str.{bytes_eq};
 ghost use Rattle.slicc_ast.specs.declared.tree.declaration.State.{State as StateRecord};
-ghost use Rattle.slicc_plan.specs.Declarations.{enumeration, machine_declarations};
+ghost use Rattle.slicc_plan.specs.Declarations.{enumeration};
 ghost use Rattle.slicc_plan.specs.Declarations.{states as states_declaration};
-ghost use Rattle.slicc_plan.specs.Limits.{is_events, is_states};
 ghost use Rattle.slicc_plan.specs.SymbolsOfMachines.{number_of_found, permission_number, permissions_found};
 ghost use Rattle.built_ins.specs.Types.{texts_of};
 ghost use Rattle.type_numbers.specs.Numbered.{AreNumbered, trees_of};
@@ -13,13 +12,13 @@ ghost use Rattle.type_numbers.specs.Numbered.{AreNumbered, trees_of};
 use crate::names::place_named;
 use built_ins::fixed_members;
 use declared_types::{KnownType, Scope};
-use machine_table::{events, states};
 use ruby_base::{NoMemory, Seq};
 use slicc_ast::tree::{Enumeration, Machine, State, States};
 use slicc_plan::BuiltInType;
 use type_numbers::{TypeNumbers, declared_number, kept_or};
 
-fn states_found<'a>(types: &TypeNumbers<'a>, m: &'a Machine, s: Option<&'a States>) -> u16
+/// The number of these states of a machine among the enumerations.
+pub fn states_number<'a>(types: &TypeNumbers<'a>, m: &'a Machine, s: Option<&'a States>) -> u16
     requires { AreNumbered types.now }
     ensures { result ≡ number_of_found (trees_of types.now) m.now (option_map states_declaration (option_copied s.entry)) }
 {
@@ -31,15 +30,8 @@ fn states_found<'a>(types: &TypeNumbers<'a>, m: &'a Machine, s: Option<&'a State
     }
 }
 
-/// The number of a machine's states among the enumerations.
-pub fn states_number<'a>(types: &TypeNumbers<'a>, m: &'a Machine) -> u16
-    requires { AreNumbered types.now }
-    ensures { result ≡ number_of_found (trees_of types.now) m.now (find is_states (machine_declarations m.now)) }
-{
-    states_found(types, m, states(m))
-}
-
-fn events_found<'a>(types: &TypeNumbers<'a>, m: &'a Machine, e: Option<&'a Enumeration>) -> u16
+/// The number of these events of a machine among the enumerations.
+pub fn events_number<'a>(types: &TypeNumbers<'a>, m: &'a Machine, e: Option<&'a Enumeration>) -> u16
     requires { AreNumbered types.now }
     ensures { result ≡ number_of_found (trees_of types.now) m.now (option_map enumeration (option_copied e.entry)) }
 {
@@ -49,14 +41,6 @@ fn events_found<'a>(types: &TypeNumbers<'a>, m: &'a Machine, e: Option<&'a Enume
             declared_number(types, KnownType::Enumeration(Scope::Within(m), e)).unwrap_or(65535)
         }
     }
-}
-
-/// The number of a machine's events among the enumerations.
-pub fn events_number<'a>(types: &TypeNumbers<'a>, m: &'a Machine) -> u16
-    requires { AreNumbered types.now }
-    ensures { result ≡ number_of_found (trees_of types.now) m.now (find is_events (machine_declarations m.now)) }
-{
-    events_found(types, m, events(m))
 }
 
 fn number_among(names: &[&str], text: &[u8]) -> Option<usize>
@@ -83,18 +67,12 @@ fn add_permissions_of(list: &mut Seq<u16>, members: &[State]) -> Result<(), NoMe
     Ok(())
 }
 
-fn add_permissions_found(list: &mut Seq<u16>, s: Option<&States>) -> Result<(), NoMemory>
+/// Adds the numbers of the permissions of a machine's states.
+pub fn add_permissions(list: &mut Seq<u16>, s: Option<&States>) -> Result<(), NoMemory>
     ensures { OnOk result (list.new ≡ list.old ++ permissions_found (option_map states_declaration (option_copied s.entry))) }
 {
     match s {
         None => Ok(()),
         Some(s) => add_permissions_of(list, &s.members),
     }
-}
-
-/// Adds the numbers of the permissions of a machine's states.
-pub fn add_permissions(list: &mut Seq<u16>, m: &Machine) -> Result<(), NoMemory>
-    ensures { OnOk result (list.new ≡ list.old ++ permissions_found (find is_states (machine_declarations m.now))) }
-{
-    add_permissions_found(list, states(m))
 }

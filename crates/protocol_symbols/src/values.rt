@@ -1,9 +1,8 @@
 //! The parameters and objects of a machine that are values.
-ghost use Rattle.std.specs.Prelude.{◌≡◌, ◌++◌, IfOk, None, OnOk, neg_ℤ, option_and_then};
+ghost use Rattle.std.specs.Prelude.{◌≡◌, ◌++◌, IfOk, None, OnOk, neg_ℤ};
 ghost use Rattle.std.specs.Option.{option_copied, option_map};
 ghost use Rattle.ruby_value.specs.declared.value.Value.TheVariants as value;
 ghost use Rattle.slicc_plan.specs.MachineValues.{literal_value, value_of_kind, value_of_type, written_value};
-ghost use Rattle.slicc_plan.specs.TypeNumbers.{plain_kind};
 ghost use Rattle.declared_types.specs.Lent.{type_of};
 ghost use Rattle.type_numbers.specs.Numbered.{AreNumbered, trees_of};
 
@@ -110,16 +109,6 @@ fn add_of_kind(
     })
 }
 
-fn kind_of(types: &TypeNumbers<'_>, t: Option<KnownType<'_>>) -> Option<Kind>
-    requires { AreNumbered types.now }
-    ensures { result ≡ option_and_then (plain_kind (trees_of types.now)) (option_map type_of t.entry) }
-{
-    match t {
-        None => None,
-        Some(t) => plain_kind(types, t),
-    }
-}
-
 /// Adds a parameter or an object of this name and type, if it is a value.
 pub fn add_value<'a>(
     alloc: Global,
@@ -132,6 +121,8 @@ pub fn add_value<'a>(
     requires { AreNumbered types.now }
     ensures { OnOk result (list.new ≡ list.old ++ value_of_type (trees_of types.now) name.now (option_map type_of t.entry) (option_copied literal.entry)) }
 {
-    let kind = kind_of(types, t);
-    add_of_kind(alloc, list, name, t, literal, kind)
+    match t {
+        None => Ok(()),
+        Some(known) => add_of_kind(alloc, list, name, t, literal, plain_kind(types, known)),
+    }
 }

@@ -3,7 +3,8 @@
 //! the program is run in, so that the calls in `data/calls` and their answers in `stdout` are rows of a table: each says what the whole
 //! program makes of a protocol, and a further row is a file and its lines, and no proof. After them come the calls of the file `faults`, over
 //! libraries and sinks in memory; the runs of the file `worlds/rows`, whose requests are those of a script; the rows of parts of the program,
-//! by `part_rows`; and the scans of small protocols, by `scan_rows`.
+//! by `part_rows`; of what is read in texts, of the parts of controllers, of what comes in and goes out and of command lines, by
+//! `reading_rows`, `controller_rows` and `outside_rows`; and the scans of small protocols, by `scan_rows`.
 //!
 //! With words, it makes one run of its own, which is for `bench/world`.
 #![tactic(auto)]
@@ -14,8 +15,11 @@ mod row;
 mod table;
 mod worlds;
 
+use controller_rows::add_controllers;
 use lists::{List, add_list};
+use outside_rows::{add_options, add_outside};
 use part_rows::add_parts;
+use reading_rows::add_readings;
 use row_text::RowText;
 use ruby_options::words;
 use ruby_outside::{FileLibrary, Library, Sink, StdSink, put};
@@ -38,12 +42,20 @@ fn write_calls<R: Threads + Wait + Sync, L: Library, S: Sink>(
     put(sink, rows.bytes()) && rows.is_whole()
 }
 
-// The same, of the rows of parts and of scans.
+// The same, of the rows of the libraries of rows.
 fn write_parts<L: Library, S: Sink>(alloc: Global, library: &mut L, sink: &mut S) -> bool {
     let mut rows = RowText::new(alloc);
     add_parts(&mut rows, library);
+    rows.add("# readings\n");
+    add_readings(&mut rows, library);
+    rows.add("# controllers\n");
+    add_controllers(&mut rows);
+    rows.add("# outside\n");
+    add_outside(&mut rows, library);
+    rows.add("# options\n");
+    add_options(&mut rows, library);
     rows.add("# scans\n");
-    add_scans(&mut rows);
+    add_scans(&mut rows, library);
     put(sink, rows.bytes()) && rows.is_whole()
 }
 

@@ -5,7 +5,6 @@ use std::alloc::Global;
 use std::marker::Model;
 
 /// A value on the heap. A contract sees it as that value, whatever address it has.
-#[derive(Debug)]
 pub struct Boxed<T> {
     inner: Box<T>,
 }

@@ -12,7 +12,6 @@ use std::ops::{DerefSlice, Index};
 use std::{mem, slice};
 
 /// A list of values on the heap. A contract sees it as that list, whatever room and address it has.
-#[derive(Debug)]
 pub struct Seq<T> {
     items: Vec<T>,
 }

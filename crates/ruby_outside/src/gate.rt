@@ -1,5 +1,5 @@
 /// Where a worker stands as it passes a gate.
-#[derive(Clone, Copy, Debug, PartialEq, Eq)]
+#[derive(Clone, Copy)]
 pub enum Moment {
     /// It has taken what it works on.
     Take,
@@ -17,7 +17,7 @@ pub trait Gate {
 }
 
 /// The gate that holds nobody up.
-#[derive(Clone, Copy, Debug, PartialEq, Eq)]
+#[derive(Clone, Copy)]
 pub struct OpenGate;
 
 impl Gate for OpenGate {

@@ -5,7 +5,7 @@ ghost use Rattle.ruby_outside.specs.declared.library.Got.{Got as GotRecord};
 use ruby_base::Text;
 
 /// What a library answers to a read.
-#[derive(Debug, Drop)]
+#[derive(Drop)]
 pub enum Got {
     /// All the bytes of the file.
     Bytes(Text),

@@ -12,7 +12,7 @@ use std::marker::Model;
 
 /// A library in memory that fails at planned reads. It tells its files. A contract sees its files and its plan, with
 /// two counts that stand still at 2^64 - 1.
-#[derive(Debug, Drop)]
+#[derive(Drop)]
 pub struct MemLibrary {
     alloc: Global,
     files: Seq<(Text, Text)>,
@@ -63,7 +63,7 @@ impl Library for MemLibrary {
 
 /// A library in memory that never fails, so its count of faults is always 0. It tells its files. A contract sees it
 /// as its files, names with their bytes, of which the first with a name counts.
-#[derive(Debug, Drop)]
+#[derive(Drop)]
 pub struct SureLibrary {
     alloc: Global,
     files: Seq<(Text, Text)>,

@@ -13,7 +13,7 @@ use std::marker::Model;
 /// A sink in memory that fails at planned writes, takes a bounded number of bytes at a time, and has bounded room. It
 /// tells its bytes. A contract sees its bytes, its two bounds in bytes and its plan, with two counts that
 /// stand still at 2^64 - 1.
-#[derive(Debug, Drop)]
+#[derive(Drop)]
 pub struct MemSink {
     held: Vec<u8>,
     most: u64,
@@ -101,7 +101,7 @@ impl Sink for MemSink {
 
 /// A sink that takes each piece whole and keeps none of its bytes. It tells nothing and never fails, so its count of
 /// faults is always 0.
-#[derive(Clone, Copy, Debug, PartialEq, Eq)]
+#[derive(Clone, Copy)]
 pub struct SureSink;
 
 impl SureSink {

@@ -6,7 +6,7 @@ use std::marker::Model;
 
 /// At which calls a library or a sink in memory is to fail, with the counts of its calls and its faults. Each count
 /// stands still at 2^64 - 1.
-#[derive(Debug, Drop)]
+#[derive(Drop)]
 pub struct Plan {
     fails: Seq<u64>,
     calls: u64,

@@ -4,7 +4,7 @@ ghost use Rattle.ruby_outside.specs.Sink.{IsLawfulWrite, IsWritten};
 ghost use Rattle.ruby_outside.specs.declared.sink.Wrote.{Wrote as WroteRecord};
 
 /// What a sink answers to a write.
-#[derive(Clone, Copy, Debug, PartialEq, Eq)]
+#[derive(Clone, Copy)]
 pub enum Wrote {
     /// It took this many bytes from the start of the piece.
     Took(u64),

@@ -20,7 +20,7 @@ use ruby_base::Text;
 use ruby_value::BufferPlace;
 
 /// What a name of a value, a receiver or a port stands for in a machine: one of its lists, and the number there.
-#[derive(Clone, Copy, Debug, PartialEq, Eq)]
+#[derive(Clone, Copy)]
 pub enum Named {
     Table(u16),
     Value(u16),

@@ -7,7 +7,7 @@ use ruby_base::{NoMemory, Seq};
 use std::alloc::Global;
 
 /// An argument of `getState`, `setState` or `setAccessPermission`.
-#[derive(Clone, Copy, Debug, PartialEq, Eq)]
+#[derive(Clone, Copy)]
 pub enum StateArgument {
     /// A reference to the line's TBE.
     Tbe,

@@ -35,7 +35,7 @@ pub struct Answer {
 }
 
 /// Why a request wasn't finished.
-#[derive(Clone, Copy, Debug, PartialEq, Eq)]
+#[derive(Clone, Copy, PartialEq, Eq)]
 pub enum BackFault {
     /// The line has no outstanding request.
     NoRequest,

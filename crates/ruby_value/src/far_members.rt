@@ -9,7 +9,7 @@ use std::alloc::{AllocError, Global};
 use std::marker::Model;
 
 /// A set of numbers, as the ascending list of its members. A look-up costs about the logarithm of how many there are.
-#[derive(Debug, Drop)]
+#[derive(Drop)]
 pub(crate) struct FarMembers {
     members: Vec<u32>,
 }

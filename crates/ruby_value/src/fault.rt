@@ -5,7 +5,7 @@ use std::alloc::Global;
 
 /// Why a transition can't go on. The words are those that a run is to print, and they, and which case has which, are this
 /// project's own: gem5 ends at most of these cases with an assertion or a panic, and leaves the rest to C++.
-#[derive(Debug, Drop)]
+#[derive(Drop)]
 pub enum Fault {
     /// No transition is written for the state and the event.
     Invalid,
@@ -63,7 +63,7 @@ impl Fault {
 
 /// What a driver finds at its turn, which is this project's own. Lines are line numbers, the bytes of a line are
 /// counted from 0, and so are cycles.
-#[derive(Clone, Copy, Debug, PartialEq, Eq)]
+#[derive(Clone, Copy)]
 pub enum Finding {
     /// A load answered another byte than the one that was stored last.
     Incoherent {

@@ -7,7 +7,7 @@ use std::alloc::AllocError;
 
 /// The number of a message copy: the actor that sent it, and how many copies that actor had sent before. Numbers
 /// are ordered by their sender and then by their count, which is this project's own rule.
-#[derive(Clone, Copy, Debug, PartialEq, Eq, PartialOrd, Ord, Hash)]
+#[derive(Clone, Copy, PartialEq, Eq, PartialOrd)]
 pub struct MsgNo {
     pub sender: u32,
     pub count: u64,
@@ -59,7 +59,7 @@ pub struct Delivery<M> {
 }
 
 /// That a copy of a message was sent.
-#[derive(Clone, Copy, Debug, PartialEq, Eq)]
+#[derive(Clone, Copy)]
 pub struct Sent {
     pub number: MsgNo,
     /// The controller that gets the copy, which is the sender where the buffer is one of its own.

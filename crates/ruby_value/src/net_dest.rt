@@ -13,7 +13,6 @@ use std::marker::Model;
 /// sees it as the ascending list of their numbers, in which none comes twice; that they are numbered over all
 /// machines is this project's own rule. Those below 64 are kept in one word, in which a call takes one step, and the
 /// others in a list, in which a look-up costs about the logarithm of how many there are.
-#[derive(Debug)]
 pub struct NetDest {
     near: u64,
     far: FarMembers,

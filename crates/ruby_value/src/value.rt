@@ -7,21 +7,21 @@ use crate::{Kind, NetDest, NoMemory};
 use std::alloc::{AllocError, Global};
 
 /// The 64 bytes of a line.
-#[derive(Clone, Copy, Debug, PartialEq, Eq)]
+#[derive(Clone, Copy, PartialEq, Eq)]
 pub struct Block {
     pub bytes: [u8; 64],
 }
 
 /// Names a line of one of a controller's tables: the table's number within its machine, and the line number,
 /// which is the byte address divided by 64. gem5 has a pointer to the entry in its place.
-#[derive(Clone, Copy, Debug, PartialEq, Eq)]
+#[derive(Clone, Copy, PartialEq, Eq)]
 pub struct Ref {
     pub table: u16,
     pub line: u64,
 }
 
 /// A value of a local, a parameter, or a field of a message or of a table's line. The types are SLICC's.
-#[derive(Debug, Drop, PartialEq, Eq)]
+#[derive(Drop, PartialEq, Eq)]
 pub enum Value {
     Bool(bool),
     /// `int`, `Cycles` and `Tick`.

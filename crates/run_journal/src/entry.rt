@@ -5,7 +5,7 @@ use crate::{Fault, Finding, MsgNo, NoMemory, Sent, Seq, Verdict};
 use std::alloc::Global;
 
 /// What a fired transition was. States and events are their numbers in the controller's machine.
-#[derive(Clone, Copy, Debug, PartialEq, Eq)]
+#[derive(Clone, Copy)]
 pub struct FireNote {
     /// The byte address that the transition was triggered for.
     pub address: u64,
@@ -19,7 +19,7 @@ pub struct FireNote {
 /// Where a scan stopped, as far as it is known: the byte address, and state and event by their numbers in the
 /// controller's machine. What isn't known is `None`: all three before an event is triggered, and the state where
 /// `getState` itself stopped.
-#[derive(Debug, Drop)]
+#[derive(Drop)]
 pub struct StopAt {
     pub address: Option<u64>,
     pub state: Option<u16>,
@@ -42,7 +42,7 @@ impl StopAt {
 }
 
 /// How a wake-up of a controller ended.
-#[derive(Debug, Drop)]
+#[derive(Drop)]
 pub enum End {
     /// No port fired.
     Idle,
@@ -68,7 +68,7 @@ impl End {
 /// An entry of a run's journal. The journal has one for each event but `Take` and `Release`, in their order. Cycles
 /// and controllers are counted from 0. The lists of a transition stand in the order of its acts. The journal is this
 /// project's own.
-#[derive(Debug, Drop)]
+#[derive(Drop)]
 pub enum Entry {
     /// A controller fired a transition.
     Fired {

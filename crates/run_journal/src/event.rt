@@ -1,7 +1,7 @@
 /// A step of a run. A run's history is the list of its events, and what a world becomes follows from that list. A
 /// worker is the number of a thread, and a controller is its actor number; both are counted from 0. gem5 has one queue
 /// of events in their place; these are this project's own.
-#[derive(Clone, Copy, Debug, PartialEq, Eq)]
+#[derive(Clone, Copy)]
 pub enum Event {
     /// The worker takes a controller that is due and that nobody holds.
     Take { worker: u32, controller: u32 },

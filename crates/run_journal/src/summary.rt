@@ -2,7 +2,7 @@ use ruby_value::Ascends;
 
 /// The next state of the last transition that a controller fired for an address. Controllers are counted from 0, the address is a byte
 /// address, and the state is its number in the controller's machine.
-#[derive(Clone, Copy, Debug, PartialEq, Eq)]
+#[derive(Clone, Copy)]
 pub struct Final {
     pub controller: u32,
     pub address: u64,
@@ -22,7 +22,7 @@ impl Ascends for Final {
 
 /// Where the message copies of a run have gone: how many were sent, requests of the driver included, and how many of
 /// them are in each place. Each copy that was sent is in one place. Nothing in gem5 counts them so.
-#[derive(Clone, Copy, Debug, PartialEq, Eq)]
+#[derive(Clone, Copy)]
 pub struct Account {
     pub sent: u64,
     /// Removed from their buffer by `dequeue`.
@@ -36,7 +36,7 @@ pub struct Account {
 }
 
 /// How many events of each kind a worker has in a history. Workers are counted from 0.
-#[derive(Clone, Copy, Debug, PartialEq, Eq)]
+#[derive(Clone, Copy)]
 pub struct Tally {
     pub worker: u32,
     pub takes: u64,

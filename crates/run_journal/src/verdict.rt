@@ -1,7 +1,7 @@
 /// How a run ended, one variant for each verdict that a run is to print. A run ends at a turn: `Stop` is tried
 /// first, then what the driver found, which is one of the next three, and then the others in their order. The cycle of
 /// each is that of the turn, counted from 0. The verdicts are this project's own.
-#[derive(Clone, Copy, Debug, PartialEq, Eq)]
+#[derive(Clone, Copy)]
 pub enum Verdict {
     /// A controller has stopped; of several, the one of least number.
     Stop {

@@ -1,2 +1,5 @@
 pub mod Arriving
 pub mod Going
+pub mod Counting
+pub mod Issuing
+pub mod Taking

@@ -1,8 +1,7 @@
-// The plans of protocols, which are read and let go here alone: how the trees of a plan go is proved in each crate that lets some go.
+// The plans of protocols.
 use ruby_base::{NoMemory, Text};
 use ruby_outside::Library;
 use slicc_front::{Front, front};
-use slicc_interpreter::Interpreted;
 use slicc_plan::Plan;
 use std::alloc::Global;
 
@@ -21,14 +20,4 @@ pub fn plan_of<L: Library>(
             Ok(None)
         }
     }
-}
-
-/// Lets a plan go.
-pub fn let_go(plan: Plan) {
-    drop(plan);
-}
-
-/// Lets a protocol go, with its plan.
-pub fn let_protocol_go(protocol: Interpreted) {
-    drop(protocol);
 }

@@ -5,11 +5,11 @@ ghost use Rattle.ctl_store.specs.Drafted.{view_of};
 ghost use Rattle.protocol_meaning.specs.Rounds.{StaysIfFired};
 ghost use Rattle.sample_stores.specs.Going.{GoesOn, IsEndOf};
 
+use body_meaning::RoundEnd;
 use ctl_face::{NoMemory, Routes};
 use ctl_store::{Draft, Outcome, Store};
 use protocol_meaning::{Protocol, fired_rounds_stay};
 use run_journal::StopAt;
-use scan_meaning::RoundEnd;
 use slicc_interpreter::Interpreted;
 use std::alloc::Global;
 

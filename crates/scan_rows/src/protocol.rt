@@ -1,5 +1,5 @@
 // The protocols of the rows.
-use crate::row::{AFTER_ACTION, AFTER_PORT, BEFORE_ACTION, HEAD, Row, TAIL};
+use crate::list::{number, part};
 use row_text::RowText;
 use ruby_base::{NoMemory, Seq, Text};
 use ruby_outside::SureLibrary;
@@ -7,21 +7,29 @@ use sample_stores::plan_of;
 use slicc_plan::Plan;
 use std::alloc::Global;
 
-/// Adds the parts of a text.
-pub(crate) fn add_all(text: &mut RowText, parts: &[&str]) {
-    for part in parts {
-        text.add(part);
+// Adds a line of a frame: where it begins with `@WORD`, what a row has for that word, so many times as it says of an action, and else what
+// stands beside the word.
+fn add_line(text: &mut RowText, line: &str, row: &str) {
+    let Some(place) = line.strip_prefix("@") else {
+        return text.add(line);
+    };
+    let (word, usual) = place.split_once(' ').unwrap_or((place, ""));
+    let times = if word == "action" {
+        number(row, "times").unwrap_or(1)
+    } else {
+        1
+    };
+    for _ in 0..times {
+        text.add(part(row, word).unwrap_or(usual));
     }
 }
 
-/// Adds the text of the protocol of a row.
-pub(crate) fn add_protocol(text: &mut RowText, row: &Row) {
-    let before = [HEAD, row.port, AFTER_PORT, row.declarations, BEFORE_ACTION];
-    add_all(text, &before);
-    for _ in 0..row.times {
-        text.add(row.action);
+/// Adds the text of the protocol of a row, in a frame.
+pub(crate) fn add_protocol(text: &mut RowText, frame: &str, row: &str) {
+    for line in frame.lines() {
+        add_line(text, line, row);
+        text.add("\n");
     }
-    add_all(text, &[AFTER_ACTION, row.transitions, TAIL]);
 }
 
 // A library with one file, which has this text.

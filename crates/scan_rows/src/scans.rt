@@ -5,14 +5,12 @@ ghost use Rattle.sample_stores.specs.Going.{GoesOn};
 use crate::after::add_after;
 use crate::before::{Before, make_ready};
 use crate::begun::{is_begun, queue, routes, store_of};
-use crate::protocol::{add_all, add_protocol, plan_by};
-use crate::row::Row;
+use crate::protocol::{add_protocol, plan_by};
 use crate::shown::add_end;
-use crate::ticker::{TICKER, TickerRow};
 use ctl_face::{NoMemory, Routes};
 use ctl_store::Store;
 use row_text::RowText;
-use sample_stores::{begin, let_protocol_go, scan as scan_store};
+use sample_stores::{begin, scan as scan_store};
 use slicc_interpreter::Interpreted;
 use slicc_plan::Plan;
 
@@ -24,13 +22,13 @@ const SEED: u64 = 42;
 /// A scan: its name, the address of the request, the cycle, what is done before it, how many transitions have fired in the cycle, and
 /// the buffer that takes the messages of network 0.
 #[derive(Clone, Copy)]
-struct Scan<'a> {
-    name: &'a str,
-    address: u64,
-    cycle: u64,
-    before: Before,
-    fired: u64,
-    receiving: Option<u16>,
+pub(crate) struct Scan<'a> {
+    pub(crate) name: &'a str,
+    pub(crate) address: u64,
+    pub(crate) cycle: u64,
+    pub(crate) before: Before,
+    pub(crate) fired: u64,
+    pub(crate) receiving: Option<u16>,
 }
 
 // Adds the line of a scan of a store's controller, whose queue of requests has this number.
@@ -65,7 +63,7 @@ fn add_on(
 }
 
 // Adds the line of a scan of the controller of a protocol.
-fn add_scan(rows: &mut RowText, scan: &Scan<'_>, plan: Plan, routes: &Routes) {
+fn add_for(rows: &mut RowText, scan: &Scan<'_>, plan: Plan, routes: &Routes) {
     let queue = queue(plan.symbols());
     let store = store_of(rows.alloc(), &plan, routes, scan.cycle);
     let protocol = Interpreted::new(plan);
@@ -76,7 +74,7 @@ fn add_scan(rows: &mut RowText, scan: &Scan<'_>, plan: Plan, routes: &Routes) {
         }
         Ok(None) | Err(NoMemory) => rows.lose(),
     }
-    let_protocol_go(protocol);
+    drop(protocol);
 }
 
 // Adds the line of a scan by these routes of the protocol that has this text.
@@ -85,7 +83,7 @@ fn add_by(rows: &mut RowText, scan: &Scan<'_>, protocol: &RowText, routes: &Rout
         return rows.lose();
     }
     match plan_by(rows.alloc(), protocol.bytes()) {
-        Ok(Some(plan)) => add_scan(rows, scan, plan, routes),
+        Ok(Some(plan)) => add_for(rows, scan, plan, routes),
         Ok(None) | Err(NoMemory) => rows.lose(),
     }
 }
@@ -100,34 +98,10 @@ fn add_line(rows: &mut RowText, scan: &Scan<'_>, protocol: &RowText) {
     }
 }
 
-/// Adds the line of the scan of a row in cycle 10, with a request for address 64.
-pub(crate) fn add_row(rows: &mut RowText, row: &Row) {
-    let scan = Scan {
-        name: row.name,
-        address: 64,
-        cycle: 10,
-        before: Before::Nothing,
-        fired: 0,
-        receiving: Some(2),
-    };
+/// Adds the line of a scan of the protocol that a row has in a frame.
+pub(crate) fn add_scan(rows: &mut RowText, scan: &Scan<'_>, frame: &str, row: &str) {
     let mut protocol = RowText::new(rows.alloc());
-    add_protocol(&mut protocol, row);
-    add_line(rows, &scan, &protocol);
-    drop(protocol);
-}
-
-/// Adds the line of a scan of the ticker.
-pub(crate) fn add_tick(rows: &mut RowText, row: &TickerRow) {
-    let scan = Scan {
-        name: row.name,
-        address: 0,
-        cycle: 1,
-        before: row.before,
-        fired: row.fired,
-        receiving: None,
-    };
-    let mut protocol = RowText::new(rows.alloc());
-    add_all(&mut protocol, &[TICKER, row.end]);
-    add_line(rows, &scan, &protocol);
+    add_protocol(&mut protocol, frame, row);
+    add_line(rows, scan, &protocol);
     drop(protocol);
 }

@@ -1,9 +1,10 @@
 // How a scan ended, what it did to messages, and values, as text.
 use ctl_store::Outcome;
 use row_text::RowText;
-use ruby_value::{Block, Fault, MsgNo, NetDest, Sent, Value};
+use ruby_value::{Block, MsgNo, NetDest, Sent, Value};
 use run_journal::{FireNote, StopAt};
 use sample_stores::ScanEnd;
+use trace_print::fault_word;
 
 /// The name of a state.
 pub(crate) fn state_name(state: u16) -> &'static str {
@@ -61,25 +62,6 @@ fn add_acts(rows: &mut RowText, outcome: &Outcome) {
     add_sent(rows, outcome.sent());
 }
 
-fn word_of(fault: &Fault) -> &'static str {
-    match fault {
-        Fault::Invalid => "invalid",
-        Fault::Assert => "assert",
-        Fault::Error(_) => "error",
-        Fault::Overflow => "overflow",
-        Fault::Latency => "latency",
-        Fault::Reference => "reference",
-        Fault::Front => "front",
-        Fault::Full => "full",
-        Fault::Present => "present",
-        Fault::Absent => "absent",
-        Fault::Probe => "probe",
-        Fault::Callback => "callback",
-        Fault::Route => "route",
-        Fault::Copies => "copies",
-    }
-}
-
 // Where a scan stopped: what is known of its transition, and `-` for what isn't.
 fn add_stop(rows: &mut RowText, at: &StopAt) {
     match at.address {
@@ -97,7 +79,7 @@ fn add_stop(rows: &mut RowText, at: &StopAt) {
         None => "-",
     });
     rows.add(" ");
-    rows.add(word_of(&at.fault));
+    rows.add_bytes(fault_word(&at.fault));
 }
 
 /// Adds the name of a scan, and how it ended.

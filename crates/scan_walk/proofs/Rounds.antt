@@ -4,11 +4,11 @@ use Rattle.ruby_base.specs.declared.memory.NoMemory.{NoMemory}
 use Rattle.acts.specs.DoesAs.{itself}
 use Rattle.ctl_face.specs.LocalView.{LocalView}
 use Rattle.body_meaning.specs.Reading.{Reading}
-use Rattle.scan_meaning.specs.declared.round.RoundEnd.{RoundEnd}
-use Rattle.scan_meaning.specs.declared.tried.Tried.{Tried}
-use Rattle.scan_meaning.specs.declared.tried.Tried.TheVariants.{Waits, Fires}
-use Rattle.scan_meaning.specs.Round.{IsRoundOf}
-use Rattle.scan_meaning.specs.Scan.{ports_tried, scan}
+use Rattle.body_meaning.specs.declared.round.RoundEnd.{RoundEnd}
+use Rattle.body_meaning.specs.declared.tried.Tried.{Tried}
+use Rattle.body_meaning.specs.declared.tried.Tried.TheVariants.{Waits, Fires}
+use Rattle.body_meaning.specs.Round.{IsRoundOf}
+use Rattle.body_meaning.specs.Scan.{ports_tried, scan}
 use Rattle.scan_walk.specs.declared.halt.Halt.{Halt}
 use Rattle.scan_walk.specs.declared.halt.Halt.TheVariants as halt
 use Rattle.scan_walk.specs.TriesAs.{IsEndOf, TriesAs}

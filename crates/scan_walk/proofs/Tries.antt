@@ -9,8 +9,8 @@ use Rattle.ctl_face.specs.LocalView.{LocalView}
 use Rattle.acts.specs.Acting.{Acting, ends as ends_body, stops as stops_body, acts as acts_in, follow, run}
 use Rattle.acts.specs.DoesAs.{DoesAs}
 use Rattle.acts.specs.Done.{Done, does}
-use Rattle.scan_meaning.specs.declared.tried.Known.{Known}
-use Rattle.scan_meaning.specs.Trying.{Pair, Trying, ends, stops, acts, looks_up, follow_scan, run_scan, stop_at, then_try, with_known}
+use Rattle.body_meaning.specs.declared.tried.Known.{Known}
+use Rattle.body_meaning.specs.Trying.{Pair, Trying, ends, stops, acts, looks_up, follow_scan, run_scan, stop_at, then_try, with_known}
 use Rattle.scan_walk.specs.declared.halt.Halt.{Halt}
 use Rattle.scan_walk.specs.declared.halt.Halt.TheVariants as halt
 use Rattle.scan_walk.specs.TriesAs.{TriesAs, told}
@@ -74,17 +74,13 @@ module _ {A R : Type 0} (means : R → A) where
   unfolding TriesAs run_scan
   tries_stops at stop v w is = ap (λ (x : StopAt). Err x) (sym is)
 
-  pub tries_without_memory : (p : Trying A) (v w : LocalView) → TriesAs means p (Err halt.NoMemory) v w
-  unfolding TriesAs
-  tries_without_memory p v w = tt
-
   pub looked_up_tries : (pair : Pair) (p : Trying A) (result : Result R Halt) (v w : LocalView) → TriesAs means p result v w → TriesAs means (looks_up pair p) result v w
   unfolding TriesAs run_scan
   looked_up_tries pair p (Ok r) v w rest = rest
   looked_up_tries pair p (Err (halt.Stop at)) v w rest = rest
   looked_up_tries pair p (Err halt.NoMemory) v w rest = tt
 
-  pub told_tries : (k : Known) (p : Acting A) (r : Result R Trouble) (v w : LocalView) → DoesAs means p r v w → TriesAs means (with_known k p) (told k r) v w
+  told_tries : (k : Known) (p : Acting A) (r : Result R Trouble) (v w : LocalView) → DoesAs means p r v w → TriesAs means (with_known k p) (told k r) v w
   unfolding TriesAs DoesAs
   told_tries k p (Ok r) v w done = scan-body k p v ∙ ap (with_stop k) done
   told_tries k p (Err (trouble.Fault f)) v w done = scan-body k p v ∙ ap (with_stop k) done
@@ -94,5 +90,3 @@ module _ {A R : Type 0} (means : R → A) where
   pub told_tries_as : (k : Known) (p : Acting A) (r : Result R Trouble) (result : Result R Halt) (v w : LocalView) → result ≡ told k r → DoesAs means p r v w
       → TriesAs means (with_known k p) result v w
   told_tries_as k p r result v w is done = rw is (told_tries k p r v w done)
-
-pub ruleset try_steps = (then_tries, then_halts, tries_ends, tries_stops, tries_without_memory, looked_up_tries, told_tries_as)

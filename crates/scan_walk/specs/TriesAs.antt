@@ -6,12 +6,12 @@ use Rattle.ruby_base.specs.declared.memory.NoMemory.{NoMemory}
 use Rattle.ctl_face.specs.declared.trouble.Trouble.{Trouble}
 use Rattle.ctl_face.specs.declared.trouble.Trouble.TheVariants as trouble
 use Rattle.ctl_face.specs.LocalView.{LocalView}
-use Rattle.scan_meaning.specs.declared.round.RoundEnd.{RoundEnd}
-use Rattle.scan_meaning.specs.declared.round.RoundEnd.TheVariants as round
-use Rattle.scan_meaning.specs.declared.tried.Known.{Known}
-use Rattle.scan_meaning.specs.declared.tried.Tried.{Tried}
-use Rattle.scan_meaning.specs.declared.tried.Tried.TheVariants.{Waits, Fires}
-use Rattle.scan_meaning.specs.Trying.{Trying, run_scan, stop_at}
+use Rattle.body_meaning.specs.declared.round.RoundEnd.{RoundEnd}
+use Rattle.body_meaning.specs.declared.round.RoundEnd.TheVariants as round
+use Rattle.body_meaning.specs.declared.tried.Known.{Known}
+use Rattle.body_meaning.specs.declared.tried.Tried.{Tried}
+use Rattle.body_meaning.specs.declared.tried.Tried.TheVariants.{Waits, Fires}
+use Rattle.body_meaning.specs.Trying.{Trying, run_scan, stop_at}
 use Rattle.scan_walk.specs.declared.halt.Halt.{Halt}
 use Rattle.scan_walk.specs.declared.halt.Halt.TheVariants as halt
 

@@ -4,8 +4,8 @@ ghost use Rattle.acts.specs.DoesAs.{DoesAs, itself};
 ghost use Rattle.body_meaning.specs.Each.{each};
 ghost use Rattle.body_meaning.specs.Reading.{reading};
 ghost use Rattle.machine_bodies.specs.Few.{HasFew};
-ghost use Rattle.scan_meaning.specs.Actions.{need};
-ghost use Rattle.scan_meaning.specs.Transition.{action_done as action_done_is, is_among as is_among_is, is_short as is_short_is, is_stall_among as is_stall_among_is, table_short as table_short_is};
+ghost use Rattle.body_meaning.specs.Actions.{need};
+ghost use Rattle.body_meaning.specs.Transition.{action_done as action_done_is, is_among as is_among_is, is_short as is_short_is, is_stall_among as is_stall_among_is, table_short as table_short_is};
 
 use acts::{Local, Trouble, free};
 use body_meaning::{About, Scope};
@@ -72,7 +72,8 @@ pub(crate) fn is_short<T: Local>(
     match split(tables) {
         None => Ok(false),
         Some(parts) => {
-            if table_short(s, actions, table, local)? {
+            let short = table_short(s, actions, table, local)?;
+            if short {
                 return Ok(true);
             }
             is_short(s, actions, table + 1, parts.1, local)
@@ -83,7 +84,7 @@ pub(crate) fn is_short<T: Local>(
 pub(crate) fn is_among(n: u16, numbers: &[u16]) -> bool
     ensures { result ≡ is_among_is n numbers.now }
 {
-    numbers.iter().any(|m| *m == n)
+    numbers.contains(&n)
 }
 
 // Whether the machine's action for stalls is among these.

@@ -3,8 +3,8 @@ ghost use Rattle.std.specs.Prelude.{◌≡◌};
 ghost use Rattle.scan_walk.specs.TriesAs.{told as told_of};
 
 use acts::Trouble;
+use body_meaning::Known;
 use run_journal::StopAt;
-use scan_meaning::Known;
 
 /// Why a scan wasn't done to its end.
 #[derive(Drop)]

@@ -1,6 +1,6 @@
 //! What a scan of a controller does, in code: a try of a `trigger` by the written transitions, and the in ports one after another. The
 //! bodies of actions, in ports and functions are done by `machine_bodies`.
-#![tactic(auto, using(acts::proofs::Walk::walk_steps, crate::proofs::Tries::try_steps))]
+#![tactic(auto)]
 
 mod actions;
 mod halt;

@@ -2,40 +2,20 @@
 ghost use Rattle.acts.specs.DoesAs.{itself};
 ghost use Rattle.body_meaning.specs.Reading.{reading};
 ghost use Rattle.machine_bodies.specs.Few.{HasFew};
-ghost use Rattle.scan_meaning.specs.Round.{IsRoundOf};
-ghost use Rattle.scan_meaning.specs.Scan.{after_port as after_port_is, port_done as port_done_is, port_tried as port_tried_is, ports_tried as ports_tried_is, scan as scan_is};
-ghost use Rattle.scan_meaning.specs.Trying.{nothing_known, with_known};
+ghost use Rattle.body_meaning.specs.Round.{IsRoundOf};
+ghost use Rattle.body_meaning.specs.Scan.{after_port as after_port_is, port_tried as port_tried_is, ports_tried as ports_tried_is, scan as scan_is};
 ghost use Rattle.scan_walk.specs.TriesAs.{IsEndOf, TriesAs};
 
 use crate::actions::split;
 use crate::halt::{Halt, told};
 use crate::transition::tried;
 use acts::{Local, NoMemory};
-use body_meaning::{Flow, Scope};
+use body_meaning::{Flow, Known, RoundEnd, Scope, Tried};
 use machine_bodies::port_done;
 use ruby_symbols::PortSymbol;
-use scan_meaning::{Known, RoundEnd, Tried};
 use std::alloc::Global;
 
-// What is known of a transition is nothing yet.
-fn port_known<T: Local>(
-    alloc: Global,
-    s: Scope<'_>,
-    p: &PortSymbol,
-    local: &mut T,
-) -> Result<Flow, Halt>
-    requires few { HasFew s.machine.now }
-    ensures { TriesAs itself (with_known nothing_known (port_done_is (reading s.entry) p.now)) result
-        (T.view local.old) (T.view local.new) }
-{
-    let nothing = Known {
-        address: None,
-        state: None,
-        event: None,
-    };
-    told(nothing, port_done(alloc, s, p, local))
-}
-
+#[tactic(auto, using(crate::proofs::Tries::tries_ends))]
 fn after_port<T: Local>(
     alloc: Global,
     s: Scope<'_>,
@@ -52,6 +32,7 @@ fn after_port<T: Local>(
     }
 }
 
+// What is known of a transition while a port's body is done is nothing yet.
 fn port_tried<T: Local>(
     alloc: Global,
     s: Scope<'_>,
@@ -62,7 +43,12 @@ fn port_tried<T: Local>(
     ensures { TriesAs itself (port_tried_is (reading s.entry) p.now) result (T.view local.old)
         (T.view local.new) }
 {
-    let flow = port_known(alloc, s, p, local)?;
+    let nothing = Known {
+        address: None,
+        state: None,
+        event: None,
+    };
+    let flow = told(nothing, port_done(alloc, s, p, local))?;
     after_port(alloc, s, flow, local)
 }
 
@@ -80,8 +66,8 @@ fn ports_tried<T: Local>(
     match split(ports) {
         None => Ok(Tried::Waits),
         Some(parts) => match port_tried(alloc, s, parts.0, local)? {
-            Tried::Fires(note) => Ok(Tried::Fires(note)),
             Tried::Waits => ports_tried(alloc, s, parts.1, local),
+            Tried::Fires(note) => Ok(Tried::Fires(note)),
         },
     }
 }

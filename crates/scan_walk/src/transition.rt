@@ -4,18 +4,16 @@ ghost use Rattle.std.specs.Option.{option_copied};
 ghost use Rattle.acts.specs.DoesAs.{DoesAs, itself};
 ghost use Rattle.body_meaning.specs.Reading.{reading};
 ghost use Rattle.machine_bodies.specs.Few.{HasFew};
-ghost use Rattle.scan_meaning.specs.Transition.{about as about_is, fired as fired_is, found_tried as found_tried_is, is_for as is_for_is, known as known_is, read_state, row_tried as row_tried_is, try as try_is, waiting as waiting_is};
-ghost use Rattle.scan_meaning.specs.Trying.{with_known};
+ghost use Rattle.body_meaning.specs.Transition.{about as about_is, fired as fired_is, is_for as is_for_is, known as known_is, row_tried as row_tried_is, try as try_is, waiting as waiting_is};
 ghost use Rattle.scan_walk.specs.TriesAs.{TriesAs};
 
 use crate::actions::{actions_done, is_among, is_short, is_stall_among};
 use crate::halt::{Halt, told};
 use acts::{Fault, Local, Trouble, again};
-use body_meaning::{About, Scope, Trigger};
+use body_meaning::{About, Known, Scope, Tried, Trigger};
 use machine_bodies::{permission_set, state_by, state_set};
 use ruby_symbols::{MachineSymbols, TransitionSymbol};
 use run_journal::{FireNote, StopAt};
-use scan_meaning::{Known, Tried};
 use std::alloc::Global;
 
 fn about(t: Trigger) -> About
@@ -94,57 +92,15 @@ fn row_tried<T: Local>(
     ensures { DoesAs itself (row_tried_is (reading s.entry) t state row.now) result (T.view local.old)
         (T.view local.new) }
 {
-    if is_short(s, &row.actions, 0, &s.machine.tables, local)? {
+    let short = is_short(s, &row.actions, 0, &s.machine.tables, local)?;
+    if short {
         return waiting(local);
     }
-    if is_stall_among(&row.actions, s.machine.stall) {
+    let stalls = is_stall_among(&row.actions, s.machine.stall);
+    if stalls {
         return waiting(local);
     }
     fired(alloc, s, t, state, row.next.unwrap_or(state), row, local)
-}
-
-fn found_tried<T: Local>(
-    alloc: Global,
-    s: Scope<'_>,
-    t: Trigger,
-    state: u16,
-    row: Option<&TransitionSymbol>,
-    local: &mut T,
-) -> Result<Tried, Halt>
-    requires few { HasFew s.machine.now }
-    ensures { TriesAs itself (found_tried_is (reading s.entry) t state (option_copied row.entry)) result
-        (T.view local.old) (T.view local.new) }
-{
-    let Some(row) = row else {
-        return Err(Halt::Stop(StopAt {
-            address: Some(t.address),
-            state: Some(state),
-            event: Some(t.event),
-            fault: Fault::Invalid,
-        }));
-    };
-    told(
-        known(t, Some(state)),
-        row_tried(alloc, s, t, state, row, local),
-    )
-}
-
-// The state of the line, where that isn't known yet.
-fn state_known<T: Local>(
-    alloc: Global,
-    s: Scope<'_>,
-    t: Trigger,
-    local: &mut T,
-) -> Result<u16, Halt>
-    requires few { HasFew s.machine.now }
-    ensures { TriesAs itself
-        (with_known (known_is t None) (read_state (reading s.entry) (about_is t))) result
-        (T.view local.old) (T.view local.new) }
-{
-    told(
-        known(t, None),
-        state_by(alloc, s, about(t), s.machine.get_state, local),
-    )
 }
 
 // Does what a `trigger` asks for.
@@ -157,13 +113,20 @@ pub(crate) fn tried<T: Local>(
     requires few { HasFew s.machine.now }
     ensures { TriesAs itself (try_is (reading s.entry) t) result (T.view local.old) (T.view local.new) }
 {
-    let state = state_known(alloc, s, t, local)?;
-    found_tried(
-        alloc,
-        s,
-        t,
-        state,
-        row_for(s.machine, state, t.event),
-        local,
-    )
+    let state = told(
+        known(t, None),
+        state_by(alloc, s, about(t), s.machine.get_state, local),
+    )?;
+    match row_for(s.machine, state, t.event) {
+        None => Err(Halt::Stop(StopAt {
+            address: Some(t.address),
+            state: Some(state),
+            event: Some(t.event),
+            fault: Fault::Invalid,
+        })),
+        Some(row) => told(
+            known(t, Some(state)),
+            row_tried(alloc, s, t, state, row, local),
+        ),
+    }
 }

@@ -1,7 +1,7 @@
 use crate::BackFault;
 
 /// Why a request wasn't issued.
-#[derive(Clone, Copy, Debug, PartialEq, Eq)]
+#[derive(Clone, Copy)]
 pub enum IssueFault {
     /// The line has an outstanding request.
     Outstanding,

@@ -12,7 +12,6 @@ mod owned_seats;
 mod plain_driver;
 mod seats;
 mod sequencer;
-mod uses;
 
 pub use callbacks::Callbacks;
 pub use driver::{Driver, DriverEnd};

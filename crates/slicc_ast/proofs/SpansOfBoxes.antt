@@ -1,18 +1,20 @@
 -- The spans of an expression that has another one in a box.
-use Rattle.std.proofs.Common.{rules, ◌≡◌, ◌++◌, ◌∷◌, ◌∙◌, ap, Option, List, ℕ, None, Some}
+use Rattle.std.proofs.Common.{rules, ◌≡◌, ◌++◌, ◌∷◌, [], ◌∙◌, ap, append-nil, Option, List, ℕ, None, Some}
 use Rattle.std.specs.List.{flat_map}
 use Rattle.slicc_ast.specs.declared.tree.span.Span.{Span}
+use Rattle.slicc_ast.specs.declared.tree.name.Name.{Name}
 use Rattle.slicc_ast.specs.declared.tree.name.TypeName.{TypeName}
+use Rattle.slicc_ast.specs.declared.tree.expression.Args.{Args}
 use Rattle.slicc_ast.specs.declared.tree.expression.Expr.{Expr}
 use Rattle.slicc_ast.specs.declared.tree.expression.Operand.{Operand}
 use Rattle.slicc_ast.specs.declared.tree.expression.Suffix.{Suffix}
 use Rattle.slicc_ast.specs.declared.tree.expression.Expr.TheViews as views
 use Rattle.slicc_ast.specs.declared.tree.expression.Expr.TheViews.{the_lemmas}
 use Rattle.slicc_ast.proofs.Boxes.{boxes, Operation_is, Postfix_is}
-use Rattle.slicc_ast.specs.Expressions.{expr}
+use Rattle.slicc_ast.specs.Expressions.{args, expr, suffix}
 use Rattle.slicc_ast.specs.Outline.{spans_of}
 use Rattle.slicc_ast.specs.Spans.{operand_spans, suffix_spans}
-use Rattle.slicc_ast.proofs.SpansOfLists.{operand_row_spans, suffix_row_spans}
+use Rattle.slicc_ast.proofs.SpansOfLists.{args_row_spans, operand_row_spans, suffix_row_spans}
 
 pub spans_of_Not : (e : Expr) (span : Span) → spans_of (expr (views.Not e span)) ≡ span ∷ spans_of (expr e)
 spans_of_Not e span = search (rules, the_lemmas, boxes)
@@ -39,4 +41,8 @@ spans_of_Operation e others span = ap (λ x. spans_of (expr x)) (Operation_is e 
 pub spans_of_Postfix : (e : Expr) (suffixes : List Suffix) (span : Span) → spans_of (expr (views.Postfix e suffixes span)) ≡ (span ∷ spans_of (expr e)) ++ flat_map suffix_spans suffixes
 spans_of_Postfix e suffixes span = ap (λ x. spans_of (expr x)) (Postfix_is e suffixes span) ∙ search (rules, the_lemmas, suffix_row_spans)
 
-pub ruleset spans_of_boxes = (spans_of_Not, spans_of_Negate, spans_of_IsValid, spans_of_IsInvalid, spans_of_Group, spans_of_Cast, spans_of_Operation, spans_of_Postfix)
+pub spans_of_Call : (name : Name) (arguments : Args) (span : Span) → spans_of (expr (views.Call name arguments span)) ≡ (span ∷ name.span ∷ []) ++ spans_of (args arguments)
+spans_of_Call name arguments span = search (rules, the_lemmas, args_row_spans, append-nil)
+
+pub spans_of_Method : (name : Name) (arguments : Args) (span : Span) → spans_of (suffix (views.Method name arguments span)) ≡ (span ∷ name.span ∷ []) ++ spans_of (args arguments)
+spans_of_Method name arguments span = search (rules, the_lemmas, args_row_spans, append-nil)

@@ -32,10 +32,6 @@ suffix_row_spans n end_of-Suffix = refl
 suffix_row_spans n (more_of-Suffix first row) = ap (λ spans. spans_of (suffix first) ++ spans) (suffix_row_spans _ row)
 
 -- spans that were added one after another
-pub added_two : {X : Type 0} (old : List X) (a b : X) (more one two new all : List X) → one ≡ old ++ a ∷ [] → two ≡ one ++ b ∷ [] → new ≡ two ++ more → all ≡ a ∷ b ∷ more → new ≡ old ++ all
-added_two old a b more one two new all p q r s =
-    r ∙ ap (λ xs. xs ++ more) (q ∙ ap (λ xs. xs ++ b ∷ []) p ∙ append_assoc old (a ∷ []) (b ∷ [])) ∙ append_assoc old (a ∷ b ∷ []) more ∙ ap (λ xs. old ++ xs) (sym s)
-
 pub added_all : {X Y : Type 0} (f : Y → List X) (old : List X) (a : X) (items lent : List Y) (i : ℕ) (one new inside : List X) → one ≡ old ++ a ∷ [] → lent ≡ items → length lent ≤ i → new ≡ one ++ flat_map f (take i items) → inside ≡ flat_map f items → new ≡ old ++ a ∷ inside
 added_all f old a items lent i one new inside p same le r s =
     r ∙ ap (λ xs. one ++ flat_map f xs) (take_all i items (subst (λ xs. length xs ≤ i) same le)) ∙ ap (λ xs. xs ++ flat_map f items) p
@@ -45,17 +41,6 @@ pub added_list : {X Y : Type 0} (f : Y → List X) (old : List X) (a : X) (items
 added_list f old a items lent one new inside p same n i =
     n ∙ ap (λ xs. one ++ flat_map f xs) same ∙ ap (λ xs. xs ++ flat_map f items) p ∙ append_assoc old (a ∷ []) (flat_map f items) ∙ ap (λ xs. old ++ a ∷ xs) (sym i)
 
-pub added_ended_list : {X Y : Type 0} (f : Y → List X) (old : List X) (a : X) (items lent : List Y) (one new inside : List X) → one ≡ old ++ a ∷ [] → lent ≡ items → new ≡ one ++ flat_map f lent → inside ≡ flat_map f items ++ [] → new ≡ old ++ a ∷ inside
-added_ended_list f old a items lent one new inside p same n i =
-    added_list f old a items lent one new inside p same n (i ∙ append-nil (flat_map f items))
-
--- a node, a name, attributes and a list
-pub added_declaration : {X Y : Type 0} (f : Y → List X) (old : List X) (a b c : X) (pairs : List X) (items lent : List Y) (one two three new inside : List X) → one ≡ old ++ a ∷ [] → two ≡ one ++ b ∷ [] → three ≡ two ++ c ∷ pairs → lent ≡ items → new ≡ three ++ flat_map f lent → inside ≡ flat_map f items ++ [] → new ≡ old ++ (a ∷ b ∷ c ∷ (pairs ++ inside))
-added_declaration f old a b c pairs items lent one two three new inside p q r same n i =
-    n ∙ ap (λ xs. three ++ flat_map f xs) same ∙ ap (λ xs. three ++ xs) (sym (append-nil (flat_map f items)) ∙ sym i)
-    ∙ ap (λ xs. xs ++ inside) (r ∙ ap (λ xs. xs ++ c ∷ pairs) (q ∙ ap (λ xs. xs ++ b ∷ []) p ∙ append_assoc old (a ∷ []) (b ∷ [])) ∙ append_assoc old (a ∷ b ∷ []) (c ∷ pairs))
-    ∙ append_assoc old (a ∷ b ∷ c ∷ pairs) inside
-
 -- a list at the end, after what was added before it
 pub added_behind : {X Y : Type 0} (f : Y → List X) (old before : List X) (items lent : List Y) (one new all : List X) → one ≡ old ++ before → lent ≡ items → new ≡ one ++ flat_map f lent → all ≡ before ++ flat_map f items → new ≡ old ++ all
 added_behind f old before items lent one new all p same n i =
@@ -64,3 +49,20 @@ added_behind f old before items lent one new all p same n i =
 -- two steps as one
 pub added_both : {X : Type 0} (old a b one two : List X) → one ≡ old ++ a → two ≡ one ++ b → two ≡ old ++ (a ++ b)
 added_both old a b one two p q = q ∙ ap (λ xs. xs ++ b) p ∙ append_assoc old a b
+
+-- what is added to the last of what was added before it
+pub added_after : {X : Type 0} (old before more one new all : List X) → one ≡ old ++ before → all ≡ before ++ more → new ≡ one ++ more → new ≡ old ++ all
+added_after old before more one new all p same q = added_both old before more one new p q ∙ ap (λ xs. old ++ xs) (sym same)
+
+-- the same where nothing is behind it in the node
+pub added_last : {X : Type 0} (old before more one new all : List X) → one ≡ old ++ before → all ≡ before ++ (more ++ []) → new ≡ one ++ more → new ≡ old ++ all
+added_last old before more one new all p same = added_after old before more one new all p (same ∙ ap (λ xs. before ++ xs) (append-nil more))
+
+pub added_alone : {X : Type 0} (old more new all : List X) → all ≡ more → new ≡ old ++ more → new ≡ old ++ all
+added_alone old more new all same q = q ∙ ap (λ xs. old ++ xs) (sym same)
+
+-- a node, a name, attributes and a list
+pub added_declaration : {X Y : Type 0} (f : Y → List X) (old : List X) (a b c : X) (pairs : List X) (items lent : List Y) (one two new inside : List X) → one ≡ old ++ a ∷ b ∷ [] → two ≡ one ++ c ∷ pairs → lent ≡ items → new ≡ two ++ flat_map f lent → inside ≡ flat_map f items ++ [] → new ≡ old ++ (a ∷ b ∷ c ∷ (pairs ++ inside))
+added_declaration f old a b c pairs items lent one two new inside p q same n i =
+    added_behind f old (a ∷ b ∷ c ∷ pairs) items lent two new _ (added_both old (a ∷ b ∷ []) (c ∷ pairs) one two p q) same n
+    (ap (λ xs. a ∷ b ∷ c ∷ (pairs ++ xs)) (i ∙ append-nil (flat_map f items)))

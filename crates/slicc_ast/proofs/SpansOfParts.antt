@@ -135,8 +135,8 @@ added_transition old a n m x p l one two three four five_done new all q r s u v 
     (added_both old (((a ∷ n) ++ m) ++ x) p four five_done (added_both old ((a ∷ n) ++ m) x three four (added_both old (a ∷ n) m two three (added_both old (a ∷ []) n one two q r) s) u) v) w
     ∙ ap (λ xs. old ++ xs) (sym (five (a ∷ n) m x p l) ∙ sym i)
 
-pub added_machine : {X : Type 0} (old : List X) (a b : X) (p k l one two three four new all : List X) → one ≡ old ++ a ∷ [] → two ≡ one ++ b ∷ [] → three ≡ two ++ p → four ≡ three ++ k → new ≡ four ++ l → all ≡ a ∷ b ∷ (p ++ (k ++ l)) → new ≡ old ++ all
-added_machine old a b p k l one two three four new all q r s u w i =
-    added_both old ((a ∷ b ∷ p) ++ k) l four new
-    (added_both old (a ∷ b ∷ p) k three four (added_both old (a ∷ b ∷ []) p two three (added_both old (a ∷ []) (b ∷ []) one two q r) s) u) w
+pub added_machine : {X : Type 0} (old : List X) (a b : X) (p k l one two three new all : List X) → one ≡ old ++ a ∷ b ∷ [] → two ≡ one ++ p → three ≡ two ++ k → new ≡ three ++ l → all ≡ a ∷ b ∷ (p ++ (k ++ l)) → new ≡ old ++ all
+added_machine old a b p k l one two three new all q r s w i =
+    added_both old ((a ∷ b ∷ p) ++ k) l three new
+    (added_both old (a ∷ b ∷ p) k two three (added_both old (a ∷ b ∷ []) p one two q r) s) w
     ∙ ap (λ xs. old ++ xs) (append_assoc (a ∷ b ∷ p) k l ∙ sym i)

@@ -4,14 +4,20 @@ use Rattle.slicc_ast.specs.declared.tree.statement.Stmt.TheViews.{the_lemmas}
 use Rattle.std.specs.List.{flat_map}
 use Rattle.slicc_ast.proofs.SpansOfLists.{added_both}
 use Rattle.slicc_ast.specs.declared.tree.span.Span.{Span}
-use Rattle.slicc_ast.specs.declared.tree.statement.Stmt.{Stmt, Row_of-Stmt, end_of-Stmt, more_of-Stmt, items-the_row-Stmt}
+use Rattle.slicc_ast.specs.declared.tree.name.Name.{Name}
+use Rattle.slicc_ast.specs.declared.tree.name.TypeName.{TypeName}
+use Rattle.slicc_ast.specs.declared.tree.declaration.Pairs.{Pairs}
+use Rattle.slicc_ast.specs.declared.tree.token.Sign.TheVariants.{Semicolon}
+use Rattle.slicc_ast.specs.declared.tree.statement.Stmt.{Stmt, Return, Peek, Enqueue, Row_of-Stmt, end_of-Stmt, more_of-Stmt, items-the_row-Stmt}
 use Rattle.slicc_ast.specs.declared.tree.statement.If.{If, If', None', Some', Row_of-ElseIf, end_of-ElseIf, more_of-ElseIf, items-the_row-ElseIf, out-If}
 use Rattle.slicc_ast.specs.declared.tree.expression.Expr.{Expr}
 use Rattle.slicc_ast.specs.declared.tree.statement.Block.{Block}
 use Rattle.slicc_ast.specs.Spans.{else_if_spans}
 use Rattle.slicc_ast.specs.Outline.{Parts, none, spans_of, spans_in}
 use Rattle.slicc_ast.specs.Expressions.{expr}
-use Rattle.slicc_ast.specs.Statements.{stmt, stmt_row, stmt_list, block_end, block_outline, if_outline, else_if_row, latency_parts}
+use Rattle.slicc_ast.specs.Names.{sign}
+use Rattle.slicc_ast.specs.Declarations.{pair_list}
+use Rattle.slicc_ast.specs.Statements.{stmt, stmt_row, stmt_list, block_end, block_outline, if_outline, else_if_row, latency_parts, optional_expr}
 
 pub stmt_list_spans : (ss : List Stmt) → spans_in (stmt_list ss block_end) ≡ flat_map (λ s. spans_of (stmt s)) ss
 stmt_list_spans [] = refl
@@ -51,12 +57,19 @@ if_some i b is = if_spans i ∙ ap (λ o. (out-If i).span ∷ (spans_of (expr (o
 pub if_none : (i : If) → (out-If i).otherwise ≡ None → spans_of (if_outline i) ≡ (out-If i).span ∷ (spans_of (expr (out-If i).condition) ++ (spans_of (block_outline (out-If i).then) ++ (flat_map else_if_spans (out-If i).others ++ [])))
 if_none i is = if_spans i ∙ ap (λ o. (out-If i).span ∷ (spans_of (expr (out-If i).condition) ++ (spans_of (block_outline (out-If i).then) ++ (flat_map else_if_spans (out-If i).others ++ optional_spans o)))) is
 
-pub latency_behind : (latency : Option Expr) (parts : Parts) → spans_in (latency_parts latency parts) ≡ spans_in (latency_parts latency none) ++ spans_in parts
-latency_behind None parts = refl
-latency_behind (Some e) parts = ap (λ xs. xs ++ spans_in parts) (sym (append-nil (spans_of (expr e))))
+optional_spans_behind : (value : Option Expr) (parts : Parts) → spans_in (optional_expr value parts) ≡ spans_in (optional_expr value none) ++ spans_in parts
+optional_spans_behind None parts = refl
+optional_spans_behind (Some e) parts = ap (λ xs. xs ++ spans_in parts) (sym (append-nil (spans_of (expr e))))
 
-pub added_three : {X : Type 0} (old : List X) (a b c : X) (d e one two three four new all : List X) → one ≡ old ++ a ∷ [] → two ≡ one ++ b ∷ [] → three ≡ two ++ c ∷ [] → four ≡ three ++ d → new ≡ four ++ e → all ≡ a ∷ b ∷ c ∷ (d ++ e) → new ≡ old ++ all
-added_three old a b c d e one two three four new all p q r u n i =
-    added_both old (a ∷ b ∷ c ∷ d) e four new
-    (added_both old (a ∷ b ∷ c ∷ []) d three four (added_both old (a ∷ b ∷ []) (c ∷ []) two three (added_both old (a ∷ []) (b ∷ []) one two p q) r) u) n
-    ∙ ap (λ xs. old ++ xs) (sym i)
+latency_spans : (latency : Option Expr) (parts : Parts) → spans_in (latency_parts latency parts) ≡ spans_in (optional_expr latency none) ++ spans_in parts
+latency_spans None parts = refl
+latency_spans (Some e) parts = ap (λ xs. xs ++ spans_in parts) (sym (append-nil (spans_of (expr e))))
+
+pub spans_of_Return : (value : Option Expr) (span : Span) → spans_of (stmt (Return value span)) ≡ (span ∷ []) ++ spans_in (optional_expr value none)
+spans_of_Return value span = ap (λ xs. span ∷ xs) (optional_spans_behind value (sign Semicolon none) ∙ append-nil (spans_in (optional_expr value none)))
+
+pub spans_of_Peek : (port : Name) (message : TypeName) (attributes : Pairs) (body : Block) (span : Span) → spans_of (stmt (Peek port message attributes body span)) ≡ ((span ∷ port.span ∷ message.span ∷ []) ++ attributes.span ∷ spans_in (pair_list attributes.items)) ++ spans_of (block_outline body)
+spans_of_Peek port message attributes body span = search (rules, the_lemmas, stmt_row_spans, append-nil)
+
+pub spans_of_Enqueue : (port : Name) (message : TypeName) (latency : Option Expr) (body : Block) (span : Span) → spans_of (stmt (Enqueue port message latency body span)) ≡ ((span ∷ port.span ∷ message.span ∷ []) ++ spans_in (optional_expr latency none)) ++ spans_of (block_outline body)
+spans_of_Enqueue port message latency body span = search (rules, the_lemmas, stmt_row_spans, append-nil, latency_spans)

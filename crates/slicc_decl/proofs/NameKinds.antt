@@ -9,14 +9,14 @@ use Rattle.slicc_ast.specs.declared.tree.token.TokenKind.TheVariants.{Name as Na
 use Rattle.slicc_ast.specs.declared.tree.name.Name.{Name}
 use Rattle.slicc_ast.specs.Declarations.{is_skipped}
 use Rattle.slicc_ast.specs.Outline.{node, none, Parts, token}
-use Rattle.grammar_rows.specs.Faults.{Stop}
-use Rattle.grammar_rows.specs.Faults.Stop.{Passed}
-use Rattle.grammar_rows.specs.Grammar.Row.{done, token as token_row}
-use Rattle.grammar_rows.specs.Grammar.Rows.{end}
-use Rattle.grammar_rows.specs.Kinds.{has, is_ahead}
-use Rattle.grammar_rows.specs.Reader.{Passes, Stops}
-use Rattle.grammar_rows.specs.Reader.Stops.{read, refused, taken}
-use Rattle.grammar_rows.proofs.Steps.{passes_token}
+use Rattle.slicc_grammar.specs.Faults.{Stop}
+use Rattle.slicc_grammar.specs.Faults.Stop.{Passed}
+use Rattle.slicc_grammar.specs.Grammar.Row.{done, token as token_row}
+use Rattle.slicc_grammar.specs.Grammar.Rows.{end}
+use Rattle.slicc_grammar.specs.Kinds.{has, is_ahead}
+use Rattle.slicc_grammar.specs.Reader.{Passes, Stops}
+use Rattle.slicc_grammar.specs.Reader.Stops.{read, refused, taken}
+use Rattle.slicc_grammar.proofs.Steps.{passes_token}
 use Rattle.slicc_grammar.specs.Parts.{Part, names_of}
 use Rattle.slicc_grammar.specs.Table.{table}
 use Rattle.slicc_grammar.specs.TokenKinds.{functional_name, kind_of, machine_type, name_kind, other_name}

@@ -1,6 +1,6 @@
 //! The fields and methods of structures.
 ghost use Rattle.std.specs.Prelude.{◌≡◌, ◌∷◌, [], true, MatchResult};
-ghost use Rattle.grammar_rows.specs.Kinds.{is_ahead};
+ghost use Rattle.slicc_grammar.specs.Kinds.{is_ahead};
 ghost use Rattle.slicc_ast.specs.Declarations.{formals as formals_of, member as member_of, pairs as pairs_of};
 ghost use Rattle.slicc_ast.specs.Names.{sign as sign_of};
 ghost use Rattle.slicc_ast.specs.Outline.{node, none, token};

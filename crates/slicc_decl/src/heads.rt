@@ -1,6 +1,6 @@
 //! The heads of declarations: a name and attributes in parentheses, and names and attributes that a sign ends.
 ghost use Rattle.std.specs.Prelude.{◌≡◌, ◌∷◌, ◌<◌, [], length, IfOk, MatchResult};
-ghost use Rattle.grammar_rows.specs.Kinds.{is_ahead};
+ghost use Rattle.slicc_grammar.specs.Kinds.{is_ahead};
 ghost use Rattle.slicc_ast.specs.Declarations.{pairs as pairs_of};
 ghost use Rattle.slicc_ast.specs.Names.{name as name_of, sign as sign_of};
 ghost use Rattle.slicc_ast.specs.declared.tree.token.Sign.TheVariants.{CloseParenthesis, Comma, OpenParenthesis, Semicolon};

@@ -1,7 +1,7 @@
 //! The head of a machine: its name, its title, attributes and parameters.
 ghost use Rattle.std.specs.Prelude.{◌≡◌, ◌∷◌, [], codes, MatchResult};
 ghost use Rattle.std.specs.Str.{bytes_eq};
-ghost use Rattle.grammar_rows.specs.Kinds.{has, is_ahead};
+ghost use Rattle.slicc_grammar.specs.Kinds.{has, is_ahead};
 ghost use Rattle.slicc_ast.specs.Declarations.{pairs as pairs_of};
 ghost use Rattle.slicc_ast.specs.Machines.{parameter_list as parameter_parts, type_parts};
 ghost use Rattle.slicc_ast.specs.Names.{name as name_of, sign as sign_of};

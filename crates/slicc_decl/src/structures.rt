@@ -1,6 +1,6 @@
 //! Structures, and their members.
 ghost use Rattle.std.specs.Prelude.{◌≡◌, ◌∷◌, ◌<◌, [], IsTrue, true, length, IfOk, MatchResult};
-ghost use Rattle.grammar_rows.specs.Kinds.{is_ahead};
+ghost use Rattle.slicc_grammar.specs.Kinds.{is_ahead};
 ghost use Rattle.slicc_ast.specs.Declarations.{is_skipped, member as member_of, structure as structure_of};
 ghost use Rattle.slicc_ast.specs.Outline.{node, none, token};
 ghost use Rattle.slicc_ast.specs.declared.tree.token.TokenKind.TheVariants.{Name as Named};

@@ -1,7 +1,7 @@
 //! Transitions. Behind the events a name is the next state where no `=` is behind it, and the key of an attribute else, so
 //! what is behind that comma is read before it is known whose comma it was.
 ghost use Rattle.std.specs.Prelude.{◌≡◌, ◌∷◌, ◌<◌, [], true, length, IfOk, MatchResult};
-ghost use Rattle.grammar_rows.specs.Kinds.{is_ahead};
+ghost use Rattle.slicc_grammar.specs.Kinds.{is_ahead};
 ghost use Rattle.slicc_ast.specs.Declarations.{pair as pair_of, pair_list, pairs as pairs_of};
 ghost use Rattle.slicc_ast.specs.Machines.{action_list, names as names_of, next_parts, transition as transition_of};
 ghost use Rattle.slicc_ast.specs.Names.{sign as sign_of};

@@ -7,9 +7,9 @@ use Rattle.slicc_ast.specs.declared.tree.token.Sign.TheVariants.{Colon, Dot, Min
 use Rattle.slicc_ast.specs.declared.tree.token.Word.TheVariants.{True, False, Ood, IsInvalid, IsValid}
 use Rattle.slicc_ast.specs.Expressions.{expr}
 use Rattle.slicc_ast.specs.Outline.{Outline, token}
-use Rattle.grammar_rows.specs.Grammar.Row.{done, token as token_row}
-use Rattle.grammar_rows.specs.Kinds.{has, is_ahead}
-use Rattle.grammar_rows.specs.Reader.{refusal}
+use Rattle.slicc_grammar.specs.Grammar.Row.{done, token as token_row}
+use Rattle.slicc_grammar.specs.Kinds.{has, is_ahead}
+use Rattle.slicc_grammar.specs.Reader.{refusal}
 use Rattle.slicc_grammar.specs.Ahead.{first_of_constant, first_of_expression, first_of_opening}
 use Rattle.slicc_grammar.specs.Form.Form.{constant, unary, product, sum, order, equality, conjunction, expression}
 use Rattle.slicc_grammar.specs.Parts.{of, names_of}

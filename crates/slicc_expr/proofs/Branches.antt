@@ -19,13 +19,13 @@ use Rattle.slicc_ast.specs.declared.tree.token.Word.TheVariants.{If as IfWord, E
 use Rattle.slicc_ast.specs.Names.{word as word_of}
 use Rattle.slicc_ast.specs.Outline.{Outline, node, none, Parts, part, token}
 use Rattle.slicc_ast.specs.Statements.{block, else_if_row, if_outline, stmt, stmt_list, stmt_row}
-use Rattle.grammar_rows.specs.Faults.{Stop}
-use Rattle.grammar_rows.specs.Grammar.{Row, Rows}
-use Rattle.grammar_rows.specs.Grammar.Row.{done, form, token as token_row}
-use Rattle.grammar_rows.specs.Grammar.Rows.{next}
-use Rattle.grammar_rows.specs.Kinds.{has, is_ahead}
-use Rattle.grammar_rows.specs.Reader.{Passes, Stops}
-use Rattle.grammar_rows.specs.Reader.Stops.{chosen, on, present, refused, taken}
+use Rattle.slicc_grammar.specs.Faults.{Stop}
+use Rattle.slicc_grammar.specs.Grammar.{Row, Rows}
+use Rattle.slicc_grammar.specs.Grammar.Row.{done, form, token as token_row}
+use Rattle.slicc_grammar.specs.Grammar.Rows.{next}
+use Rattle.slicc_grammar.specs.Kinds.{has, is_ahead}
+use Rattle.slicc_grammar.specs.Reader.{Passes, Stops}
+use Rattle.slicc_grammar.specs.Reader.Stops.{chosen, on, present, refused, taken}
 use Rattle.slicc_grammar.specs.Ahead.{first_of_form, first_of_opening}
 use Rattle.slicc_grammar.specs.Form.{Form}
 use Rattle.slicc_grammar.specs.Parts.{Part, ◌▸◌, names_of, word}

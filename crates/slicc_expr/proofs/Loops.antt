@@ -15,14 +15,14 @@ use Rattle.slicc_ast.specs.declared.tree.expression.Args.{Args}
 use Rattle.slicc_ast.specs.declared.tree.name.TypeName.{TypeName}
 use Rattle.slicc_ast.specs.Names.{sign, type_name}
 use Rattle.slicc_ast.specs.Outline.{node, Parts, none, part}
-use Rattle.grammar_rows.specs.Grammar.{Row}
-use Rattle.grammar_rows.specs.Grammar.Row.{done, form, maybe, token as token_row}
-use Rattle.grammar_rows.specs.Reader.{Passes, Stops}
-use Rattle.grammar_rows.proofs.Steps.{passes_both, fails_first, fails_second}
-use Rattle.grammar_rows.specs.Grammar.{first_of}
+use Rattle.slicc_grammar.specs.Grammar.{Row}
+use Rattle.slicc_grammar.specs.Grammar.Row.{done, form, maybe, token as token_row}
+use Rattle.slicc_grammar.specs.Reader.{Passes, Stops}
+use Rattle.slicc_grammar.proofs.Steps.{passes_both, fails_first, fails_second}
+use Rattle.slicc_grammar.specs.Grammar.{first_of}
 use Rattle.slicc_grammar.specs.Ahead.{first_of_expression}
 use Rattle.slicc_grammar.specs.Form.{Form}
-use Rattle.grammar_rows.specs.Kinds.{has, is_ahead}
+use Rattle.slicc_grammar.specs.Kinds.{has, is_ahead}
 use Rattle.slicc_grammar.specs.Form.Form.{arguments, expression}
 use Rattle.slicc_grammar.specs.Parts.{Part, ◌▸◌, of, comma, repeated}
 use Rattle.slicc_grammar.specs.Table.{table}

@@ -10,8 +10,8 @@ use Rattle.slicc_ast.specs.declared.tree.span.Span.{Span}
 use Rattle.slicc_ast.specs.declared.tree.expression.Expr.{Expr}
 use Rattle.slicc_ast.specs.Expressions.{expr, level_of, operator_level, operator_sign}
 use Rattle.slicc_ast.specs.Outline.{node, none, token}
-use Rattle.grammar_rows.specs.Grammar.Row.{done, form, many, nested, token as token_row}
-use Rattle.grammar_rows.specs.Kinds.{has}
+use Rattle.slicc_grammar.specs.Grammar.Row.{done, form, many, nested, token as token_row}
+use Rattle.slicc_grammar.specs.Kinds.{has}
 use Rattle.slicc_grammar.specs.Form.{Form}
 use Rattle.slicc_grammar.specs.Form.Form.{unary, product, sum, order, equality, conjunction, expression}
 use Rattle.slicc_grammar.specs.Parts.{Part, ◌▸◌, of, optional, comma, sign, string, type, word}

@@ -1,7 +1,7 @@
 //! Blocks, and the statements that hold them. A block is read with one more nesting open, so that the cycle of functions goes
 //! no deeper than the nesting may. The statements of a block and the branches behind `else if` are loops.
 ghost use Rattle.std.specs.Prelude.{◌≡◌, ◌∷◌, ◌<◌, [], false, true, length, IfOk, MatchResult};
-ghost use Rattle.grammar_rows.specs.Kinds.{is_ahead};
+ghost use Rattle.slicc_grammar.specs.Kinds.{is_ahead};
 ghost use Rattle.slicc_ast.specs.Statements.{block_outline, if_outline, stmt};
 ghost use Rattle.slicc_ast.specs.declared.tree.token.Word.TheVariants.{Else, If as IfWord};
 ghost use Rattle.slicc_grammar.specs.Ahead.{first_of_form};

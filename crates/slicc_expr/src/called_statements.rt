@@ -1,6 +1,6 @@
 //! Statements of a word with something in parentheses and `;`.
 ghost use Rattle.std.specs.Prelude.{◌≡◌, ◌<◌, true, false, length, IfOk, MatchOption, MatchResult};
-ghost use Rattle.grammar_rows.specs.Kinds.{has, is_ahead};
+ghost use Rattle.slicc_grammar.specs.Kinds.{has, is_ahead};
 ghost use Rattle.slicc_ast.specs.Names.{word as word_of};
 ghost use Rattle.slicc_ast.specs.Statements.{print_word as print_word_of, stmt};
 ghost use Rattle.slicc_grammar.specs.Form.Form.{statement as statement_form};

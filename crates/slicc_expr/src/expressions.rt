@@ -2,7 +2,7 @@
 //! is read with one more nesting open, so that the cycle goes no deeper than the nesting may. Operands of one level, suffixes and
 //! arguments are read by loops.
 ghost use Rattle.std.specs.Prelude.{◌≡◌, ◌+◌, ◌-◌, ◌∷◌, ◌<◌, ◌≤◌, [], true, length, IfOk, MatchResult};
-ghost use Rattle.grammar_rows.specs.Kinds.{is_ahead};
+ghost use Rattle.slicc_grammar.specs.Kinds.{is_ahead};
 ghost use Rattle.slicc_ast.specs.Expressions.{args as args_of, expr, level_of, list_level, mode_parts, suffix as suffix_of};
 ghost use Rattle.slicc_ast.specs.Names.{name as name_of, sign as sign_of, type_name, word as word_of};
 ghost use Rattle.slicc_ast.specs.Outline.{node, none, part, token};

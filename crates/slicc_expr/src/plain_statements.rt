@@ -1,6 +1,6 @@
 //! Statements that begin with an expression or with `return`, and declarations of variables.
 ghost use Rattle.std.specs.Prelude.{◌≡◌, ◌<◌, true, length, IfOk, MatchResult};
-ghost use Rattle.grammar_rows.specs.Kinds.{is_ahead};
+ghost use Rattle.slicc_grammar.specs.Kinds.{is_ahead};
 ghost use Rattle.slicc_ast.specs.Expressions.{expr};
 ghost use Rattle.slicc_ast.specs.Statements.{stmt};
 ghost use Rattle.slicc_ast.specs.declared.tree.token.Sign.TheVariants.{Assign};

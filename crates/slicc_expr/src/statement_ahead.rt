@@ -1,7 +1,7 @@
 //! What statements begin with, and go on with behind a name.
 ghost use Rattle.std.specs.Prelude.{◌≡◌, ◌∷◌, [], true};
 ghost use Rattle.slicc_ast.specs.declared.tree.token.Word.TheVariants.{Else};
-ghost use Rattle.grammar_rows.specs.Kinds.{has, is_ahead};
+ghost use Rattle.slicc_grammar.specs.Kinds.{has, is_ahead};
 ghost use Rattle.slicc_grammar.specs.Ahead.{first_of_form};
 ghost use Rattle.slicc_grammar.specs.Form.Form.{statement as statement_form};
 ghost use Rattle.slicc_grammar.specs.TokenKinds.{kind_of, sign_kind, word_kind};

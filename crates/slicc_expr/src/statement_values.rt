@@ -1,6 +1,6 @@
 //! Expressions where they stand in statements.
 ghost use Rattle.std.specs.Prelude.{◌≡◌, ◌<◌, true, length, IfOk, MatchResult};
-ghost use Rattle.grammar_rows.specs.Kinds.{is_ahead};
+ghost use Rattle.slicc_grammar.specs.Kinds.{is_ahead};
 ghost use Rattle.slicc_ast.specs.Expressions.{expr};
 ghost use Rattle.slicc_ast.specs.Statements.{latency_parts, optional_expr};
 ghost use Rattle.slicc_ast.specs.declared.tree.token.Sign.TheVariants.{Comma};

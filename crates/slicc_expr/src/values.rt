@@ -1,6 +1,6 @@
 //! Primary expressions of one or two tokens, and what expressions begin with.
 ghost use Rattle.std.specs.Prelude.{◌≡◌, ◌∷◌, ◌<◌, [], ◌≤◌, false, true, length, IfOk, MatchOption, MatchResult};
-ghost use Rattle.grammar_rows.specs.Kinds.{has, is_ahead};
+ghost use Rattle.slicc_grammar.specs.Kinds.{has, is_ahead};
 ghost use Rattle.slicc_ast.specs.Expressions.{expr, level_of};
 ghost use Rattle.slicc_ast.specs.Names.{word as word_of};
 ghost use Rattle.slicc_ast.specs.Outline.{node, none, token};

@@ -7,7 +7,7 @@ use Rattle.slicc_ast.specs.Outline.{ArePlaced, covering, shape_in, spans_in, spa
 use Rattle.slicc_ast.specs.Trees.{tree, tree_parts}
 use Rattle.slicc_lex.specs.declared.token.Token.{Token}
 use Rattle.slicc_lex.specs.Spells.{Spells, token_spans}
-use Rattle.one_tree.proofs.OneTree.{one_tree}
+use Rattle.slicc_files.proofs.OneTree.{one_tree}
 use Rattle.slicc_lex.proofs.OneTree.{one_tree_spelled}
 use Rattle.slicc_files.proofs.OnePlacing.{same_spans_along}
 

@@ -3,11 +3,11 @@ use Rattle.std.proofs.Common.{◌≡◌, ◌+◌, ◌-◌, ◌++◌, ℕ, Some, 
 use Rattle.std.proofs.lemmas.List.{length-map}
 use Rattle.std.proofs.lemmas.Option.{same_Some}
 use Rattle.std.specs.List.{slice_get}
-use Rattle.grammar_rows.specs.Faults.{IsFirstFault, Stop}
-use Rattle.grammar_rows.specs.Faults.Stop.{Passed, Bad, Deep, Short}
-use Rattle.grammar_rows.specs.Grammar.Row.{done, form}
-use Rattle.grammar_rows.specs.Grammar.Rows.{end}
-use Rattle.grammar_rows.proofs.Fronts.{one_stop}
+use Rattle.slicc_grammar.specs.Faults.{IsFirstFault, Stop}
+use Rattle.slicc_grammar.specs.Faults.Stop.{Passed, Bad, Deep, Short}
+use Rattle.slicc_grammar.specs.Grammar.Row.{done, form}
+use Rattle.slicc_grammar.specs.Grammar.Rows.{end}
+use Rattle.slicc_grammar.proofs.Fronts.{one_stop}
 use Rattle.slicc_ast.specs.declared.tree.item.Tree.{Tree}
 use Rattle.slicc_grammar.specs.Form.{Form}
 use Rattle.slicc_grammar.specs.TokenKinds.{kind_of}

@@ -6,3 +6,6 @@ pub mod Judged
 pub mod Marking
 pub mod Reaching
 pub mod Ways
+pub mod FirstNames
+pub mod PartLists
+pub mod PartsOfBoxes

@@ -4,3 +4,5 @@ pub mod Machines
 pub mod Marks
 pub mod Sizes
 pub mod Tables
+pub mod Lists
+pub mod Written

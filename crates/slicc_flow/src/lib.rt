@@ -1,19 +1,25 @@
-//! The rules of calls between the functions of a machine, of the sizes of bodies and of what only reads, and what transitions
+//! What the bodies of a machine are made of, the rules of calls between the functions of a machine, of the sizes of bodies and of what only reads, and what transitions
 //! need of tables.
 #![tactic(auto)]
 
+mod body;
+mod calls;
 mod changes;
 mod checks;
 mod circle;
+mod expression;
 mod judge;
 mod large;
 mod laws;
 mod machine;
+mod names;
 mod needs;
 mod protocol;
 mod reach;
 mod sizes;
+mod statement;
 mod tables;
+mod written;
 
 pub use judge::flow_broken;
 pub use laws::reaching_is_decided;

@@ -3,13 +3,15 @@ ghost use Rattle.std.specs.Prelude.{◌≡◌, IfOk};
 ghost use Rattle.slicc_plan.specs.BodyParts.{bodies_of, names_in, written_actions, written_functions, written_ports};
 ghost use Rattle.slicc_plan.specs.Declarations.{within};
 ghost use Rattle.declared_types.specs.Scopes.{scope_at};
-ghost use Rattle.body_parts.specs.Written.{written_list};
+ghost use Rattle.slicc_flow.specs.Written.{written_list};
 ghost use Rattle.slicc_flow.specs.Checks.{checks_with};
 ghost use Rattle.slicc_flow.specs.Machines.{bodies_in, bodies_with};
 
+use crate::body::bodies;
 use crate::checks::machine_checks;
+use crate::names::Names;
 use crate::tables::{TableSort, table_names};
-use body_parts::{Lent, Names, actions, bodies, functions, ports};
+use crate::written::{Lent, actions, functions, ports};
 use declared_types::Scopes;
 use ruby_base::{NoMemory, Seq};
 use slicc_ast::tree::Machine;

@@ -1,6 +1,5 @@
 //! Whether a protocol keeps the rules of flow, and what its transitions need.
 ghost use Rattle.std.specs.Prelude.{◌≡◌, IfOk};
-ghost use Rattle.slicc_plan.specs.BrokenDeclarations.{refusal_of};
 ghost use Rattle.slicc_flow.specs.Flows.{IsFlow, IsFlowOrBroken};
 
 use crate::judge::{all_bodies, first_found};
@@ -8,18 +7,8 @@ use crate::needs::Flow;
 use declared_types::Scopes;
 use ruby_base::NoMemory;
 use slicc_ast::tree::Tree;
-use slicc_plan::{Broken, Plan, Refusal};
+use slicc_plan::{Broken, Plan, Refusal, refused};
 use std::alloc::Global;
-
-fn refusal(b: Broken) -> Refusal
-    ensures { result ≡ refusal_of b }
-{
-    Refusal::Rule {
-        number: b.rule.number(),
-        place: b.place,
-        other: b.other,
-    }
-}
 
 // What transitions need, or the first rule of flow that is broken.
 fn flow_or_broken(alloc: Global, trees: &[Tree]) -> Result<Result<Flow, Broken>, NoMemory>
@@ -39,7 +28,7 @@ pub fn flow_of_trees(alloc: Global, trees: &[Tree]) -> Result<Flow, Refusal>
 {
     match flow_or_broken(alloc, trees) {
         Ok(Ok(flow)) => Ok(flow),
-        Ok(Err(b)) => Err(refusal(b)),
+        Ok(Err(b)) => Err(refused(b)),
         Err(NoMemory) => Err(Refusal::NoMemory),
     }
 }

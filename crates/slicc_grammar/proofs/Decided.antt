@@ -1,7 +1,7 @@
 -- One token ahead decides in the grammar: the test of each form computes.
 use Rattle.std.proofs.Common.{◌≡◌, true, refl, arith}
 use Rattle.std.specs.List.{Contains}
-use Rattle.grammar_rows.specs.Predictive.{is_predictive, IsPredictive}
+use Rattle.slicc_grammar.specs.Predictive.{is_predictive, IsPredictive}
 use Rattle.slicc_grammar.specs.Form.{Form, all_forms}
 use Rattle.slicc_grammar.specs.Form.Form.{file, item, enumeration, states, structure, member, member_end, functional_end, pair, machine, machine_name, parameter, literal, declaration, declaration_end, named_end, body, out_port, in_port, action, transition, transition_end, names, formals, formal, block, statement, statement_end, conditional, otherwise, expression, conjunction, equality, order, sum, product, unary, postfix, primary, constant, opening, name_end, suffix, arguments, balanced_part}
 use Rattle.slicc_grammar.specs.Table.{table}

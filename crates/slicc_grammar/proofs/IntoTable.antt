@@ -3,17 +3,17 @@ use Rattle.std.proofs.Common.{◌≡◌, ℕ, zero, suc, ◌≤◌, ◌==◌, tr
 use Rattle.std.proofs.lemmas.Bool.{or_cases, or_left, or_right}
 use Rattle.slicc_ast.specs.declared.tree.token.Word.TheVariants.{Transition, Machine, If, Else}
 use Rattle.slicc_ast.specs.declared.tree.token.Sign.TheVariants.{Comma, OpenParenthesis, CloseParenthesis, Equals}
-use Rattle.grammar_rows.specs.Kinds.{has}
-use Rattle.grammar_rows.specs.Grammar.{Row, Rows}
-use Rattle.grammar_rows.specs.Grammar.Row.{done, form, maybe, many}
-use Rattle.grammar_rows.specs.Grammar.Rows.{up}
-use Rattle.grammar_rows.specs.Matches.{Extent, Matches}
-use Rattle.grammar_rows.specs.Matches.Matches.{stopped, one, again, enough}
-use Rattle.grammar_rows.specs.Same.{Covers, joined}
-use Rattle.grammar_rows.proofs.KindSets.{in_either}
-use Rattle.grammar_rows.proofs.Joining.{merge}
-use Rattle.grammar_rows.proofs.Rewriting.{exchange_within}
-use Rattle.grammar_rows.proofs.Translating.{To, Each, IsFormCovered, covers_by, covered_by_itself, then_to, fold_to, form_to, token_to, either_to, maybe_to, to_present, to_absent, many_to, nested_to, end_to}
+use Rattle.slicc_grammar.specs.Kinds.{has}
+use Rattle.slicc_grammar.specs.Grammar.{Row, Rows}
+use Rattle.slicc_grammar.specs.Grammar.Row.{done, form, maybe, many}
+use Rattle.slicc_grammar.specs.Grammar.Rows.{up}
+use Rattle.slicc_grammar.specs.Matches.{Extent, Matches}
+use Rattle.slicc_grammar.specs.Matches.Matches.{stopped, one, again, enough}
+use Rattle.slicc_grammar.specs.Same.{Covers, joined}
+use Rattle.slicc_grammar.proofs.KindSets.{in_either}
+use Rattle.slicc_grammar.proofs.Joining.{merge}
+use Rattle.slicc_grammar.proofs.Rewriting.{exchange_within}
+use Rattle.slicc_grammar.proofs.Translating.{To, Each, IsFormCovered, covers_by, covered_by_itself, then_to, fold_to, form_to, token_to, either_to, maybe_to, to_present, to_absent, many_to, nested_to, end_to}
 use Rattle.slicc_grammar.specs.Form.{Form}
 use Rattle.slicc_grammar.specs.Form.Form.{member, member_end, functional_end, pair, machine, machine_name, parameter, declaration, declaration_end, named_end, transition, transition_end, names, formals, block, statement, statement_end, conditional, otherwise, expression, conjunction, equality, order, sum, product, unary, postfix, primary, opening, name_end, suffix}
 use Rattle.slicc_grammar.specs.TokenKinds.{other_name, machine_type, functional_name, word_kind, sign_kind}

@@ -2,12 +2,12 @@
 use Rattle.std.proofs.Common.{◌≡◌, ℕ, true, List, [], ◌∷◌, refl}
 use Rattle.slicc_ast.specs.declared.tree.token.Word.TheVariants.{Transition, Machine, If, Else}
 use Rattle.slicc_ast.specs.declared.tree.token.Sign.TheVariants.{Comma, OpenParenthesis, CloseParenthesis, Equals}
-use Rattle.grammar_rows.specs.Kinds.{is_subset}
-use Rattle.grammar_rows.specs.Grammar.{Row, Rows}
-use Rattle.grammar_rows.specs.Grammar.Row.{done, token, form, maybe, many}
-use Rattle.grammar_rows.specs.Grammar.Rows.{up}
-use Rattle.grammar_rows.specs.Same.{Covers, joined}
-use Rattle.grammar_rows.proofs.Translating.{To, Each, IsFormCovered, covers_by, covered_by_itself, then_to, fold_to, form_to, token_to, wider_to, maybe_to, to_present, to_absent, to_again, to_enough, nested_to, end_to, form_end_to, maybe_end_to}
+use Rattle.slicc_grammar.specs.Kinds.{is_subset}
+use Rattle.slicc_grammar.specs.Grammar.{Row, Rows}
+use Rattle.slicc_grammar.specs.Grammar.Row.{done, token, form, maybe, many}
+use Rattle.slicc_grammar.specs.Grammar.Rows.{up}
+use Rattle.slicc_grammar.specs.Same.{Covers, joined}
+use Rattle.slicc_grammar.proofs.Translating.{To, Each, IsFormCovered, covers_by, covered_by_itself, then_to, fold_to, form_to, token_to, wider_to, maybe_to, to_present, to_absent, to_again, to_enough, nested_to, end_to, form_end_to, maybe_end_to}
 use Rattle.slicc_grammar.specs.Form.{Form}
 use Rattle.slicc_grammar.specs.Form.Form.{member, member_end, functional_end, pair, machine, machine_name, parameter, declaration, declaration_end, named_end, transition, transition_end, names, formals, block, statement, statement_end, conditional, otherwise, expression, conjunction, equality, order, sum, product, unary, postfix, primary, constant, opening, name_end, suffix}
 use Rattle.slicc_grammar.specs.TokenKinds.{other_name, machine_type, functional_name, word_kind, sign_kind}

@@ -11,15 +11,15 @@ use Rattle.slicc_ast.specs.Boxes.{Operation', Not', Negate', Postfix', IsValid',
 use Rattle.slicc_ast.specs.declared.tree.expression.Suffix.{Suffix, Field, Method', Index}
 use Rattle.slicc_ast.specs.Outline.{is_allowed, are_allowed}
 use Rattle.slicc_ast.specs.Expressions.{expr, suffix, level_of, row_level, has_suffix, operator_sign, operator_level, operand_row, suffix_row, args_row, more_args_row}
-use Rattle.grammar_rows.specs.Kinds.{has}
-use Rattle.grammar_rows.specs.Grammar.{Row, Rows}
-use Rattle.grammar_rows.specs.Grammar.Row.{done, form, maybe, many}
-use Rattle.grammar_rows.specs.Grammar.Rows.{end, up}
-use Rattle.grammar_rows.specs.Matches.{Derives, Matches}
-use Rattle.grammar_rows.specs.Matches.Extent.{Whole}
-use Rattle.grammar_rows.specs.Matches.Matches.{ended, one, absent, enough, inside, outside}
-use Rattle.grammar_rows.specs.Same.{joined}
-use Rattle.grammar_rows.proofs.Translating.{fold_to, to_present, to_again}
+use Rattle.slicc_grammar.specs.Kinds.{has}
+use Rattle.slicc_grammar.specs.Grammar.{Row, Rows}
+use Rattle.slicc_grammar.specs.Grammar.Row.{done, form, maybe, many}
+use Rattle.slicc_grammar.specs.Grammar.Rows.{end, up}
+use Rattle.slicc_grammar.specs.Matches.{Derives, Matches}
+use Rattle.slicc_grammar.specs.Matches.Extent.{Whole}
+use Rattle.slicc_grammar.specs.Matches.Matches.{ended, one, absent, enough, inside, outside}
+use Rattle.slicc_grammar.specs.Same.{joined}
+use Rattle.slicc_grammar.proofs.Translating.{fold_to, to_present, to_again}
 use Rattle.slicc_grammar.specs.Form.{Form}
 use Rattle.slicc_grammar.specs.Form.Form.{expression, conjunction, equality, order, sum, product, unary, postfix, primary, constant}
 use Rattle.slicc_grammar.specs.TokenKinds.{name_kind, machine_type, functional_name, other_name, sign_kind}

@@ -18,15 +18,15 @@ use Rattle.slicc_ast.specs.declared.tree.name.Name.{Name}
 use Rattle.slicc_ast.specs.Outline.{Parts, none, are_allowed}
 use Rattle.slicc_ast.specs.Names.{star, is_loose, balanced_part, balanced_row, balanced_list}
 use Rattle.slicc_ast.specs.Declarations.{pair, pair_value, pair_list, formal, more_formals, formal_list, optional_name, is_skipped}
-use Rattle.grammar_rows.specs.Kinds.{has}
-use Rattle.grammar_rows.specs.Grammar.{Row, Rows}
-use Rattle.grammar_rows.specs.Grammar.Row.{done, form, maybe, many}
-use Rattle.grammar_rows.specs.Grammar.Rows.{up}
-use Rattle.grammar_rows.specs.Matches.{Matches}
-use Rattle.grammar_rows.specs.Matches.Extent.{Whole}
-use Rattle.grammar_rows.specs.Matches.Matches.{one, absent, enough, inside, outside}
-use Rattle.grammar_rows.proofs.KindSets.{in_right}
-use Rattle.grammar_rows.proofs.Translating.{fold_to, to_present, to_again}
+use Rattle.slicc_grammar.specs.Kinds.{has}
+use Rattle.slicc_grammar.specs.Grammar.{Row, Rows}
+use Rattle.slicc_grammar.specs.Grammar.Row.{done, form, maybe, many}
+use Rattle.slicc_grammar.specs.Grammar.Rows.{up}
+use Rattle.slicc_grammar.specs.Matches.{Matches}
+use Rattle.slicc_grammar.specs.Matches.Extent.{Whole}
+use Rattle.slicc_grammar.specs.Matches.Matches.{one, absent, enough, inside, outside}
+use Rattle.slicc_grammar.proofs.KindSets.{in_right}
+use Rattle.slicc_grammar.proofs.Translating.{fold_to, to_present, to_again}
 use Rattle.slicc_grammar.specs.Form.{Form}
 use Rattle.slicc_grammar.specs.TokenKinds.{kind_of, name_kind, machine_type, functional_name, other_name, number, quoted, word_kind, sign_kind}
 use Rattle.slicc_grammar.specs.Parts.{names_of, of, ◌▸◌, unbracketed, comma, name as name_part, star as star_part, pairs as pairs_part, balanced as balanced_parts}

@@ -13,13 +13,13 @@ use Rattle.slicc_ast.specs.Names.{balanced_list}
 use Rattle.slicc_ast.specs.Expressions.{expr}
 use Rattle.slicc_ast.specs.Declarations.{pair_list}
 use Rattle.slicc_ast.specs.Statements.{stmt, if_outline, else_if_row, else_part, stmt_row, stmt_list, block_end, block}
-use Rattle.grammar_rows.specs.Grammar.{Row, Rows}
-use Rattle.grammar_rows.specs.Grammar.Row.{done, form, maybe, many}
-use Rattle.grammar_rows.specs.Grammar.Rows.{end, up}
-use Rattle.grammar_rows.specs.Matches.{Derives}
-use Rattle.grammar_rows.specs.Matches.Extent.{Whole}
-use Rattle.grammar_rows.specs.Matches.Matches.{ended, one, absent, enough, inside, outside}
-use Rattle.grammar_rows.proofs.Translating.{fold_to, to_present, to_again}
+use Rattle.slicc_grammar.specs.Grammar.{Row, Rows}
+use Rattle.slicc_grammar.specs.Grammar.Row.{done, form, maybe, many}
+use Rattle.slicc_grammar.specs.Grammar.Rows.{end, up}
+use Rattle.slicc_grammar.specs.Matches.{Derives}
+use Rattle.slicc_grammar.specs.Matches.Extent.{Whole}
+use Rattle.slicc_grammar.specs.Matches.Matches.{ended, one, absent, enough, inside, outside}
+use Rattle.slicc_grammar.proofs.Translating.{fold_to, to_present, to_again}
 use Rattle.slicc_grammar.specs.Form.{Form}
 use Rattle.slicc_grammar.specs.TokenKinds.{kind_of, sign_kind}
 use Rattle.slicc_grammar.specs.Parts.{of, ◌▸◌, comma, semicolon, assign, word, parentheses}

@@ -41,14 +41,14 @@ use Rattle.slicc_ast.specs.Statements.{stmt_list, block_end}
 use Rattle.slicc_ast.specs.Machines.{out_port, in_port, action, more_names, name_list, names, next_parts, action_list, transition, function_body, function, object, decl, literal, literal_parts, parameter, parameter_list, decl_list, type_parts, machine}
 use Rattle.slicc_ast.specs.Trees.{item, item_list, protocol_parts, tree}
 use Rattle.slicc_ast.specs.declared.tree.token.Sign.TheVariants.{CloseBrace}
-use Rattle.grammar_rows.specs.Kinds.{has}
-use Rattle.grammar_rows.specs.Grammar.{Row, Rows}
-use Rattle.grammar_rows.specs.Grammar.Row.{done, form, maybe, many, nested}
-use Rattle.grammar_rows.specs.Grammar.Rows.{end, up}
-use Rattle.grammar_rows.specs.Matches.{Derives}
-use Rattle.grammar_rows.specs.Matches.Extent.{Whole}
-use Rattle.grammar_rows.specs.Matches.Matches.{ended, one, absent, enough, inside, outside}
-use Rattle.grammar_rows.proofs.Translating.{fold_to, to_present, to_again}
+use Rattle.slicc_grammar.specs.Kinds.{has}
+use Rattle.slicc_grammar.specs.Grammar.{Row, Rows}
+use Rattle.slicc_grammar.specs.Grammar.Row.{done, form, maybe, many, nested}
+use Rattle.slicc_grammar.specs.Grammar.Rows.{end, up}
+use Rattle.slicc_grammar.specs.Matches.{Derives}
+use Rattle.slicc_grammar.specs.Matches.Extent.{Whole}
+use Rattle.slicc_grammar.specs.Matches.Matches.{ended, one, absent, enough, inside, outside}
+use Rattle.slicc_grammar.proofs.Translating.{fold_to, to_present, to_again}
 use Rattle.slicc_grammar.specs.Form.{Form}
 use Rattle.slicc_grammar.specs.TokenKinds.{name_kind, functional_name, end_of_text, sign_kind}
 use Rattle.slicc_grammar.specs.Spelled.{spelling}

@@ -2,10 +2,10 @@
 -- the front of a list of it.
 use Rattle.std.proofs.Common.{◌≡◌, ◌↔◌, ℕ, true, List, ◌++◌, refl}
 use Rattle.std.specs.List.{list_all}
-use Rattle.grammar_rows.specs.Grammar.Row.{done, form}
-use Rattle.grammar_rows.specs.Grammar.Rows.{end}
-use Rattle.grammar_rows.specs.Matches.{Derives, IsViable}
-use Rattle.grammar_rows.proofs.Completing.{HasList, by_alternative, derived_list, are_some, viable_is_front}
+use Rattle.slicc_grammar.specs.Grammar.Row.{done, form}
+use Rattle.slicc_grammar.specs.Grammar.Rows.{end}
+use Rattle.slicc_grammar.specs.Matches.{Derives, IsViable}
+use Rattle.slicc_grammar.proofs.Completing.{HasList, by_alternative, derived_list, are_some, viable_is_front}
 use Rattle.slicc_grammar.specs.Form.{Form}
 use Rattle.slicc_grammar.specs.Form.Form.{file, item, enumeration, states, structure, member, member_end, functional_end, pair, machine, machine_name, parameter, literal, declaration, declaration_end, named_end, body, out_port, in_port, action, transition, transition_end, names, formals, formal, block, statement, statement_end, conditional, otherwise, expression, conjunction, equality, order, sum, product, unary, postfix, primary, constant, opening, name_end, suffix, arguments, balanced_part}
 use Rattle.slicc_grammar.specs.Written.{written, written_rows}

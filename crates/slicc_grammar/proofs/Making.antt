@@ -9,11 +9,11 @@ use Rattle.slicc_ast.specs.declared.tree.name.Name.{Name}
 use Rattle.slicc_ast.specs.declared.tree.name.TypeName.{TypeName}
 use Rattle.slicc_ast.specs.Outline.{Outline, node, Parts, none, token, part, provided, kinds_of, kinds_in, is_allowed, are_allowed, no_span, shape_of, shape_in}
 use Rattle.slicc_ast.specs.Names.{name as name_parts, type_name as type_parts}
-use Rattle.grammar_rows.specs.Kinds.{has}
-use Rattle.grammar_rows.specs.Grammar.{Row, Rows}
-use Rattle.grammar_rows.specs.Grammar.Row.{done, form, maybe, many}
-use Rattle.grammar_rows.specs.Grammar.Rows.{next}
-use Rattle.grammar_rows.proofs.Building.Builds.{one, alternative, present, absent, again, enough, on}
+use Rattle.slicc_grammar.specs.Kinds.{has}
+use Rattle.slicc_grammar.specs.Grammar.{Row, Rows}
+use Rattle.slicc_grammar.specs.Grammar.Row.{done, form, maybe, many}
+use Rattle.slicc_grammar.specs.Grammar.Rows.{next}
+use Rattle.slicc_grammar.proofs.Building.Builds.{one, alternative, present, absent, again, enough, on}
 use Rattle.slicc_grammar.specs.Form.{Form}
 use Rattle.slicc_grammar.specs.TokenKinds.{name_kind, kind_of}
 use Rattle.slicc_grammar.proofs.Leading.{name_is_one}

@@ -11,11 +11,11 @@ use Rattle.slicc_ast.specs.Boxes.{Operation', Not', Negate', Postfix', IsValid',
 use Rattle.slicc_ast.specs.declared.tree.expression.Suffix.{Suffix, Field, Method', Index}
 use Rattle.slicc_ast.specs.Outline.{Outline, node, part, no_span, is_allowed, are_allowed, shape_of, shape_in}
 use Rattle.slicc_ast.specs.Expressions.{expr, suffix, level_of, row_level, has_suffix, operator_sign, operator_level, operand_row, suffix_row, args_row, more_args_row}
-use Rattle.grammar_rows.specs.Kinds.{has}
-use Rattle.grammar_rows.specs.Grammar.{Row, Rows}
-use Rattle.grammar_rows.specs.Grammar.Row.{done, many, maybe}
-use Rattle.grammar_rows.specs.Grammar.Rows.{next}
-use Rattle.grammar_rows.proofs.Building.Builds.{one, alternative, present, absent, again, enough, on}
+use Rattle.slicc_grammar.specs.Kinds.{has}
+use Rattle.slicc_grammar.specs.Grammar.{Row, Rows}
+use Rattle.slicc_grammar.specs.Grammar.Row.{done, many, maybe}
+use Rattle.slicc_grammar.specs.Grammar.Rows.{next}
+use Rattle.slicc_grammar.proofs.Building.Builds.{one, alternative, present, absent, again, enough, on}
 use Rattle.slicc_grammar.specs.Form.{Form}
 use Rattle.slicc_grammar.specs.Form.Form.{expression, constant, name_end, arguments}
 use Rattle.slicc_grammar.specs.TokenKinds.{kind_of}

@@ -17,10 +17,10 @@ use Rattle.slicc_ast.specs.Outline.{Parts, none}
 use Rattle.slicc_ast.specs.Names.{star, is_loose, balanced as balanced_parts, balanced_part, balanced_row, balanced_list}
 use Rattle.slicc_ast.specs.Declarations.{pair, pair_value, pair_list, pairs as pairs_parts, formal, more_formals, formal_list, formals as formals_parts, optional_name}
 use Rattle.slicc_ast.specs.Machines.{literal}
-use Rattle.grammar_rows.specs.Grammar.{Row}
-use Rattle.grammar_rows.specs.Grammar.Row.{done, many}
-use Rattle.grammar_rows.specs.Grammar.Rows.{next}
-use Rattle.grammar_rows.proofs.Building.Builds.{one, alternative, on}
+use Rattle.slicc_grammar.specs.Grammar.{Row}
+use Rattle.slicc_grammar.specs.Grammar.Row.{done, many}
+use Rattle.slicc_grammar.specs.Grammar.Rows.{next}
+use Rattle.slicc_grammar.proofs.Building.Builds.{one, alternative, on}
 use Rattle.slicc_grammar.specs.Form.{Form}
 use Rattle.slicc_grammar.proofs.LeadingParts.{loose}
 use Rattle.slicc_grammar.proofs.Shapes.{◌▸◌, Step, value, close, of, at, name, sign, comma, optional, more_pairs, pairs, formals_part, balanced}

@@ -16,10 +16,10 @@ use Rattle.slicc_ast.specs.Outline.{node, Parts, none, part, is_allowed, are_all
 use Rattle.slicc_ast.specs.Names.{sign as sign_parts}
 use Rattle.slicc_ast.specs.Expressions.{expr}
 use Rattle.slicc_ast.specs.Statements.{stmt, if_outline, else_if_row, else_part, stmt_row, stmt_list, block_end}
-use Rattle.grammar_rows.specs.Grammar.{Row, Rows}
-use Rattle.grammar_rows.specs.Grammar.Row.{done, form, maybe, many}
-use Rattle.grammar_rows.specs.Grammar.Rows.{next}
-use Rattle.grammar_rows.proofs.Building.Builds.{one, alternative, on}
+use Rattle.slicc_grammar.specs.Grammar.{Row, Rows}
+use Rattle.slicc_grammar.specs.Grammar.Row.{done, form, maybe, many}
+use Rattle.slicc_grammar.specs.Grammar.Rows.{next}
+use Rattle.slicc_grammar.proofs.Building.Builds.{one, alternative, on}
 use Rattle.slicc_grammar.specs.Form.{Form}
 use Rattle.slicc_grammar.proofs.Shapes.{◌▸◌, Made, Mark, Step, mark, marked_by, Makes, of, at, close, name, word, sign, front, operators_to, end_of_statement}
 use Rattle.slicc_grammar.proofs.Making.{spelled_in, Forms, Closes, Place, Behind, closed_last, then_token, then_name, then_type, then_form, then_on, then_alternative, then_present, then_absent, then_again, then_enough, by_node}

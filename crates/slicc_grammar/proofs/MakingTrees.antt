@@ -42,11 +42,11 @@ use Rattle.slicc_ast.specs.Names.{sign as sign_parts, star, name as name_parts, 
 use Rattle.slicc_ast.specs.Declarations.{pair, pair_list, pairs as pairs_parts, is_skipped, symbol_list, enumeration, state_list, states, member, member_list, structure}
 use Rattle.slicc_ast.specs.Machines.{out_port, in_port, action, more_names, name_list, names as names_parts, next_parts, action_list, transition, function_body, function, object, decl, literal_parts, parameter, parameter_list, decl_list, type_parts, machine}
 use Rattle.slicc_ast.specs.Trees.{item, item_list, protocol_parts, tree_parts, tree}
-use Rattle.grammar_rows.specs.Kinds.{has}
-use Rattle.grammar_rows.specs.Grammar.{Row}
-use Rattle.grammar_rows.specs.Grammar.Row.{done, many}
-use Rattle.grammar_rows.specs.Grammar.Rows.{end, next}
-use Rattle.grammar_rows.proofs.Building.Builds.{ended, one, alternative, present, absent, on}
+use Rattle.slicc_grammar.specs.Kinds.{has}
+use Rattle.slicc_grammar.specs.Grammar.{Row}
+use Rattle.slicc_grammar.specs.Grammar.Row.{done, many}
+use Rattle.slicc_grammar.specs.Grammar.Rows.{end, next}
+use Rattle.slicc_grammar.proofs.Building.Builds.{ended, one, alternative, present, absent, on}
 use Rattle.slicc_grammar.specs.Form.{Form}
 use Rattle.slicc_grammar.specs.TokenKinds.{end_of_text, name_kind, machine_type, functional_name, other_name}
 use Rattle.slicc_grammar.proofs.LeadingParts.{plain_name_is_one}

@@ -9,10 +9,10 @@ use Rattle.slicc_ast.specs.Outline.{Outline, node, none, no_span, kinds_of, is_a
 use Rattle.slicc_ast.specs.Expressions.{expr}
 use Rattle.slicc_ast.specs.Statements.{block_outline}
 use Rattle.slicc_ast.specs.Trees.{tree}
-use Rattle.grammar_rows.specs.Grammar.Row.{done}
-use Rattle.grammar_rows.specs.Grammar.Rows.{end}
-use Rattle.grammar_rows.proofs.Building.{one_form_built}
-use Rattle.grammar_rows.proofs.Building.Builds.{ended}
+use Rattle.slicc_grammar.specs.Grammar.Row.{done}
+use Rattle.slicc_grammar.specs.Grammar.Rows.{end}
+use Rattle.slicc_grammar.proofs.Building.{one_form_built}
+use Rattle.slicc_grammar.proofs.Building.Builds.{ended}
 use Rattle.slicc_grammar.specs.Form.{Form}
 use Rattle.slicc_grammar.proofs.Shapes.{Made, start, opened, with_token, with_part, plain, Makes, of, shaper}
 use Rattle.slicc_grammar.proofs.ShapesDecided.{shapes_decided}

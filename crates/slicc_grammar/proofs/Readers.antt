@@ -3,16 +3,16 @@ use Rattle.std.proofs.Common.{◌≡◌, ℕ, true, List, [], ◌∷◌, ◌++�
 use Rattle.slicc_ast.specs.declared.tree.item.Tree.{Tree}
 use Rattle.slicc_ast.specs.Outline.{is_allowed}
 use Rattle.slicc_ast.specs.Trees.{tree}
-use Rattle.grammar_rows.specs.Faults.{IsFirstFault, IsWithin, Stop}
-use Rattle.grammar_rows.specs.Faults.Stop.{Passed}
-use Rattle.grammar_rows.specs.Grammar.Row.{done, form}
-use Rattle.grammar_rows.specs.Grammar.Rows.{end}
-use Rattle.grammar_rows.specs.Reader.{Fails, Passes}
-use Rattle.grammar_rows.specs.Same.{HaveSameLists}
-use Rattle.grammar_rows.proofs.Joining.{same_lists}
-use Rattle.grammar_rows.proofs.SameStops.{same_stop}
-use Rattle.grammar_rows.proofs.Steps.{passed_is_front, failed_is_fault}
-use Rattle.grammar_rows.proofs.Fronts.{one_stop, whole_passes}
+use Rattle.slicc_grammar.specs.Faults.{IsFirstFault, IsWithin, Stop}
+use Rattle.slicc_grammar.specs.Faults.Stop.{Passed}
+use Rattle.slicc_grammar.specs.Grammar.Row.{done, form}
+use Rattle.slicc_grammar.specs.Grammar.Rows.{end}
+use Rattle.slicc_grammar.specs.Reader.{Fails, Passes}
+use Rattle.slicc_grammar.specs.Same.{HaveSameLists}
+use Rattle.slicc_grammar.proofs.Joining.{same_lists}
+use Rattle.slicc_grammar.proofs.SameStops.{same_stop}
+use Rattle.slicc_grammar.proofs.Steps.{passed_is_front, failed_is_fault}
+use Rattle.slicc_grammar.proofs.Fronts.{one_stop, whole_passes}
 use Rattle.slicc_grammar.specs.Form.{Form}
 use Rattle.slicc_grammar.specs.Form.Form.{file}
 use Rattle.slicc_grammar.specs.Spelled.{spelling}

@@ -9,9 +9,9 @@ use Rattle.slicc_ast.specs.declared.tree.token.Sign.{Sign}
 use Rattle.slicc_ast.specs.declared.tree.token.Word.TheVariants.{Protocol, Include, Machine, Enumeration, StateDeclaration, Structure, InPort, OutPort, Action, Transition, Peek, Enqueue, StallAndWait, CheckAllocate, If, Else, Return, True, False, Ood, New, IsValid, IsInvalid, StaticCast, Error, Assert, Dprintf, AppendTransitionComment}
 use Rattle.slicc_ast.specs.declared.tree.token.Sign.TheVariants.{OpenBrace, CloseBrace, OpenParenthesis, CloseParenthesis, OpenBracket, CloseBracket, Comma, Colon, Semicolon, Assign, Dot, Equals, Minus, Not, Star, Plus, Less, Greater, LessOrEqual, GreaterOrEqual, Equal, Unequal, And, Or}
 use Rattle.slicc_ast.specs.Outline.{Outline, node, Parts, none, token, part, no_span}
-use Rattle.grammar_rows.specs.Grammar.{Row, Rows, Grammar}
-use Rattle.grammar_rows.specs.Reader.{followed_by}
-use Rattle.grammar_rows.proofs.Building.{Builder, Builds}
+use Rattle.slicc_grammar.specs.Grammar.{Row, Rows, Grammar}
+use Rattle.slicc_grammar.specs.Reader.{followed_by}
+use Rattle.slicc_grammar.proofs.Building.{Builder, Builds}
 use Rattle.slicc_grammar.specs.Form.{Form}
 use Rattle.slicc_grammar.specs.Form.Form.{file, item, enumeration, states, structure, member, member_end, functional_end, pair, machine, machine_name, parameter, literal, declaration, declaration_end, named_end, body, out_port, in_port, action, transition, transition_end, names, formals, formal, block, statement, statement_end, conditional, otherwise, expression, conjunction, equality, order, sum, product, unary, postfix, primary, constant, opening, name_end, suffix, arguments, balanced_part}
 use Rattle.slicc_grammar.specs.TokenKinds.{other_name, machine_type, functional_name, number, quoted, end_of_text, kind_of, sign_kind, word_kind}

@@ -1,6 +1,6 @@
 -- One token ahead decides in the table that makes outlines: the test of each form computes.
 use Rattle.std.proofs.Common.{refl}
-use Rattle.grammar_rows.specs.Predictive.{IsPredictive}
+use Rattle.slicc_grammar.specs.Predictive.{IsPredictive}
 use Rattle.slicc_grammar.specs.Form.Form.{file, item, enumeration, states, structure, member, member_end, functional_end, pair, machine, machine_name, parameter, literal, declaration, declaration_end, named_end, body, out_port, in_port, action, transition, transition_end, names, formals, formal, block, statement, statement_end, conditional, otherwise, expression, conjunction, equality, order, sum, product, unary, postfix, primary, constant, opening, name_end, suffix, arguments, balanced_part}
 use Rattle.slicc_grammar.proofs.Shapes.{shapes}
 use Rattle.slicc_grammar.proofs.Shapes.Step.{plain, value, mark}

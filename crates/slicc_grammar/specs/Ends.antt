@@ -1,7 +1,7 @@
 -- The forms beside those of the grammar: what may stand behind what several alternatives of a form have in common.
 use Rattle.std.specs.Prelude.{List, [], ◌∷◌}
 use Rattle.slicc_ast.specs.declared.tree.token.Sign.TheVariants.{Equals, Minus, Not}
-use Rattle.grammar_rows.specs.Grammar.{Row}
+use Rattle.slicc_grammar.specs.Grammar.{Row}
 use Rattle.slicc_grammar.specs.Form.{Form}
 use Rattle.slicc_grammar.specs.Form.Form.{member_end, functional_end, machine_name, declaration_end, named_end, body, transition_end, formals, block, statement_end, conditional, otherwise, expression, unary, constant, opening, name_end, suffix, arguments}
 use Rattle.slicc_grammar.specs.Parts.{◌▸◌, rows, of, optional, repeated, sign, name, plain_name, skipped_name, machine_type_name, other_than_machine_type, value, string, colon, semicolon, assign, star, parentheses, braces, prefixed, pairs, balanced, operators}

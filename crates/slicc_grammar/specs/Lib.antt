@@ -6,3 +6,11 @@ pub mod Ahead
 pub mod Written
 pub mod Table
 pub mod Spelled
+pub mod Kinds
+pub mod Grammar
+pub mod Matches
+pub mod Faults
+pub mod Predictive
+pub mod Reader
+pub mod Choices
+pub mod Same

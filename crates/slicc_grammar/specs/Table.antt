@@ -3,7 +3,7 @@
 -- behind it. Operators are read level by level behind their first operand. Both tables have the same lists of tokens.
 use Rattle.std.specs.Prelude.{false, List, [], ◌∷◌}
 use Rattle.slicc_ast.specs.declared.tree.token.Word.TheVariants.{Machine, Transition, Peek, Enqueue, StallAndWait, CheckAllocate, If, Else, Return, Error, Assert, Dprintf, AppendTransitionComment}
-use Rattle.grammar_rows.specs.Grammar.{Row, Grammar}
+use Rattle.slicc_grammar.specs.Grammar.{Row, Grammar}
 use Rattle.slicc_grammar.specs.Form.{Form}
 use Rattle.slicc_grammar.specs.Form.Form.{enumeration, states, structure, member, member_end, machine, machine_name, parameter, declaration, declaration_end, out_port, in_port, action, transition, transition_end, names, block, statement, statement_end, conditional, otherwise, expression, conjunction, equality, order, sum, unary, postfix, primary, constant, opening, name_end, suffix}
 use Rattle.slicc_grammar.specs.Parts.{◌▸◌, rows, of, optional, repeated, word, words, name, type, string, comma, colon, semicolon, assign, parentheses, braces, pairs, balanced, products, sums, orders, equalities, conjunctions, operators}

@@ -6,7 +6,7 @@
 use Rattle.std.specs.Prelude.{ℕ, false, List, [], ◌∷◌, map}
 use Rattle.slicc_ast.specs.declared.tree.token.Word.TheVariants.{Protocol, Include, Machine, Enumeration, StateDeclaration, Structure, InPort, OutPort, Action, Transition, Peek, Enqueue, StallAndWait, CheckAllocate, If, Else, Return, True, False, Ood, New, IsValid, IsInvalid, StaticCast, Error, Assert, Dprintf, AppendTransitionComment}
 use Rattle.slicc_ast.specs.declared.tree.token.Sign.TheVariants.{OpenBrace, OpenParenthesis, OpenBracket, Dot, Equals, Minus, Not}
-use Rattle.grammar_rows.specs.Grammar.{Row, Grammar}
+use Rattle.slicc_grammar.specs.Grammar.{Row, Grammar}
 use Rattle.slicc_grammar.specs.Form.{Form}
 use Rattle.slicc_grammar.specs.Form.Form.{file, item, enumeration, states, structure, member, pair, machine, parameter, literal, declaration, body, out_port, in_port, action, transition, names, formals, formal, block, statement, conditional, expression, conjunction, equality, order, sum, product, unary, postfix, primary, constant, suffix, arguments, balanced_part}
 use Rattle.slicc_grammar.specs.TokenKinds.{sign_kind}

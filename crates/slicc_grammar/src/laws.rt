@@ -1,15 +1,15 @@
 // What holds of the grammar. These functions do nothing: their contracts are the laws.
 ghost use Rattle.std.specs.Prelude.{◌≡◌, ◌↔◌, ℕ, true, List, [], ◌∷◌, ◌++◌, map};
 ghost use Rattle.std.specs.List.{Contains};
-ghost use Rattle.grammar_rows.specs.Choices.{choices_of};
-ghost use Rattle.grammar_rows.specs.Faults.{IsFirstFault, IsWithin, Stop};
-ghost use Rattle.grammar_rows.specs.Faults.Stop.{Passed};
-ghost use Rattle.grammar_rows.specs.Grammar.Row.{done, form};
-ghost use Rattle.grammar_rows.specs.Grammar.Rows.{end};
-ghost use Rattle.grammar_rows.specs.Matches.{Derives, Extent, IsViable, Matches};
-ghost use Rattle.grammar_rows.specs.Predictive.{IsPredictive, is_predictive};
-ghost use Rattle.grammar_rows.specs.Reader.{Fails, Passes};
-ghost use Rattle.grammar_rows.specs.Same.{HaveSameLists};
+ghost use Rattle.slicc_grammar.specs.Choices.{choices_of};
+ghost use Rattle.slicc_grammar.specs.Faults.{IsFirstFault, IsWithin, Stop};
+ghost use Rattle.slicc_grammar.specs.Faults.Stop.{Passed};
+ghost use Rattle.slicc_grammar.specs.Grammar.Row.{done, form};
+ghost use Rattle.slicc_grammar.specs.Grammar.Rows.{end};
+ghost use Rattle.slicc_grammar.specs.Matches.{Derives, Extent, IsViable, Matches};
+ghost use Rattle.slicc_grammar.specs.Predictive.{IsPredictive, is_predictive};
+ghost use Rattle.slicc_grammar.specs.Reader.{Fails, Passes};
+ghost use Rattle.slicc_grammar.specs.Same.{HaveSameLists};
 ghost use Rattle.slicc_ast.specs.Expressions.{expr};
 ghost use Rattle.slicc_ast.specs.Outline.{are_allowed, is_allowed, kinds_in, kinds_of, none, shape_of};
 ghost use Rattle.slicc_ast.specs.Statements.{block, block_outline};

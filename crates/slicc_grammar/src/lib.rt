@@ -1,10 +1,16 @@
-//! The grammar of SLICC: as it is written, and as a table of rows in which one token ahead decides. The definitions stand
+//! The grammar of SLICC: as it is written, and as a table of rows in which one token ahead decides; and of all such tables what lists of
+//! tokens they have, where a list ceases to be one, and how far a reader with one token ahead comes. The definitions stand
 //! in `specs/`; the functions here do nothing, and their contracts are what holds of it.
 #![tactic(auto)]
 
 mod laws;
+mod table_laws;
 
 pub use laws::{
     every_form_has_a_list, one_token_ahead_decides, reader_keeps_to_the_written_grammar,
     tokens_spell_one_tree, trees_are_of_the_written_grammar,
+};
+pub use table_laws::{
+    choices_are_one, lists_stop_in_one_way, reader_fails_by_steps, reader_passes_by_steps,
+    reader_stops_at_the_first_fault, rows_are_in_a_row, tables_with_the_same_lists,
 };

@@ -3,16 +3,15 @@ ghost use Rattle.slicc_ast.specs.declared.tree.item.Tree.{Tree as TreeRecord};
 ghost use Rattle.slicc_plan.specs.Declarations.{machines_of};
 ghost use Rattle.slicc_plan.specs.SymbolsOf.{symbols_of};
 ghost use Rattle.symbol_laws.specs.Lawful.{HasNumbers};
-ghost use Rattle.scan_meaning.specs.Round.{IsRoundOf};
+ghost use Rattle.body_meaning.specs.Round.{IsRoundOf};
 ghost use Rattle.protocol_meaning.specs.Meaning.{scan_of};
 
 use crate::settings::call_setting;
 use crate::small::{machine_of, plans_are_small};
 use acts::{Local, NoMemory};
-use body_meaning::Scope;
+use body_meaning::{RoundEnd, Scope};
 use protocol_meaning::Protocol;
 use ruby_symbols::MachineSymbols;
-use scan_meaning::RoundEnd;
 use scan_walk::scan;
 use slicc_ast::tree::Machine;
 use slicc_plan::Plan;

@@ -1,7 +1,7 @@
 use ruby_base::NoMemory;
 
 /// Why bytes are not read as tokens: the first place where they are none, as the offset of a byte from 0.
-#[derive(Clone, Copy, Debug, PartialEq, Eq)]
+#[derive(Clone, Copy, Debug)]
 pub enum LexFault {
     /// A byte that begins no token, or one that a string which is closed on its line may not hold.
     BadByte(u32),

@@ -4,7 +4,7 @@ ghost use Rattle.slicc_lex.specs.Places.{line_of, column_of};
 use crate::bytes::last_line_len;
 
 /// Where a byte of a file stands, counted from 1 as text editors do, columns in bytes.
-#[derive(Clone, Copy, Debug, PartialEq, Eq)]
+#[derive(Clone, Copy)]
 pub struct Place {
     pub line: u32,
     pub column: u32,

@@ -1,6 +1,6 @@
 //! What is broken in the declarations of a protocol, and its names.
 ghost use Rattle.std.specs.Prelude.{◌≡◌, IfOk};
-ghost use Rattle.slicc_plan.specs.BrokenDeclarations.{broken_declarations as broken_declarations_of, refusal_of};
+ghost use Rattle.slicc_plan.specs.BrokenDeclarations.{broken_declarations as broken_declarations_of};
 ghost use Rattle.slicc_plan.specs.Order.{first_of};
 ghost use Rattle.slicc_names.specs.Collected.{AreNamesOrBroken, IsCollected};
 
@@ -10,19 +10,8 @@ use crate::twice::names_twice_declared;
 use declaration_rules::{judge_field_types, judge_prototypes, judge_type_names, judge_values};
 use declared_types::Scopes;
 use slicc_ast::tree::Tree;
-use slicc_plan::{Broken, NoMemory, Refusal, Seq};
+use slicc_plan::{Broken, NoMemory, Refusal, Seq, refused};
 use std::alloc::Global;
-
-/// How a broken rule is told.
-pub fn refusal(b: Broken) -> Refusal
-    ensures { result ≡ refusal_of b }
-{
-    Refusal::Rule {
-        number: b.rule.number(),
-        place: b.place,
-        other: b.other,
-    }
-}
 
 /// The first rule of declarations that a protocol breaks, if it breaks any.
 #[tactic(auto, using(crate::proofs::FirstOfAll::rules_of_lists))]
@@ -60,7 +49,7 @@ pub fn collect(alloc: Global, trees: &Seq<Tree>) -> Result<Names, Refusal>
 {
     match judged(alloc, trees) {
         Ok(Ok(names)) => Ok(names),
-        Ok(Err(b)) => Err(refusal(b)),
+        Ok(Err(b)) => Err(refused(b)),
         Err(NoMemory) => Err(Refusal::NoMemory),
     }
 }

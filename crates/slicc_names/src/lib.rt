@@ -17,7 +17,7 @@ mod protocol;
 mod scopes;
 mod twice;
 
-pub use collecting::{broken_declarations, collect, refusal};
+pub use collecting::{broken_declarations, collect};
 pub use laws::{declared_names_are_found, names_have_numbers};
 pub use names::Names;
 pub use protocol::limits_passed;

@@ -4,10 +4,10 @@ use Rattle.std.specs.Result.{IfErr}
 use Rattle.std.proofs.lemmas.List.{map-append}
 use Rattle.slicc_ast.specs.declared.tree.item.Tree.{Tree}
 use Rattle.slicc_ast.specs.Trees.{tree}
-use Rattle.grammar_rows.specs.Faults.{IsFirstFault, IsWithin, Stop}
-use Rattle.grammar_rows.specs.Faults.Stop.{Bad, Deep, Passed}
-use Rattle.grammar_rows.specs.Grammar.Row.{done, form}
-use Rattle.grammar_rows.specs.Grammar.Rows.{end}
+use Rattle.slicc_grammar.specs.Faults.{IsFirstFault, IsWithin, Stop}
+use Rattle.slicc_grammar.specs.Faults.Stop.{Bad, Deep, Passed}
+use Rattle.slicc_grammar.specs.Grammar.Row.{done, form}
+use Rattle.slicc_grammar.specs.Grammar.Rows.{end}
 use Rattle.slicc_grammar.specs.Form.Form.{file}
 use Rattle.slicc_grammar.specs.Spelled.{spelling}
 use Rattle.slicc_grammar.specs.TokenKinds.{end_of_text, kind_of}

@@ -7,9 +7,9 @@ use Rattle.slicc_ast.specs.declared.tree.token.TokenKind.{TokenKind}
 use Rattle.slicc_ast.specs.declared.tree.token.TokenKind.TheVariants.{End}
 use Rattle.slicc_ast.specs.Outline.{covering, none, token}
 use Rattle.slicc_ast.specs.Trees.{protocol_parts}
-use Rattle.grammar_rows.specs.Faults.{IsFirstFault}
-use Rattle.grammar_rows.specs.Faults.Stop.{Passed}
-use Rattle.grammar_rows.specs.Kinds.{has, is_ahead}
+use Rattle.slicc_grammar.specs.Faults.{IsFirstFault}
+use Rattle.slicc_grammar.specs.Faults.Stop.{Passed}
+use Rattle.slicc_grammar.specs.Kinds.{has, is_ahead}
 use Rattle.slicc_grammar.specs.Ahead.{first_of_form}
 use Rattle.slicc_grammar.specs.Form.Form.{file}
 use Rattle.slicc_grammar.specs.Parts.{◌▸◌, end_token, of, optional}

@@ -4,20 +4,20 @@ use Rattle.std.specs.List.{slice_get}
 use Rattle.std.proofs.lemmas.Bool.{false≢true}
 use Rattle.slicc_ast.specs.declared.tree.token.TokenKind.TheVariants.{End}
 use Rattle.slicc_ast.specs.declared.tree.token.Word.TheVariants.{Protocol}
-use Rattle.grammar_rows.specs.Faults.{IsFirstFault}
-use Rattle.grammar_rows.specs.Faults.Stop.{Short}
-use Rattle.grammar_rows.specs.Faults.IsStop.{too_short}
-use Rattle.grammar_rows.specs.Grammar.{Row}
-use Rattle.grammar_rows.specs.Grammar.Row.{done, form}
-use Rattle.grammar_rows.specs.Grammar.Rows.{end, next}
-use Rattle.grammar_rows.specs.Kinds.{has}
-use Rattle.grammar_rows.specs.Matches.{Begins, Derives, Matches}
-use Rattle.grammar_rows.specs.Matches.Extent.{Front}
-use Rattle.grammar_rows.specs.Matches.Matches.{stopped, ended, one, alternative}
-use Rattle.grammar_rows.specs.Same.{joined}
-use Rattle.grammar_rows.proofs.InARow.{begins_in_a_row, derives_in_a_row}
-use Rattle.grammar_rows.proofs.Joining.{merge, part}
-use Rattle.grammar_rows.proofs.KindSets.{in_either}
+use Rattle.slicc_grammar.specs.Faults.{IsFirstFault}
+use Rattle.slicc_grammar.specs.Faults.Stop.{Short}
+use Rattle.slicc_grammar.specs.Faults.IsStop.{too_short}
+use Rattle.slicc_grammar.specs.Grammar.{Row}
+use Rattle.slicc_grammar.specs.Grammar.Row.{done, form}
+use Rattle.slicc_grammar.specs.Grammar.Rows.{end, next}
+use Rattle.slicc_grammar.specs.Kinds.{has}
+use Rattle.slicc_grammar.specs.Matches.{Begins, Derives, Matches}
+use Rattle.slicc_grammar.specs.Matches.Extent.{Front}
+use Rattle.slicc_grammar.specs.Matches.Matches.{stopped, ended, one, alternative}
+use Rattle.slicc_grammar.specs.Same.{joined}
+use Rattle.slicc_grammar.proofs.InARow.{begins_in_a_row, derives_in_a_row}
+use Rattle.slicc_grammar.proofs.Joining.{merge, part}
+use Rattle.slicc_grammar.proofs.KindSets.{in_either}
 use Rattle.slicc_grammar.specs.Form.{Form}
 use Rattle.slicc_grammar.specs.Form.Form.{file, item}
 use Rattle.slicc_grammar.specs.Parts.{◌▸◌, end_token, of, optional, repeated, semicolon, string, word}

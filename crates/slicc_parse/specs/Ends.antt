@@ -4,7 +4,7 @@ use Rattle.slicc_ast.specs.declared.tree.item.Tree.{Tree}
 use Rattle.slicc_ast.specs.declared.tree.token.TokenKind.TheVariants.{End}
 use Rattle.slicc_ast.specs.Outline.{covering}
 use Rattle.slicc_ast.specs.Trees.{tree_parts}
-use Rattle.grammar_rows.specs.Reader.{Passes}
+use Rattle.slicc_grammar.specs.Reader.{Passes}
 use Rattle.slicc_grammar.specs.Form.Form.{file}
 use Rattle.slicc_grammar.specs.Parts.{of}
 use Rattle.slicc_grammar.specs.Table.{table}

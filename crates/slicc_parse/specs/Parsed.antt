@@ -4,10 +4,10 @@
 use Rattle.std.specs.Prelude.{◌≡◌, ◌≢◌, ◌++◌, All, List, [], ◌∷◌, Result, MatchResult}
 use Rattle.slicc_ast.specs.declared.tree.item.Tree.{Tree}
 use Rattle.slicc_ast.specs.declared.tree.token.TokenKind.TheVariants.{End}
-use Rattle.grammar_rows.specs.Faults.{IsFirstFault, IsWithin}
-use Rattle.grammar_rows.specs.Faults.Stop.{Passed}
-use Rattle.grammar_rows.specs.Grammar.Row.{done, form}
-use Rattle.grammar_rows.specs.Grammar.Rows.{end}
+use Rattle.slicc_grammar.specs.Faults.{IsFirstFault, IsWithin}
+use Rattle.slicc_grammar.specs.Faults.Stop.{Passed}
+use Rattle.slicc_grammar.specs.Grammar.Row.{done, form}
+use Rattle.slicc_grammar.specs.Grammar.Rows.{end}
 use Rattle.slicc_grammar.specs.Form.Form.{file}
 use Rattle.slicc_grammar.specs.Written.{written}
 use Rattle.slicc_lex.specs.declared.token.Token.{Token}

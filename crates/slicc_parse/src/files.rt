@@ -1,6 +1,6 @@
 //! Whole files.
 ghost use Rattle.std.specs.Prelude.{◌≡◌, ◌==◌, ◌∷◌, ◌≤◌, [], IsTrue, length, not, IfOk, MatchResult};
-ghost use Rattle.grammar_rows.specs.Kinds.{has, is_ahead};
+ghost use Rattle.slicc_grammar.specs.Kinds.{has, is_ahead};
 ghost use Rattle.slicc_ast.specs.Outline.{covering};
 ghost use Rattle.slicc_ast.specs.declared.tree.token.TokenKind.TheVariants.{End};
 ghost use Rattle.slicc_grammar.specs.Ahead.{first_of_form};

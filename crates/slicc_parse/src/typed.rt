@@ -1,6 +1,6 @@
 //! The declarations that begin with a type: functions and objects.
 ghost use Rattle.std.specs.Prelude.{◌≡◌, ◌∷◌, [], IsTrue, true, MatchResult, not};
-ghost use Rattle.grammar_rows.specs.Kinds.{is_ahead};
+ghost use Rattle.slicc_grammar.specs.Kinds.{is_ahead};
 ghost use Rattle.slicc_ast.specs.Declarations.{is_skipped};
 ghost use Rattle.slicc_ast.specs.Machines.{decl};
 ghost use Rattle.slicc_ast.specs.Outline.{node, none, token};

@@ -1,11 +1,13 @@
 ghost use Rattle.std.specs.Prelude.{◌≡◌, [], ◌∷◌};
+ghost use Rattle.slicc_plan.specs.BrokenDeclarations.{refusal_of};
 ghost use Rattle.slicc_plan.specs.Order.{IsFirstOf, comes_before, earlier_of, earlier_of_both, first_after, is_less, number_of, rank_of, second_rank as second_rank_of, subject_of};
 
+use crate::refusal::Refusal;
 use slicc_ast::tree::Span;
 
 /// The rules of names, types, flow and machines that a protocol has to keep. Those that no rule of SLICC's own is known for
 /// are this project's.
-#[derive(Clone, Copy, PartialEq, Eq)]
+#[derive(Clone, Copy)]
 pub enum Rule {
     /// A name is declared twice in its scope.
     TwiceDeclared,
@@ -108,7 +110,7 @@ impl Rule {
 }
 
 /// What a rule is about. The rules of declarations are judged first, and those of machines last.
-#[derive(Clone, Copy, PartialEq, Eq)]
+#[derive(Clone, Copy)]
 pub enum Subject {
     Declarations,
     Bodies,
@@ -219,4 +221,15 @@ pub fn first_broken(broken: &[Broken]) -> Option<Broken>
         first = Some(earlier(first, *b));
     }
     first
+}
+
+/// How a broken rule is told.
+pub fn refused(b: Broken) -> Refusal
+    ensures { result ≡ refusal_of b }
+{
+    Refusal::Rule {
+        number: b.rule.number(),
+        place: b.place,
+        other: b.other,
+    }
 }

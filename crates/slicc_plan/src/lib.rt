@@ -14,7 +14,7 @@ mod row;
 mod setup;
 
 pub use answer::{answer_is_one, phases_answer, told_is_first_of_all};
-pub use broken::{Broken, Rule, Subject, earlier_broken, earlier_of_two, first_broken};
+pub use broken::{Broken, Rule, Subject, earlier_broken, earlier_of_two, first_broken, refused};
 pub use built_in::BuiltInType;
 pub use laws::{first_is_found, first_is_one};
 pub use machine::machine_at;

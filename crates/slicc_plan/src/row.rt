@@ -26,7 +26,7 @@ pub struct Written {
 }
 
 /// What a protocol has, summed over its machines.
-#[derive(Clone, Copy, PartialEq, Eq)]
+#[derive(Clone, Copy)]
 pub struct Counts {
     pub machines: u64,
     pub states: u64,

@@ -10,7 +10,7 @@ use Rattle.slicc_ast.specs.declared.tree.token.Sign.{Sign as SignKind}
 use Rattle.slicc_ast.specs.declared.tree.token.Sign.TheVariants.{OpenBrace, CloseBrace, OpenParenthesis, CloseParenthesis, OpenBracket, CloseBracket, Semicolon, Colon, Comma, Dot, Equals, Assign, Equal, Unequal, Less, Greater, LessOrEqual, GreaterOrEqual, Plus, Minus, Star, Not, And, Or}
 use Rattle.slicc_ast.specs.Names.{sign, balanced, balanced_list, balanced_part, balanced_row, is_loose}
 use Rattle.slicc_ast.specs.Outline.{none, Parts}
-use Rattle.grammar_rows.specs.Kinds.{has, is_ahead}
+use Rattle.slicc_grammar.specs.Kinds.{has, is_ahead}
 use Rattle.slicc_grammar.specs.Ahead.{first_of_form}
 use Rattle.slicc_grammar.specs.Form.{Form}
 use Rattle.slicc_grammar.specs.Parts.{Part as GrammarPart, of, unbracketed}

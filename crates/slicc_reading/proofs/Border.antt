@@ -3,9 +3,9 @@ use Rattle.std.proofs.Common.{◌≡◌, ℕ, ◌+◌, ◌-◌, ◌<◌, ◌≤�
 use Rattle.std.proofs.lemmas.List.{drop-append-le, length-drop}
 use Rattle.slicc_ast.specs.declared.tree.token.TokenKind.TheVariants.{End}
 use Rattle.slicc_ast.specs.Outline.{Outline}
-use Rattle.grammar_rows.specs.Faults.{IsFirstFault, Stop}
-use Rattle.grammar_rows.specs.Faults.Stop.{Passed, Bad, Deep, Short}
-use Rattle.grammar_rows.specs.Faults.IsStop.{one_too_deep, opener_too_deep, not_viable, too_short}
+use Rattle.slicc_grammar.specs.Faults.{IsFirstFault, Stop}
+use Rattle.slicc_grammar.specs.Faults.Stop.{Passed, Bad, Deep, Short}
+use Rattle.slicc_grammar.specs.Faults.IsStop.{one_too_deep, opener_too_deep, not_viable, too_short}
 use Rattle.slicc_grammar.specs.Form.{Form}
 use Rattle.slicc_grammar.specs.Parts.{of}
 use Rattle.slicc_grammar.specs.Written.{written}

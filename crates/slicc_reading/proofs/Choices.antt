@@ -1,11 +1,11 @@
 -- How optional and repeated parts and nestings are read.
 use Rattle.std.proofs.Common.{◌≡◌, ℕ, zero, suc, ◌-◌, ◌≤◌, true, false, List, [], ◌∷◌, length, refl, sym, subst, arith}
 use Rattle.slicc_ast.specs.Outline.{Outline, Parts}
-use Rattle.grammar_rows.specs.Grammar.{Row, first_of}
-use Rattle.grammar_rows.specs.Grammar.Row.{done, maybe, many, nested}
-use Rattle.grammar_rows.specs.Kinds.{has, is_ahead}
-use Rattle.grammar_rows.specs.Reader.{Fails, Passes}
-use Rattle.grammar_rows.proofs.Steps.{passes_both, passes_present, passes_absent, passes_nested, fails_second, fails_present, fails_nested}
+use Rattle.slicc_grammar.specs.Grammar.{Row, first_of}
+use Rattle.slicc_grammar.specs.Grammar.Row.{done, maybe, many, nested}
+use Rattle.slicc_grammar.specs.Kinds.{has, is_ahead}
+use Rattle.slicc_grammar.specs.Reader.{Fails, Passes}
+use Rattle.slicc_grammar.proofs.Steps.{passes_both, passes_present, passes_absent, passes_nested, fails_second, fails_present, fails_nested}
 use Rattle.slicc_grammar.specs.Form.{Form}
 use Rattle.slicc_grammar.specs.Parts.{Part, ◌▸◌}
 use Rattle.slicc_grammar.specs.Table.{table}
@@ -19,8 +19,8 @@ use Rattle.slicc_reading.specs.Reading.Refuses.{no_memory, stops}
 use Rattle.slicc_ast.specs.declared.tree.token.Sign.{Sign}
 use Rattle.slicc_ast.specs.declared.tree.token.Sign.TheVariants.{OpenBrace, CloseBrace, OpenParenthesis, CloseParenthesis, OpenBracket, CloseBracket, Semicolon, Colon, Comma, Dot, Equals, Assign, Equal, Unequal, Less, Greater, LessOrEqual, GreaterOrEqual, Plus, Minus, Star, Not, And, Or}
 use Rattle.slicc_ast.specs.Names.{sign}
-use Rattle.grammar_rows.specs.Grammar.Rows.{next}
-use Rattle.grammar_rows.specs.Reader.Stops.{on, again, enough}
+use Rattle.slicc_grammar.specs.Grammar.Rows.{next}
+use Rattle.slicc_grammar.specs.Reader.Stops.{on, again, enough}
 use Rattle.slicc_grammar.specs.TokenKinds.{sign_kind}
 use Rattle.slicc_reading.specs.Reading.{IsOpened, Leads}
 

@@ -2,12 +2,12 @@
 use Rattle.std.proofs.Common.{◌≡◌, ℕ, suc, zero, ◌==◌, ◌&&◌, ◌||◌, not, Bool, true, false, List, [], ◌∷◌, ◌++◌, refl, sym, subst, ◌∙◌, Some}
 use Rattle.std.proofs.lemmas.Bool.{eqb-true, false≢true, and_parts, not-true}
 use Rattle.std.specs.List.{list_all, slice_get}
-use Rattle.grammar_rows.specs.Kinds.{has}
-use Rattle.grammar_rows.specs.Grammar.{Row, Rows}
-use Rattle.grammar_rows.specs.Grammar.Row.{done, token, form, maybe, many, nested}
-use Rattle.grammar_rows.specs.Grammar.Rows.{end, next, up}
-use Rattle.grammar_rows.specs.Matches.{Begins, Matches, Extent}
-use Rattle.grammar_rows.specs.Matches.Matches.{stopped, ended, one, alternative, present, absent, again, enough, inside, on, outside}
+use Rattle.slicc_grammar.specs.Kinds.{has}
+use Rattle.slicc_grammar.specs.Grammar.{Row, Rows}
+use Rattle.slicc_grammar.specs.Grammar.Row.{done, token, form, maybe, many, nested}
+use Rattle.slicc_grammar.specs.Grammar.Rows.{end, next, up}
+use Rattle.slicc_grammar.specs.Matches.{Begins, Matches, Extent}
+use Rattle.slicc_grammar.specs.Matches.Matches.{stopped, ended, one, alternative, present, absent, again, enough, inside, on, outside}
 use Rattle.slicc_grammar.specs.Form.{Form}
 use Rattle.slicc_grammar.specs.Form.Form.{file, item, enumeration, states, structure, member, member_end, functional_end, pair, machine, machine_name, parameter, literal, declaration, declaration_end, named_end, body, out_port, in_port, action, transition, transition_end, names, formals, formal, block, statement, statement_end, conditional, otherwise, expression, conjunction, equality, order, sum, product, unary, postfix, primary, constant, opening, name_end, suffix, arguments, balanced_part}
 use Rattle.slicc_grammar.specs.TokenKinds.{end_of_text, kind_of}

@@ -10,8 +10,8 @@ use Rattle.slicc_ast.specs.declared.tree.token.TokenKind.TheVariants.{Name as Na
 use Rattle.slicc_ast.specs.Declarations.{pair as pair_outline, pair_list, pair_value}
 use Rattle.slicc_ast.specs.Names.{sign}
 use Rattle.slicc_ast.specs.Outline.{node, Parts, none, part}
-use Rattle.grammar_rows.specs.Grammar.Row.{done, token as token_row}
-use Rattle.grammar_rows.specs.Kinds.{has, is_ahead}
+use Rattle.slicc_grammar.specs.Grammar.Row.{done, token as token_row}
+use Rattle.slicc_grammar.specs.Kinds.{has, is_ahead}
 use Rattle.slicc_grammar.proofs.Leading.{name_is_one}
 use Rattle.slicc_grammar.specs.Form.Form.{pair}
 use Rattle.slicc_grammar.specs.Parts.{Part, ◌▸◌, comma, names_of, of, pairs}

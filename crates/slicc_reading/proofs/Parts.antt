@@ -7,12 +7,12 @@ use Rattle.std.proofs.lemmas.Bool.{false≢true}
 use Rattle.slicc_ast.specs.declared.tree.token.TokenKind.{TokenKind}
 use Rattle.slicc_ast.specs.declared.tree.token.TokenKind.TheVariants.{Name as Named, Quoted}
 use Rattle.slicc_ast.specs.Outline.{Outline, node, Parts, none, token, part, provided}
-use Rattle.grammar_rows.specs.Faults.Stop.{Deep}
-use Rattle.grammar_rows.specs.Grammar.{Row, first_of}
-use Rattle.grammar_rows.specs.Grammar.Row.{done, form, nested, token as token_row}
-use Rattle.grammar_rows.specs.Kinds.{has, is_ahead}
-use Rattle.grammar_rows.specs.Reader.{refusal}
-use Rattle.grammar_rows.proofs.Steps.{passes_both, passes_token, passes_form, fails_first, fails_second, fails_token, fails_form, fails_unformed, fails_unopened, fails_deep}
+use Rattle.slicc_grammar.specs.Faults.Stop.{Deep}
+use Rattle.slicc_grammar.specs.Grammar.{Row, first_of}
+use Rattle.slicc_grammar.specs.Grammar.Row.{done, form, nested, token as token_row}
+use Rattle.slicc_grammar.specs.Kinds.{has, is_ahead}
+use Rattle.slicc_grammar.specs.Reader.{refusal}
+use Rattle.slicc_grammar.proofs.Steps.{passes_both, passes_token, passes_form, fails_first, fails_second, fails_token, fails_form, fails_unformed, fails_unopened, fails_deep}
 use Rattle.slicc_grammar.specs.Form.{Form}
 use Rattle.slicc_grammar.specs.Parts.{Part, ◌▸◌, names_of}
 use Rattle.slicc_grammar.specs.Table.{table}

@@ -5,7 +5,7 @@ use Rattle.slicc_ast.specs.declared.tree.token.Sign.{Sign}
 use Rattle.slicc_ast.specs.declared.tree.token.Sign.TheVariants.{OpenBrace, OpenBracket, OpenParenthesis}
 use Rattle.slicc_ast.specs.Names.{balanced as balanced_parts, balanced_list, sign as sign_of}
 use Rattle.slicc_ast.specs.Outline.{Outline, node, Parts}
-use Rattle.grammar_rows.specs.Grammar.Row.{done, nested}
+use Rattle.slicc_grammar.specs.Grammar.Row.{done, nested}
 use Rattle.slicc_grammar.specs.Parts.{Part, ◌▸◌, balanced, sign}
 use Rattle.slicc_grammar.specs.TokenKinds.{sign_kind}
 

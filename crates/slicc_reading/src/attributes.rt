@@ -1,6 +1,6 @@
 //! Attributes.
 ghost use Rattle.std.specs.Prelude.{◌≡◌, ◌<◌, false, length, IfOk, MatchOption, MatchResult};
-ghost use Rattle.grammar_rows.specs.Kinds.{has};
+ghost use Rattle.slicc_grammar.specs.Kinds.{has};
 ghost use Rattle.slicc_ast.specs.Declarations.{pair as pair_of, pair_list, pair_value as value_parts};
 ghost use Rattle.slicc_ast.specs.Names.{name as name_of, sign as sign_of};
 ghost use Rattle.slicc_ast.specs.Outline.{node, part};

@@ -2,7 +2,7 @@ use ruby_base::NoMemory;
 use std::alloc::AllocFailed;
 
 /// Why tokens are not read as a form. The number is how many tokens are left, the one that is meant among them.
-#[derive(Clone, Copy, Debug, PartialEq, Eq)]
+#[derive(Clone, Copy, Debug)]
 pub enum Fault {
     /// The first token with which no form begins so.
     Syntax(usize),
@@ -24,7 +24,7 @@ impl<T: Drop> From<AllocFailed<T>> for Fault {
 }
 
 /// Why tokens are not read as an expression or a block: the place of a token, from 0.
-#[derive(Clone, Copy, Debug, PartialEq, Eq)]
+#[derive(Clone, Copy, Debug)]
 pub enum SyntaxFault {
     /// The first token with which no form begins so.
     Syntax(u32),

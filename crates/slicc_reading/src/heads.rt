@@ -1,7 +1,7 @@
 //! What many forms begin with or go on with: a sign and a name, and a reserved word with a parenthesis that opens behind it.
 ghost use Rattle.std.specs.Prelude.{◌∷◌, ◌<◌, [], IfErr, IfOk, MatchResult, length};
-ghost use Rattle.grammar_rows.specs.Grammar.Row.{nested};
-ghost use Rattle.grammar_rows.specs.Grammar.{Row};
+ghost use Rattle.slicc_grammar.specs.Grammar.Row.{nested};
+ghost use Rattle.slicc_grammar.specs.Grammar.{Row};
 ghost use Rattle.slicc_ast.specs.Names.{name as name_of, sign as sign_of};
 ghost use Rattle.slicc_ast.specs.declared.tree.token.Sign.TheVariants.{OpenParenthesis};
 ghost use Rattle.slicc_grammar.specs.Form.{Form};

@@ -1,9 +1,9 @@
 //! The parts that are one token.
 ghost use Rattle.std.specs.Prelude.{◌≡◌, ◌∷◌, ◌<◌, [], IsTrue, false, IfErr, IfOk, MatchOption, MatchResult, length};
-ghost use Rattle.grammar_rows.specs.Grammar.Row.{nested};
-ghost use Rattle.grammar_rows.specs.Grammar.{Row};
-ghost use Rattle.grammar_rows.specs.Kinds.{has, is_ahead};
-ghost use Rattle.grammar_rows.specs.Reader.{refusal};
+ghost use Rattle.slicc_grammar.specs.Grammar.Row.{nested};
+ghost use Rattle.slicc_grammar.specs.Grammar.{Row};
+ghost use Rattle.slicc_grammar.specs.Kinds.{has, is_ahead};
+ghost use Rattle.slicc_grammar.specs.Reader.{refusal};
 ghost use Rattle.slicc_ast.specs.Names.{sign as sign_of, word as word_of};
 ghost use Rattle.slicc_ast.specs.Outline.{last_end, node, none, token};
 ghost use Rattle.slicc_ast.specs.declared.tree.token.TokenKind.TheVariants.{Name as Named, Quoted as QuotedKind, Sign as SignOf, Word as WordOf};

@@ -1,6 +1,6 @@
 //! Numbers.
 ghost use Rattle.std.specs.Prelude.{◌≡◌, ◌∷◌, ◌<◌, [], false, length, IfOk, MatchOption, MatchResult};
-ghost use Rattle.grammar_rows.specs.Kinds.{has, is_ahead};
+ghost use Rattle.slicc_grammar.specs.Kinds.{has, is_ahead};
 ghost use Rattle.slicc_ast.specs.Outline.{token};
 ghost use Rattle.slicc_ast.specs.declared.tree.token.TokenKind.TheVariants.{Number as Numeral};
 ghost use Rattle.slicc_grammar.specs.Parts.{number_token};

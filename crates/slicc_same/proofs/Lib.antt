@@ -9,3 +9,5 @@ pub mod StatementLists
 pub mod Symmetric
 pub mod MachineLists
 pub mod Equal
+pub mod AlikeForms
+pub mod AlikeStatements

@@ -12,8 +12,8 @@ use protocol_symbols::protocol_symbols;
 use ruby_base::{NoMemory, Seq};
 use ruby_symbols::Symbols;
 use slicc_ast::tree::Tree;
-use slicc_names::{broken_declarations, refusal};
-use slicc_plan::{Broken, Counts, Plan, Refusal};
+use slicc_names::broken_declarations;
+use slicc_plan::{Broken, Counts, Plan, Refusal, refused};
 use std::alloc::Global;
 use std::sync::Arc;
 
@@ -88,7 +88,7 @@ fn accept(alloc: Global, trees: &[Tree]) -> Result<Kept, Refusal>
 {
     match told(alloc, trees) {
         Ok(Ok(kept)) => Ok(kept),
-        Ok(Err(b)) => Err(refusal(b)),
+        Ok(Err(b)) => Err(refused(b)),
         Err(NoMemory) => Err(Refusal::NoMemory),
     }
 }

@@ -1,14 +1,20 @@
 -- What is broken in the rows of a tree is what is broken in its items, one after another.
-use Rattle.std.proofs.Common.{rules, ◌≡◌, Option, None, Some, List, [], ◌∷◌, ◌++◌, flat_map, refl, sym, ap, ◌∙◌, append_assoc, append-nil}
+use Rattle.std.proofs.lemmas.Result.{IfOk-weaker}
+use Rattle.std.proofs.Common.{rules, ◌≡◌, IfOk, Result, Option, None, Some, List, [], ◌∷◌, ◌++◌, flat_map, refl, sym, ap, ◌∙◌, append_assoc, append-nil}
+use Rattle.slicc_ast.specs.declared.tree.span.Span.{Span}
+use Rattle.slicc_ast.specs.declared.tree.name.Name.{Name}
+use Rattle.slicc_ast.specs.declared.tree.name.TypeName.{TypeName}
+use Rattle.slicc_ast.specs.declared.tree.declaration.Pairs.{Pairs}
+use Rattle.slicc_ast.specs.declared.tree.expression.Expr.{Expr}
 use Rattle.slicc_ast.specs.declared.tree.statement.Block.{Block}
 use Rattle.slicc_ast.specs.declared.tree.statement.If.{If, If', None', Some', Row_of-ElseIf, end_of-ElseIf, more_of-ElseIf, items-the_row-ElseIf, out-If}
-use Rattle.slicc_ast.specs.declared.tree.statement.Stmt.{Stmt, Row_of-Stmt, end_of-Stmt, more_of-Stmt, items-the_row-Stmt}
+use Rattle.slicc_ast.specs.declared.tree.statement.Stmt.{Stmt, Peek, Enqueue, Row_of-Stmt, end_of-Stmt, more_of-Stmt, items-the_row-Stmt}
 use Rattle.slicc_ast.specs.declared.tree.statement.Stmt.TheViews.{the_lemmas}
 use Rattle.slicc_plan.specs.declared.broken.Broken.{Broken}
 use Rattle.slicc_plan.specs.declared.built_in.BuiltInType.TheVariants.{Bool as Boolean}
 use Rattle.slicc_plan.specs.Environment.{Environment}
 use Rattle.slicc_plan.specs.ExpressionTypes.{broken_where}
-use Rattle.slicc_plan.specs.JudgedStatements.{after, if_judged, judged, others_judged, otherwise_judged, row_judged, statements_judged}
+use Rattle.slicc_plan.specs.JudgedStatements.{after, enqueued, if_judged, in_enqueue, in_peek, judged, others_judged, otherwise_judged, peeked, row_judged, statements_judged}
 use Rattle.slicc_plan.specs.Meanings.{of_built_in}
 use Rattle.slicc_plan.specs.Order.{earlier_of_both, first_of}
 use Rattle.slicc_plan.proofs.Firsts.{both-assoc_all, first_of-append}
@@ -17,6 +23,22 @@ use Rattle.statement_rules.specs.Elses.{else_if_judged}
 pub judged_row : (env : Environment) (n : _) (row : Row_of-Stmt n) → row_judged env row ≡ statements_judged env (items-the_row-Stmt n row)
 judged_row env n end_of-Stmt = refl
 judged_row env n (more_of-Stmt first row) = ap (λ bs. judged env first ++ bs) (judged_row (after env first) _ row)
+
+-- what is told of a statement of a form, by what the form means
+pub told_form : {E : Type 0} (f : Environment → List Broken) (env there : Environment) (s form : Stmt) (r : Result (Option Broken) E) → IfOk r (λ first. first ≡ first_of (f there)) → there ≡ env → s ≡ form → judged env form ≡ f env → IfOk r (λ first. first ≡ first_of (judged env s))
+told_form f env there s form r told same is means =
+    IfOk-weaker r (λ first. first ≡ first_of (f there)) (λ first. first ≡ first_of (judged env s))
+    (λ first t. t ∙ ap (λ e. first_of (f e)) same ∙ ap first_of (sym means) ∙ ap (λ x. first_of (judged env x)) (sym is)) told
+
+pub judged_peek : (env : Environment) (port : Name) (message : TypeName) (attributes : Pairs) (body : Block) (span : Span) → judged env (Peek port message attributes body span) ≡ peeked env span port message ++ statements_judged (in_peek env port) body.statements
+judged_peek env port message attributes body span =
+    let row = judged_row (in_peek env port) in
+    search (rules, the_lemmas, row)
+
+pub judged_enqueue : (env : Environment) (port : Name) (message : TypeName) (latency : Option Expr) (body : Block) (span : Span) → judged env (Enqueue port message latency body span) ≡ enqueued env span port message latency ++ statements_judged (in_enqueue env port) body.statements
+judged_enqueue env port message latency body span =
+    let row = judged_row (in_enqueue env port) in
+    search (rules, the_lemmas, row)
 
 pub judged_others : (env : Environment) (n : _) (row : Row_of-ElseIf n) → others_judged env row ≡ flat_map (else_if_judged env) (items-the_row-ElseIf n row)
 judged_others env n end_of-ElseIf = refl

@@ -1,20 +1,27 @@
 -- Going through statements one after another, of which only the first that is broken is known.
-use Rattle.std.proofs.Common.{◌≡◌, ◌<◌, ◌≤◌, ◌+◌, ◌∙◌, ◌++◌, ℕ, Option, None, Some, List, [], ◌∷◌, drop, take, flat_map, get_or, length, map, reverse, refl, sym, ap, add-one, arith}
+use Rattle.std.proofs.Common.{◌≡◌, ◌<◌, ◌≤◌, ◌+◌, ◌∙◌, ◌++◌, ℕ, Bool, true, Option, None, Some, List, [], ◌∷◌, drop, take, flat_map, get_or, length, map, reverse, refl, sym, ap, add-one, arith}
 use Rattle.std.proofs.Math.Seq.{take-append_seam}
 use Rattle.std.proofs.lemmas.List.{drop_more, length-append, map-append, reverse-append, take-take}
 use Rattle.slicc_ast.specs.declared.tree.statement.ElseIf.{ElseIf}
-use Rattle.slicc_ast.specs.declared.tree.statement.Stmt.{Stmt}
+use Rattle.slicc_ast.specs.declared.tree.statement.Stmt.{Stmt, Declare}
+use Rattle.slicc_ast.specs.declared.tree.span.Span.{Span}
+use Rattle.slicc_ast.specs.declared.tree.name.Name.{Name}
+use Rattle.slicc_ast.specs.declared.tree.name.TypeName.{TypeName}
+use Rattle.slicc_ast.specs.declared.tree.expression.Expr.{Expr}
 use Rattle.slicc_plan.specs.declared.broken.Broken.{Broken}
 use Rattle.slicc_plan.specs.declared.built_in.BuiltInType.TheVariants.{Bool as Boolean}
-use Rattle.slicc_plan.specs.Environment.{Environment}
+use Rattle.slicc_plan.specs.Environment as plan
+use Rattle.slicc_plan.specs.Environment.{Environment, binding}
 use Rattle.slicc_plan.specs.ExpressionTypes.{broken_where}
-use Rattle.slicc_plan.specs.JudgedStatements.{after, judged, statements_judged}
-use Rattle.slicc_plan.specs.Meanings.{of_built_in}
+use Rattle.slicc_plan.specs.JudgedStatements.{after, judged, local_meaning, statements_judged}
+use Rattle.slicc_plan.specs.Meanings.{Meaning, of_built_in}
 use Rattle.slicc_plan.specs.Order.{earlier_of_both, first_of}
 use Rattle.slicc_plan.proofs.Firsts.{both-assoc_all, first_after-first_of, first_after-flat_map, first_of-append}
 use Rattle.body_types.specs.declared.environment.Bound.{Bound}
+use Rattle.body_types.specs.declared.environment.Environment as told
 use Rattle.body_types.specs.Environments.{bound_of}
-use Rattle.statement_rules.specs.Bindings.{IsGrown}
+use Rattle.body_types.specs.Views.{meaning_of}
+use Rattle.statement_rules.specs.Bindings.{IsGrown, at}
 use Rattle.statement_rules.specs.Elses.{else_if_judged}
 
 -- Statements.
@@ -55,6 +62,24 @@ others_item env es i d first condition next below is one two kept =
 
 pub one_more : (xs : List Bound) (b : Bound) → reverse (map bound_of (xs ++ b ∷ [])) ≡ bound_of b ∷ reverse (map bound_of xs)
 one_more xs b = ap reverse (map-append bound_of xs (b ∷ [])) ∙ reverse-append (map bound_of xs) (bound_of b ∷ [])
+
+abbrev with_bound : Environment → List plan.Bound → Environment
+with_bound env bound = record { trees = env.trees; machine = env.machine; body = env.body; answer = env.answer; bound = bound }
+
+abbrev a_bound : List ℕ → Meaning → Bool → plan.Bound
+a_bound name meaning is_local = record { name = name; meaning = meaning; is_local = is_local }
+
+pub block_names : (e : told.Environment) (xs ys : List Bound) (b : Bound) → ys ≡ xs ++ b ∷ [] → at e ys ≡ binding (at e xs) (bound_of b)
+block_names e xs ys b more = ap (at e) more ∙ ap (with_bound (at e xs)) (one_more xs b)
+
+pub local_bound : (e : told.Environment) (xs ys : List Bound) (b : Bound) (s : Stmt) (kind : TypeName) (called : Name) (value : Expr) (span : Span) (there : Environment)
+    → ys ≡ xs ++ b ∷ [] → b.name.now ≡ called.text → meaning_of b.meaning ≡ local_meaning there kind → there ≡ at e xs → b.is_local ≡ true → s ≡ Declare kind called value span → at e ys ≡ after (at e xs) s
+local_bound e xs ys b s kind called value span there more named meaning same local is =
+    block_names e xs ys b more
+    ∙ ap (λ n. binding (at e xs) (a_bound n (meaning_of b.meaning) b.is_local)) named
+    ∙ ap (λ m. binding (at e xs) (a_bound called.text m b.is_local)) (meaning ∙ ap (λ v. local_meaning v kind) same)
+    ∙ ap (λ l. binding (at e xs) (a_bound called.text (local_meaning (at e xs) kind) l)) local
+    ∙ ap (after (at e xs)) (sym is)
 
 pub grown_push : (xs : List Bound) (b : Bound) → IsGrown xs (xs ++ b ∷ [])
 grown_push xs b = record {

@@ -1,3 +1,5 @@
 pub mod Rows
 pub mod Made
 pub mod Steps
+pub mod Sending
+pub mod Blocks

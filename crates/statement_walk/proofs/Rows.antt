@@ -1,5 +1,6 @@
 -- What the rows of a tree do is what their items do, one after another.
-use Rattle.std.proofs.Common.{rules, ◌≡◌, Option, None, Some, List, ◌∷◌, refl, sym, ap, ◌∙◌}
+use Rattle.std.proofs.Common.{rules, ◌≡◌, ◌⊎◌, inl, inr, Option, None, Some, List, ◌∷◌, refl, sym, ap, ◌∙◌}
+use Rattle.slicc_ast.specs.declared.tree.balanced.Balanced.{Balanced}
 use Rattle.slicc_ast.specs.declared.tree.declaration.Pairs.{Pairs}
 use Rattle.slicc_ast.specs.declared.tree.expression.Expr.{Expr}
 use Rattle.slicc_ast.specs.declared.tree.name.Name.{Name}
@@ -8,7 +9,8 @@ use Rattle.slicc_ast.specs.declared.tree.span.Span.{Span}
 use Rattle.slicc_ast.specs.declared.tree.statement.Block.{Block}
 use Rattle.slicc_ast.specs.declared.tree.statement.ElseIf.{ElseIf}
 use Rattle.slicc_ast.specs.declared.tree.statement.If.{If, If', None', Some', Row_of-ElseIf, end_of-ElseIf, more_of-ElseIf, items-the_row-ElseIf, out-If}
-use Rattle.slicc_ast.specs.declared.tree.statement.Stmt.{Stmt, Row_of-Stmt, end_of-Stmt, more_of-Stmt, items-the_row-Stmt}
+use Rattle.slicc_ast.specs.declared.tree.statement.PrintWord.{PrintWord}
+use Rattle.slicc_ast.specs.declared.tree.statement.Stmt.{Stmt, CheckAllocate, Print, Row_of-Stmt, end_of-Stmt, more_of-Stmt, items-the_row-Stmt}
 use Rattle.slicc_ast.specs.declared.tree.statement.Stmt.TheBlock as block
 use Rattle.slicc_ast.specs.declared.tree.statement.Stmt.TheViews as views
 use Rattle.slicc_ast.specs.declared.tree.statement.Stmt.TheViews.{the_lemmas}
@@ -83,3 +85,9 @@ module _ (s : Reading) (calls : Calls) where
   pub exec_of_Enqueue : (port : Name) (message : TypeName) (latency : Option Expr) (body : Block) (span : Span) (frame : Frame)
       → exec s calls (views.Enqueue port message latency body span) frame ≡ enqueued s calls port.text latency (all_done s calls body.statements) frame
   exec_of_Enqueue port message latency body span frame = ap (λ (d : Doing). enqueued s calls port.text latency d frame) (done_hidden body.statements)
+
+  pub nothing_done : (statement : Stmt) (frame : Frame)
+      → ((table : Name) × (span : Span) × (statement ≡ CheckAllocate table span)) ⊎ ((word : PrintWord) × (arguments : Balanced) × (span : Span) × (statement ≡ Print word arguments span))
+      → exec s calls statement frame ≡ went_on frame
+  nothing_done statement frame (inl (table, span, is)) = ap (λ (x : Stmt). exec s calls x frame) is
+  nothing_done statement frame (inr (word, arguments, span, is)) = ap (λ (x : Stmt). exec s calls x frame) is

@@ -8,7 +8,7 @@ use std::alloc::Global;
 use std::marker::Model;
 
 /// Why a TBE table refuses a call.
-#[derive(Clone, Copy, Debug, PartialEq, Eq)]
+#[derive(Clone, Copy, PartialEq, Eq)]
 pub enum TbeFault {
     /// An allocation of a line that is in the table.
     AlreadyThere,
@@ -142,16 +142,5 @@ impl TbeTable {
         ensures within { map.len self.now.kept.held ≤ self.now.kept.entries }
     {
         u64::from(self.entries) - self.held.len() as u64
-    }
-}
-
-// Allocates lines one after another. None wants memory, since there is room for all of them.
-fn allocate_all(table: &mut TbeTable, mut lines: Vec<(u64, Fields)>)
-    requires { vec_len lines ≤ table.old.room }
-{
-    while let Some((line, f)) = lines.pop() {
-        if let Err((TbeFault::NoMemory, _)) = table.allocate(line, f) {
-            unreachable!()
-        }
     }
 }

@@ -43,7 +43,8 @@ fn write_fired<'a, S: Sink>(
     )
 }
 
-fn fault_word(fault: &Fault) -> &[u8]
+/// The word of a fault.
+pub fn fault_word(fault: &Fault) -> &[u8]
     ensures { result.now ≡ fault_word fault.now }
 {
     match fault {

@@ -12,7 +12,7 @@ mod rows;
 mod words;
 
 pub use ends::{RunText, write_rest, write_verdict};
-pub use entries::write_entry;
+pub use entries::{fault_word, write_entry};
 pub use laws::machine_is_found_by_name;
 pub use names::{controller_machine, state_word};
 pub use rows::write_rows;

@@ -43,8 +43,8 @@ use Rattle.topology_fit.proofs.Places.{all_at, all_from_gets}
 use Rattle.topology_fit.proofs.Sizes.{sizes_have_room}
 use Rattle.world_places.specs.declared.place.Kept.{Kept}
 use Rattle.world_places.specs.Places.{made_for}
-use Rattle.world_seats.specs.declared.seat.SeatAt.{SeatAt}
-use Rattle.world_seats.specs.Seated.{setups_in}
+use Rattle.world_turns.specs.declared.seat.SeatAt.{SeatAt}
+use Rattle.world_turns.specs.Seated.{setups_in}
 use Rattle.world_state.specs.declared.state.State.{State}
 use Rattle.world_state.specs.States.{IsKept, IsMadeFor}
 use Rattle.world_state.proofs.Openings.{opens-kept}

@@ -30,7 +30,7 @@ use Rattle.world_places.specs.declared.place.Keeper.{Keeper}
 use Rattle.world_places.specs.declared.place.Keeper.TheVariants.{World as Home, Worker}
 use Rattle.world_places.specs.declared.place.Place.{Place}
 use Rattle.world_places.specs.Places.{Made, made_for, made_in, place_by, place_with, places_with}
-use Rattle.world_seats.specs.declared.seat.SeatAt.{SeatAt}
+use Rattle.world_turns.specs.declared.seat.SeatAt.{SeatAt}
 use Rattle.world_state.specs.declared.state.State.{State}
 use Rattle.world_state.specs.States.{AreMade, IsHeldBy, IsKept, IsLone, IsMadeFor, held_place, world_of}
 use Rattle.world_state.specs.Steps.{IsSame, SameCycle, Writes}

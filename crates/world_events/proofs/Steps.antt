@@ -46,7 +46,7 @@ use Rattle.world_places.specs.declared.place.Keeper.TheVariants.{World as Home, 
 use Rattle.world_places.specs.declared.place.Kept.{Kept}
 use Rattle.world_places.specs.declared.place.Place.{Place}
 use Rattle.world_places.specs.Places.{IsEndedAt, IsHome, IsHomeAt, IsPutBack, IsTakenOut, Made, is_free, made_for, made_in, marks_by, place_by, place_with, places_with}
-use Rattle.world_seats.specs.declared.seat.SeatAt.{SeatAt}
+use Rattle.world_turns.specs.declared.seat.SeatAt.{SeatAt}
 use Rattle.world_state.specs.declared.state.State.{State}
 use Rattle.world_state.specs.Ended.{ended}
 use Rattle.world_state.specs.States.{IsHeldBy, IsKept, IsMadeFor, IsNobody, held_place, home_place, world_of}

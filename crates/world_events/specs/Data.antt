@@ -13,8 +13,8 @@ use Rattle.world_events.specs.declared.limits.RunLimits.{RunLimits}
 use Rattle.world_events.specs.Worlds.{WorldView, setting_in}
 use Rattle.sequencer.specs.Drive.{Drive}
 use Rattle.sequencer.specs.Seats.{Seat}
-use Rattle.world_seats.specs.declared.seat.SeatAt.{SeatAt}
-use Rattle.world_seats.specs.Seated.{setups_in}
+use Rattle.world_turns.specs.declared.seat.SeatAt.{SeatAt}
+use Rattle.world_turns.specs.Seated.{setups_in}
 use Rattle.world_state.specs.declared.state.State.{State}
 use Rattle.world_state.specs.States.{IsKept}
 

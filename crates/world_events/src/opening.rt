@@ -7,7 +7,7 @@ ghost use Rattle.protocol_runs.specs.Machines.{machine_of as machine_in};
 ghost use Rattle.topology_fit.specs.FitsPlan.{FitsPlan};
 ghost use Rattle.topology_fit.specs.Seats.{seat_setup, seat_setups};
 ghost use Rattle.topology_fit.specs.Setups.{ranges_of};
-ghost use Rattle.world_seats.specs.Seated.{setup_of, setups_in};
+ghost use Rattle.world_turns.specs.Seated.{setup_of, setups_in};
 ghost use Rattle.world_events.specs.Opening.{AreOpened, IsOpened, IsOpenedFor};
 ghost use Rattle.world_events.specs.Worlds.{opened};
 
@@ -23,8 +23,8 @@ use sequencer::Driver;
 use slicc_plan::Plan;
 use std::alloc::Global;
 use world_places::Kept;
-use world_seats::SeatAt;
 use world_state::State;
+use world_turns::SeatAt;
 
 // The number of the buffer `mandatoryQueue` of the machine of this number, or 0 where there is none.
 fn queue_in(plan: &Plan, machine: u16) -> u16

@@ -21,8 +21,8 @@ use slicc_plan::Plan;
 use std::alloc::Global;
 use std::marker::Model;
 use world_places::{any_held, first_free, is_free_at};
-use world_seats::SeatAt;
 use world_state::State;
+use world_turns::SeatAt;
 
 /// All controllers of a protocol over a topology, with a driver, as a run has led them here. A contract sees what the run began with, and
 /// its history and journal: these lead to one world, which always is one of a run. One controller at most is held at a time.

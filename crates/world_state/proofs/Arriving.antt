@@ -17,9 +17,9 @@ use Rattle.ruby_runs.specs.Rules.{Acts, Fired, Rules}
 use Rattle.ruby_runs.specs.World as runs
 use Rattle.ruby_runs.specs.World.{World}
 use Rattle.ruby_runs.proofs.Fitting.{WorldFits, world-fits}
-use Rattle.act_laws.specs.Mailed.{HasMailed, IsPosted}
-use Rattle.act_laws.specs.Left.{IsLeft}
-use Rattle.act_laws.proofs.Left.{left_lawful, left_mailed, left_scan}
+use Rattle.acts.specs.Mailed.{HasMailed, IsPosted}
+use Rattle.acts.specs.Left.{IsLeft}
+use Rattle.acts.proofs.Left.{left_lawful, left_mailed, left_scan}
 use Rattle.ctl_face.specs.Ctl.{Ctl}
 use Rattle.ctl_face.specs.Fits.{IsLawful}
 use Rattle.ctl_face.specs.LocalView.{Actor, LocalView, SameScan}

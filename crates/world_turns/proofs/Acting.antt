@@ -38,8 +38,8 @@ use Rattle.world_places.specs.declared.place.Keeper.{Keeper}
 use Rattle.world_places.specs.declared.place.Keeper.TheVariants.{World as Home, Worker}
 use Rattle.world_places.specs.declared.place.Place.{Place}
 use Rattle.world_places.specs.Places.{IsHome, IsHomeBy, Made, made_by, made_in, place_with, places_with}
-use Rattle.world_seats.specs.declared.seat.SeatAt.{SeatAt}
-use Rattle.world_seats.specs.Seated.{AreApart, IsHomeIn, controllers_in, setup_of as setup_at, setups_in}
+use Rattle.world_turns.specs.declared.seat.SeatAt.{SeatAt}
+use Rattle.world_turns.specs.Seated.{AreApart, IsHomeIn, controllers_in, setup_of as setup_at, setups_in}
 use Rattle.world_state.specs.declared.state.State.{State}
 use Rattle.world_state.specs.States.{IsNobody, world_of}
 use Rattle.world_state.proofs.Worlds.{home-at, nobody-same}

@@ -10,8 +10,8 @@ use Rattle.ruby_value.specs.declared.message.MsgNo.{MsgNo}
 use Rattle.protocol_runs.specs.Requests.{request_at, request_message, request_messages}
 use Rattle.protocol_runs.specs.Setting.{SeatSetup}
 use Rattle.sequencer.specs.declared.issued.Issued.{Issued}
-use Rattle.world_seats.specs.declared.seat.SeatAt.{SeatAt}
-use Rattle.world_seats.specs.Seated.{setup_of, setups_in}
+use Rattle.world_turns.specs.declared.seat.SeatAt.{SeatAt}
+use Rattle.world_turns.specs.Seated.{setup_of, setups_in}
 use Rattle.world_turns.specs.Requests.{HasRoomFor}
 use Rattle.world_turns.specs.Turned.{numbers_of}
 use Rattle.world_turns.specs.declared.requests.Requests.{Requests}

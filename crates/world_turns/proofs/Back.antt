@@ -6,9 +6,9 @@ use Rattle.ruby_runs.specs.World as runs
 use Rattle.ctl_face.specs.Ctl.{Ctl}
 use Rattle.protocol_runs.specs.Turn.{seats_in}
 use Rattle.sequencer.specs.Drive.{Drive}
-use Rattle.world_seats.specs.declared.seat.SeatAt.{SeatAt}
-use Rattle.world_seats.specs.Seated.{AreApart, controllers_in, seated, setups_in}
-use Rattle.world_seats.proofs.Served.{served-places}
+use Rattle.world_turns.specs.declared.seat.SeatAt.{SeatAt}
+use Rattle.world_turns.specs.Seated.{AreApart, controllers_in, seated, setups_in}
+use Rattle.world_turns.proofs.Served.{served-places}
 
 -- a driver that does nothing
 abbrev resting : Drive ℕ

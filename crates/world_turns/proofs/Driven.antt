@@ -25,8 +25,8 @@ use Rattle.world_places.specs.declared.place.Keeper.{Keeper}
 use Rattle.world_places.specs.declared.place.Keeper.TheVariants.{World, Worker}
 use Rattle.world_places.specs.declared.place.Place.{Place}
 use Rattle.world_places.specs.Places.{IsHome, Made, made_by, made_in, places_with}
-use Rattle.world_seats.specs.declared.seat.SeatAt.{SeatAt}
-use Rattle.world_seats.specs.Seated.{IsHomeIn, controllers_in, seated, setup_of, setups_in}
+use Rattle.world_turns.specs.declared.seat.SeatAt.{SeatAt}
+use Rattle.world_turns.specs.Seated.{IsHomeIn, controllers_in, seated, setup_of, setups_in}
 use Rattle.world_state.specs.Booked.{Booked}
 use Rattle.world_state.specs.declared.state.State.{State}
 use Rattle.world_turns.specs.Driving.{AreOut, CanEnd, HasRoomToAct, IsActed, IsReadyToAct}

@@ -7,3 +7,7 @@ pub mod Few
 pub mod Over
 pub mod Received
 pub mod Stepped
+pub mod Seats
+pub mod Served
+pub mod Swapped
+pub mod AllSeats

@@ -32,9 +32,9 @@ use Rattle.world_places.specs.Arrivals as arrivals
 use Rattle.world_places.specs.Arrivals.{CanArrive}
 use Rattle.world_places.specs.declared.place.Place.{Place}
 use Rattle.world_places.specs.Places.{Made, made_by, made_in, places_with}
-use Rattle.world_seats.specs.declared.seat.SeatAt.{SeatAt}
-use Rattle.world_seats.specs.Seated.{controllers_in, setups_in}
-use Rattle.world_seats.proofs.Served.{served-places}
+use Rattle.world_turns.specs.declared.seat.SeatAt.{SeatAt}
+use Rattle.world_turns.specs.Seated.{controllers_in, setups_in}
+use Rattle.world_turns.proofs.Served.{served-places}
 use Rattle.world_state.specs.declared.state.State.{State}
 use Rattle.world_state.specs.States.{AreMade, IsHeldIn, IsNobody, world_of}
 use Rattle.world_state.proofs.Arriving.{Comes, can-arrive}

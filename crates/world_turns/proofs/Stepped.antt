@@ -38,8 +38,8 @@ use Rattle.world_places.specs.declared.place.Keeper.{Keeper}
 use Rattle.world_places.specs.declared.place.Keeper.TheVariants.{World as Home, Worker}
 use Rattle.world_places.specs.declared.place.Place.{Place}
 use Rattle.world_places.specs.Places.{IsHomeBy, is_free, made_in, marks_by, place_by, place_with, places_with}
-use Rattle.world_seats.specs.declared.seat.SeatAt.{SeatAt}
-use Rattle.world_seats.proofs.Served.{served-places}
+use Rattle.world_turns.specs.declared.seat.SeatAt.{SeatAt}
+use Rattle.world_turns.proofs.Served.{served-places}
 use Rattle.world_state.specs.declared.state.State.{State}
 use Rattle.world_state.specs.Closed.{IsRested}
 use Rattle.world_state.specs.States.{AreMade, IsKept, IsLone, IsNobody, world_of}

@@ -12,8 +12,8 @@ use Rattle.world_places.specs.Arrivals.{CanArrive, HasRoom, delivered}
 use Rattle.world_places.specs.Cycle.{HasLine}
 use Rattle.world_places.specs.declared.place.Place.{Place}
 use Rattle.world_places.specs.Places.{IsHome, made_in, places_with}
-use Rattle.world_seats.specs.declared.seat.SeatAt.{SeatAt}
-use Rattle.world_seats.specs.Seated.{IsHomeIn, seated}
+use Rattle.world_turns.specs.declared.seat.SeatAt.{SeatAt}
+use Rattle.world_turns.specs.Seated.{IsHomeIn, seated}
 use Rattle.world_state.specs.declared.state.State.{State}
 use Rattle.world_state.specs.Steps.{SameCycle}
 use Rattle.world_turns.specs.declared.driving.Told.{Told}

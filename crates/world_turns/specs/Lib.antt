@@ -2,3 +2,4 @@ pub mod Driving
 pub mod Requests
 pub mod Turned
 pub mod Turning
+pub mod Seated

@@ -23,8 +23,8 @@ use Rattle.sequencer.specs.Seats.{FitSeats, Seat, Seating}
 use Rattle.world_places.specs.Arrivals.{delivered}
 use Rattle.world_places.specs.Cycle.{begun_at, next_of}
 use Rattle.world_places.specs.Places.{IsHome, made_in, places_with}
-use Rattle.world_seats.specs.declared.seat.SeatAt.{SeatAt}
-use Rattle.world_seats.specs.Seated.{AreApart, IsHomeIn, controllers_in, seated, setups_in}
+use Rattle.world_turns.specs.declared.seat.SeatAt.{SeatAt}
+use Rattle.world_turns.specs.Seated.{AreApart, IsHomeIn, controllers_in, seated, setups_in}
 use Rattle.world_state.specs.declared.state.State.{State}
 use Rattle.world_state.specs.Steps.{Writes}
 

@@ -8,8 +8,8 @@ use Rattle.protocol_runs.specs.Setting.{Setting}
 use Rattle.sequencer.specs.Drive.{Drive}
 use Rattle.sequencer.specs.Seats.{Seat}
 use Rattle.world_places.specs.Places.{made_in}
-use Rattle.world_seats.specs.declared.seat.SeatAt.{SeatAt}
-use Rattle.world_seats.specs.Seated.{setups_in}
+use Rattle.world_turns.specs.declared.seat.SeatAt.{SeatAt}
+use Rattle.world_turns.specs.Seated.{setups_in}
 use Rattle.world_state.specs.declared.state.State.{State}
 use Rattle.world_state.specs.Closed.{IsRested}
 use Rattle.world_state.specs.States.{IsKept, IsNobody}

@@ -7,6 +7,7 @@ ghost use Rattle.world_state.specs.States.{IsKept};
 ghost use Rattle.world_state.specs.Steps.{IsSame, IsStep};
 ghost use Rattle.world_turns.specs.Turning.{CanTurn, IsOfRun};
 
+use crate::SeatAt;
 use crate::driving::drive;
 use crate::ending::end_cycle;
 use crate::laws::{seats_are_ready, turned_data_are_steps};
@@ -15,7 +16,6 @@ use run_journal::Verdict;
 use sequencer::Driver;
 use std::alloc::Global;
 use world_places::least_stopped;
-use world_seats::SeatAt;
 use world_state::{State, closes_are_steps};
 
 /// A turn of a world in which nobody is held and no controller is due: the run ends with the least-numbered controller that has

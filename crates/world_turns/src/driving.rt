@@ -8,14 +8,15 @@ ghost use Rattle.world_turns.specs.Driving.{CanAct, CanCome, CanEnd, HasRoomToAc
 ghost use Rattle.world_turns.specs.Requests.{HasRoomFor};
 ghost use Rattle.world_turns.specs.Turned.{IsDriven, numbers_of, requests_in};
 
+use crate::all_seats::put_seats;
 use crate::laws::{drives_are_lawful, places_stay_home, requests_can_arrive, seats_are_ready};
 use crate::ready::{Ready, prepare};
 use crate::requests::Requests;
+use crate::seat::SeatAt;
 use ruby_value::{Finding, MsgNo, NoMemory, Seq};
 use sequencer::{Driver, OwnedSeats};
 use std::alloc::Global;
 use world_places::deliver;
-use world_seats::{SeatAt, put_seats};
 use world_state::State;
 
 /// What is told of a driver's part of a turn: the numbers of its requests, what it found, and how many messages were in inboxes before.

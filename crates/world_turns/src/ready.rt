@@ -5,13 +5,14 @@ ghost use Rattle.world_state.specs.Steps.{IsSame};
 ghost use Rattle.world_turns.specs.Driving.{AreOut, CanAct, HasRoomToAct};
 ghost use Rattle.world_turns.specs.Turned.{messages_in};
 
+use crate::all_seats::{put_seats, take_seats};
 use crate::laws::{seats_are_put_back, seats_are_ready};
 use crate::requests::Requests;
+use crate::seat::SeatAt;
 use ruby_value::NoMemory;
 use sequencer::{Driver, OwnedSeats};
 use std::alloc::Global;
 use world_places::room_for_all;
-use world_seats::{SeatAt, put_seats, take_seats};
 use world_state::{Book, State};
 
 /// Room for what a driver may issue at its turn, and how many messages are in inboxes before it.

@@ -4,14 +4,14 @@ ghost use Rattle.std.specs.List.{All};
 ghost use Rattle.ruby_value.specs.Requests.{IsRequest};
 ghost use Rattle.protocol_runs.specs.Requests.{member_of as member_of_request, request_at, request_fields as fields_of_request, request_messages};
 ghost use Rattle.sequencer.specs.declared.issued.Issued.{Issued as IssuedRecord};
-ghost use Rattle.world_seats.specs.Seated.{setups_in};
+ghost use Rattle.world_turns.specs.Seated.{setups_in};
 ghost use Rattle.world_turns.specs.Requests.{HasRoomFor, IsFieldRoom};
 ghost use Rattle.world_turns.specs.Turned.{numbers_of};
 
+use crate::SeatAt;
 use ruby_value::{Ask, Asked, Delivery, Fields, Message, MsgNo, NoMemory, Seq, Value};
 use sequencer::Issued;
 use std::alloc::Global;
-use world_seats::SeatAt;
 
 /// The messages of requests and their numbers, and lists for the fields of those to come, with the room that all of these need.
 #[derive(Drop)]

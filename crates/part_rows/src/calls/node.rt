@@ -11,22 +11,13 @@ pub(crate) const ME: u32 = 2;
 /// The actor number of the driver, which comes after those of the controllers.
 pub(crate) const DRIVER: u32 = 3;
 
-// Its tables, by number. The lines of the second cache have the structure of those of the TBE table.
-pub(crate) const CACHE: u16 = 0;
-
-pub(crate) const DIRECTORY: u16 = 1;
-
-pub(crate) const TBES: u16 = 2;
-
-pub(crate) const TBE_CACHE: u16 = 3;
-
+/// The table of its parameters.
 pub(crate) const PARAMETERS: u16 = 4;
 
-// Its buffers, by number.
+/// The buffer that is its queue.
 pub(crate) const QUEUE: u16 = 0;
 
-pub(crate) const OUT: u16 = 1;
-
+// The lines of the second cache have the structure of those of the TBE table.
 const TBE_TABLE: TableRow = TableRow {
     size: TableSize::Tbe { entries: 1 },
     structure: 6,

@@ -1,46 +1,17 @@
-// A call as a row of data.
+// A line with a call, as words.
 use ruby_value::{Block, NetDest, NoMemory, Ref, Value};
 use std::alloc::Global;
 
-/// An argument.
-#[derive(Clone, Copy)]
-pub(crate) enum Argument {
-    Truth(bool),
-    Number(i64),
-    /// The numbers of an enumeration and of a member.
-    Member(u16, u16),
-    /// A byte address.
-    Address(u64),
-    /// The number of a controller.
-    Controller(u32),
-    Controllers(&'static [u32]),
-    /// A block of 64 equal bytes.
-    Bytes(u8),
-    /// A reference to a line of a cache or a directory, by table and line.
-    Entry(u16, u64),
-    /// A reference to nothing.
-    NoEntry,
-    /// The same of a TBE table.
-    NoTbe,
-}
-
-/// A call: its number in action code, what it is called on and its name, the number of the table or buffer that it is on, or 0, and its
-/// arguments.
-pub(crate) struct Row(
-    pub(crate) u16,
-    pub(crate) &'static str,
-    pub(crate) u16,
-    pub(crate) &'static [Argument],
-);
-
-fn add_controllers(members: &mut NetDest, numbers: &[u32]) -> Result<(), NoMemory> {
-    for number in numbers {
-        members.add(*number)?;
+fn add_controllers(members: &mut NetDest, numbers: &str) -> Result<(), NoMemory> {
+    for n in numbers.split(',') {
+        if let Ok(n) = n.parse::<u32>() {
+            members.add(n)?;
+        }
     }
     Ok(())
 }
 
-fn controllers(alloc: Global, numbers: &[u32]) -> Result<Value, NoMemory> {
+fn controllers(alloc: Global, numbers: &str) -> Result<Value, NoMemory> {
     let mut members = NetDest::new(alloc);
     match add_controllers(&mut members, numbers) {
         Ok(()) => Ok(Value::Dest(members)),
@@ -51,29 +22,70 @@ fn controllers(alloc: Global, numbers: &[u32]) -> Result<Value, NoMemory> {
     }
 }
 
-fn value(alloc: Global, argument: Argument) -> Result<Value, NoMemory> {
-    Ok(match argument {
-        Argument::Truth(b) => Value::Bool(b),
-        Argument::Number(n) => Value::Int(n),
-        Argument::Member(enumeration, member) => Value::Enum(enumeration, member),
-        Argument::Address(address) => Value::Addr(address),
-        Argument::Controller(number) => Value::Machine(number),
-        Argument::Controllers(numbers) => return controllers(alloc, numbers),
-        Argument::Bytes(byte) => Value::Block(Block { bytes: [byte; 64] }),
-        Argument::Entry(table, line) => Value::Entry(Some(Ref { table, line })),
-        Argument::NoEntry => Value::Entry(None),
-        Argument::NoTbe => Value::Tbe(None),
+// A reference to a line of a table, by their numbers, or to nothing.
+fn reference(text: &str) -> Option<Ref> {
+    let (table, line) = text.split_once(',')?;
+    Some(Ref {
+        table: table.parse::<u16>().ok()?,
+        line: line.parse::<u64>().ok()?,
     })
 }
 
-/// Adds the values of arguments.
-pub(crate) fn add_values(
-    alloc: Global,
-    values: &mut Vec<Value>,
-    arguments: &[Argument],
-) -> Result<(), NoMemory> {
-    for argument in arguments {
-        values.push(value(alloc, *argument)?)?;
+// A member, by the numbers of its enumeration and its own.
+fn member(text: &str) -> Value {
+    let (enumeration, member) = text.split_once(',').unwrap_or((text, ""));
+    Value::Enum(
+        enumeration.parse::<u16>().unwrap_or(0),
+        member.parse::<u16>().unwrap_or(0),
+    )
+}
+
+// The value of a word `KIND:NUMBERS`, in which what is no number counts as 0. A block has 64 equal bytes.
+fn value(alloc: Global, word: &str) -> Result<Value, NoMemory> {
+    let (kind, text) = word.split_once(':').unwrap_or((word, ""));
+    Ok(match kind {
+        "Bool" => Value::Bool(text == "true"),
+        "Int" => Value::Int(text.parse::<i64>().unwrap_or(0)),
+        "Enum" => member(text),
+        "Addr" => Value::Addr(text.parse::<u64>().unwrap_or(0)),
+        "Machine" => Value::Machine(text.parse::<u32>().unwrap_or(0)),
+        "Dest" => return controllers(alloc, text),
+        "Block" => Value::Block(Block {
+            bytes: [text.parse::<u8>().unwrap_or(0); 64],
+        }),
+        "Entry" => Value::Entry(reference(text)),
+        _ => Value::Tbe(reference(text)),
+    })
+}
+
+/// The values of words.
+pub(crate) fn values(alloc: Global, words: &str) -> Result<Vec<Value>, NoMemory> {
+    let mut values = Vec::new(alloc);
+    for word in words.split_whitespace() {
+        values.push(value(alloc, word)?)?;
     }
-    Ok(())
+    Ok(values)
+}
+
+/// A call: what it is called on and its name, its number in action code, the number of the table or buffer that it is on, or 0, and its
+/// arguments as words.
+#[derive(Clone, Copy)]
+pub(crate) struct Call<'a> {
+    pub(crate) name: &'a str,
+    pub(crate) number: u16,
+    pub(crate) on: u16,
+    pub(crate) arguments: &'a str,
+}
+
+/// The call of a line.
+pub(crate) fn call_of(line: &str) -> Call<'_> {
+    let (name, words) = line.split_once(" = ").unwrap_or((line, ""));
+    let (number, words) = words.split_once(' ').unwrap_or((words, ""));
+    let (on, arguments) = words.split_once(' ').unwrap_or((words, ""));
+    Call {
+        name,
+        number: number.parse::<u16>().unwrap_or(0),
+        on: on.parse::<u16>().unwrap_or(0),
+        arguments,
+    }
 }

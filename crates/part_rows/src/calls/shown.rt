@@ -1,8 +1,9 @@
 // Values and answers as text: a value is its kind's name and its numbers, a block is 128 hexadecimal digits.
-use ctl_face::{Fault, Trouble};
+use ctl_face::Trouble;
 use row_text::RowText;
 use ruby_value::{Block, NetDest, Ref, Value};
 use std::fmt;
+use trace_print::fault_word;
 
 fn add_controllers(rows: &mut RowText, members: &NetDest) {
     for number in 0..64_u32 {
@@ -60,31 +61,15 @@ fn add_value(rows: &mut RowText, value: &Value) {
     }
 }
 
-fn word_of(fault: &Fault) -> &'static str {
-    match fault {
-        Fault::Invalid => "invalid",
-        Fault::Assert => "assert",
-        Fault::Error(_) => "error",
-        Fault::Overflow => "overflow",
-        Fault::Latency => "latency",
-        Fault::Reference => "reference",
-        Fault::Front => "front",
-        Fault::Full => "full",
-        Fault::Present => "present",
-        Fault::Absent => "absent",
-        Fault::Probe => "probe",
-        Fault::Callback => "callback",
-        Fault::Route => "route",
-        Fault::Copies => "copies",
-    }
-}
-
 /// Adds what a call answers, with the end of the line: its value, `done` where it has none, or its fault.
 pub(crate) fn add_answer(rows: &mut RowText, answer: &Result<Option<Value>, Trouble>) {
     match answer {
         Ok(Some(v)) => add_value(rows, v),
         Ok(None) => rows.add("done"),
-        Err(Trouble::Fault(fault)) => rows.show("fault ", &word_of(fault)),
+        Err(Trouble::Fault(fault)) => {
+            rows.add("fault ");
+            rows.add_bytes(fault_word(fault));
+        }
         Err(Trouble::NoMemory) => rows.add("no memory"),
     }
     rows.add("\n");

@@ -4,18 +4,23 @@ ghost use Rattle.sample_stores.specs.Going.{GoesOn};
 
 use crate::calls::node::{DRIVER, KEPT_NUMBERS, ME, PARAMETERS, QUEUE, machine, routes, setting};
 use crate::calls::requests::{load, store};
-use crate::calls::row::{Row, add_values};
-use crate::calls::rows::groups;
+use crate::calls::row::{Call, call_of, values};
 use crate::calls::shown::{add_answer, add_arguments};
 use acts::set;
 use built_in_acts::{CallSetting, built_in};
 use ctl_face::{Local, NoMemory, Routes};
 use ctl_store::{Draft, Store};
 use row_text::RowText;
+use ruby_outside::{Got, Library};
 use ruby_value::{MsgNo, Ref, Value};
 use sample_controllers::{message, one_field};
 use sample_stores::{is_delivered, is_issued, opened};
 use std::alloc::Global;
+
+// The file with the calls, and the most bytes that it may have.
+const CALLS: &str = "acts/rows";
+
+const CALLS_LIMIT: u64 = 1_048_576;
 
 // The cycle of the calls.
 const NOW: u64 = 10;
@@ -25,25 +30,33 @@ fn add_call<L: Local>(
     rows: &mut RowText,
     local: &mut L,
     setting: &CallSetting,
-    row: &Row,
+    call: &Call<'_>,
     arguments: &[Value],
 ) {
-    let Row(number, name, on, _) = row;
-    let answer = built_in(rows.alloc(), local, setting, *number, *on, arguments);
-    rows.show("", number);
-    rows.show(" ", name);
+    let answer = built_in(
+        rows.alloc(),
+        local,
+        setting,
+        call.number,
+        call.on,
+        arguments,
+    );
+    rows.show("", &call.number);
+    rows.show(" ", &call.name);
     add_arguments(rows, arguments);
     add_answer(rows, &answer);
     drop(answer);
 }
 
-fn add_row<L: Local>(rows: &mut RowText, local: &mut L, setting: &CallSetting, row: &Row) {
-    let mut arguments = Vec::new(rows.alloc());
-    match add_values(rows.alloc(), &mut arguments, row.3) {
-        Ok(()) => add_call(rows, local, setting, row, &arguments),
+fn add_row<L: Local>(rows: &mut RowText, local: &mut L, setting: &CallSetting, line: &str) {
+    let call = call_of(line);
+    match values(rows.alloc(), call.arguments) {
+        Ok(arguments) => {
+            add_call(rows, local, setting, &call, &arguments);
+            drop(arguments);
+        }
         Err(NoMemory) => rows.lose(),
     }
-    drop(arguments);
 }
 
 // Whether the numbers of the machines' controllers could be written.
@@ -60,26 +73,22 @@ fn are_kept<L: Local>(local: &mut L) -> bool {
     true
 }
 
-fn add_group<L: Local>(rows: &mut RowText, local: &mut L, setting: &CallSetting, group: &[Row]) {
+fn add_group<L: Local>(rows: &mut RowText, local: &mut L, setting: &CallSetting, group: &str) {
     if !are_kept(local) {
         return rows.lose();
     }
-    for row in group {
-        add_row(rows, local, setting, row);
+    for line in group.lines() {
+        if !line.is_empty() && !line.starts_with('#') {
+            add_row(rows, local, setting, line);
+        }
     }
 }
 
-// The groups, each on a draft of its own, which is dropped.
-fn add_groups(
-    rows: &mut RowText,
-    node: &Store,
-    routes: &Routes,
-    setting: &CallSetting,
-    groups: &[&[Row]],
-)
+// The calls between blank lines, on a draft of their own, which is dropped.
+fn add_groups(rows: &mut RowText, node: &Store, routes: &Routes, setting: &CallSetting, calls: &str)
     requires { GoesOn node.now routes.now NOW }
 {
-    for group in groups {
+    for group in calls.split("\n\n") {
         let mut draft = Draft::on(rows.alloc(), node, routes, 42, NOW);
         add_group(rows, &mut draft, setting, group);
         drop(draft);
@@ -103,7 +112,7 @@ fn is_begun(alloc: Global, node: &mut Store, routes: &Routes) -> bool
         && is_issued(node, routes, NOW, store())
 }
 
-fn add_on(rows: &mut RowText, node: &mut Store, routes: &Routes)
+fn add_on(rows: &mut RowText, node: &mut Store, routes: &Routes, calls: &str)
     requires { GoesOn node.old routes.now NOW }
 {
     if !is_begun(rows.alloc(), node, routes) {
@@ -111,7 +120,7 @@ fn add_on(rows: &mut RowText, node: &mut Store, routes: &Routes)
     }
     match setting(rows.alloc()) {
         Ok(setting) => {
-            add_groups(rows, node, routes, &setting, groups());
+            add_groups(rows, node, routes, &setting, calls);
             drop(setting);
         }
         Err(NoMemory) => rows.lose(),
@@ -126,23 +135,32 @@ fn node_of(alloc: Global, routes: &Routes) -> Result<Option<Store>, NoMemory>
     opened(alloc, machine, ME, routes, NOW)
 }
 
-fn add_by(rows: &mut RowText, routes: &Routes) {
+fn add_by(rows: &mut RowText, routes: &Routes, calls: &str) {
     match node_of(rows.alloc(), routes) {
         Ok(Some(mut node)) => {
-            add_on(rows, &mut node, routes);
+            add_on(rows, &mut node, routes, calls);
             drop(node);
         }
         Ok(None) | Err(NoMemory) => rows.lose(),
     }
 }
 
-/// Adds the lines of all calls.
-pub(crate) fn add(rows: &mut RowText) {
+// Adds the lines of calls.
+fn add_calls(rows: &mut RowText, calls: &str) {
     match routes(rows.alloc()) {
         Ok(routes) => {
-            add_by(rows, &routes);
+            add_by(rows, &routes, calls);
             drop(routes);
         }
         Err(NoMemory) => rows.lose(),
     }
+}
+
+/// Adds the lines of the calls in the file.
+pub(crate) fn add<L: Library>(rows: &mut RowText, library: &mut L) {
+    let Got::Bytes(calls) = library.read(CALLS, CALLS_LIMIT) else {
+        return rows.lose();
+    };
+    add_calls(rows, str::from_utf8(&calls).unwrap_or(""));
+    drop(calls);
 }

@@ -4,7 +4,6 @@ use crate::topologies::answer::add_answer;
 use row_text::RowText;
 use ruby_outside::Library;
 use ruby_topology::{TopoFault, Topology, plain, read_topology};
-use sample_stores::let_go;
 use slicc_plan::Plan;
 use std::alloc::Global;
 
@@ -60,7 +59,7 @@ fn add_line<L: Library>(rows: &mut RowText, library: &mut L, protocol: &str, row
             let answer = answer(rows.alloc(), row, &plan);
             add_answer(rows, &answer);
             drop(answer);
-            let_go(plan);
+            drop(plan);
         }
         None => rows.add("no plan\n"),
     }

@@ -1,7 +1,7 @@
 // The run of a row.
 ghost use Rattle.std.specs.Prelude.{◌≡◌, ◌≤◌, IfOk, IfSome, length};
 ghost use Rattle.ctl_face.specs.Fits.{last_cycle};
-ghost use Rattle.scripted_driver.specs.Script.{opening};
+ghost use Rattle.sample_stores.specs.Script.{opening};
 ghost use Rattle.topology_fit.specs.FitsPlan.{FitsPlan};
 
 use crate::worlds::entries::write_entries;
@@ -12,8 +12,7 @@ use ruby_options::{Command, Options};
 use ruby_outside::{Got, Library, Sink};
 use ruby_topology::{TopoFault, Topology, read_topology};
 use ruby_world::{RunLimits, RunRecord, run_whole};
-use sample_stores::{let_go, plan_of};
-use scripted_driver::Script;
+use sample_stores::{Script, plan_of};
 use slicc_interpreter::Interpreted;
 use slicc_plan::{Plan, copy_plan};
 use std::alloc::Global;
@@ -126,7 +125,7 @@ fn run_over(
     match topology_of(alloc, bytes, &plan) {
         Ok(topology) => run_of(alloc, limits, plan, topology, script).ok(),
         Err(_) => {
-            let_go(plan);
+            drop(plan);
             drop(script);
             None
         }

@@ -12,16 +12,18 @@ fn kind_of(word: &str) -> Option<Ask> {
     }
 }
 
-// The request that a line says, if it says one.
-fn request_of(line: &str) -> Option<Issued> {
-    let mut words = line.split_whitespace();
-    let issued = words.next()?.parse::<u64>().ok()?;
-    let seat = words.next()?.parse::<u32>().ok()?;
-    let kind = kind_of(words.next()?)?;
-    let line = words.next()?.parse::<u64>().ok()?;
-    let offset = words.next()?.parse::<u8>().ok()?;
-    let size = words.next()?.parse::<u8>().ok()?;
-    let byte = words.next()?.parse::<u8>().ok()?;
+// The request that the words of a line say, if they say one.
+fn request_of(words: &[&str]) -> Option<Issued> {
+    let [issued, seat, kind, line, offset, size, byte, ..] = words else {
+        return None;
+    };
+    let kind = kind_of(kind)?;
+    let issued = issued.parse::<u64>().ok()?;
+    let seat = seat.parse::<u32>().ok()?;
+    let line = line.parse::<u64>().ok()?;
+    let offset = offset.parse::<u8>().ok()?;
+    let size = size.parse::<u8>().ok()?;
+    let byte = byte.parse::<u8>().ok()?;
     let asked = Asked {
         line,
         kind,
@@ -33,13 +35,22 @@ fn request_of(line: &str) -> Option<Issued> {
     Some(Issued { seat, asked })
 }
 
+// Adds the request that a line says, if it says one.
+fn add_request(alloc: Global, line: &str, requests: &mut Vec<Issued>) -> Result<(), NoMemory> {
+    let words: Vec<&str> = line.split_whitespace().collect(alloc)?;
+    let request = request_of(words.as_slice());
+    drop(words);
+    if let Some(request) = request {
+        requests.push(request)?;
+    }
+    Ok(())
+}
+
 /// The requests of a file, in their order. A line that says none, as a comment, is passed over.
 pub(crate) fn requests_of(alloc: Global, text: &str) -> Result<Vec<Issued>, NoMemory> {
     let mut requests = Vec::new(alloc);
     for line in text.lines() {
-        if let Some(request) = request_of(line) {
-            requests.push(request)?;
-        }
+        add_request(alloc, line, &mut requests)?;
     }
     Ok(requests)
 }

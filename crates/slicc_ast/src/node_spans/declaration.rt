@@ -17,8 +17,7 @@ impl Spanned for Pair {
     fn add_to(&self, spans: &mut Seq<Span>) -> Result<(), NoMemory> {
         match self {
             Pair::Named { name, value, span } => {
-                spans.push(*span)?;
-                spans.push(name.span)?;
+                spans.append(&[*span, name.span])?;
                 match value {
                     PairValue::Quoted(_) | PairValue::Number(_) => Ok(()),
                     PairValue::Name(named) => spans.push(named.span),
@@ -41,8 +40,7 @@ impl Spanned for Formal {
     ghost spans_at = { λ f. spans_of (formal f) };
 
     fn add_to(&self, spans: &mut Seq<Span>) -> Result<(), NoMemory> {
-        spans.push(self.span)?;
-        spans.push(self.kind.span)?;
+        spans.append(&[self.span, self.kind.span])?;
         match &self.name {
             Some(name) => spans.push(name.span),
             None => Ok(()),
@@ -62,9 +60,7 @@ impl Spanned for Skipped {
     ghost spans_at = { λ s. spans_of (skipped s) };
 
     fn add_to(&self, spans: &mut Seq<Span>) -> Result<(), NoMemory> {
-        spans.push(self.span)?;
-        spans.push(self.kind.span)?;
-        spans.push(self.name.span)?;
+        spans.append(&[self.span, self.kind.span, self.name.span])?;
         add_balanced(spans, &self.arguments)?;
         add_pairs(spans, &self.pairs)?;
         add_balanced(spans, &self.body)
@@ -84,8 +80,7 @@ impl Spanned for Enumeration {
     ghost spans_at = { λ e. spans_of (enumeration e) };
 
     fn add_to(&self, spans: &mut Seq<Span>) -> Result<(), NoMemory> {
-        spans.push(self.span)?;
-        spans.push(self.name.span)?;
+        spans.append(&[self.span, self.name.span])?;
         add_pairs(spans, &self.pairs)?;
         add_each(&self.members, spans)
     }
@@ -95,9 +90,7 @@ impl Spanned for State {
     ghost spans_at = { state_spans };
 
     fn add_to(&self, spans: &mut Seq<Span>) -> Result<(), NoMemory> {
-        spans.push(self.name.span)?;
-        spans.push(self.owner.span)?;
-        spans.push(self.permission.span)?;
+        spans.append(&[self.name.span, self.owner.span, self.permission.span])?;
         add_pairs(spans, &self.pairs)
     }
 }
@@ -106,8 +99,7 @@ impl Spanned for States {
     ghost spans_at = { λ s. spans_of (states s) };
 
     fn add_to(&self, spans: &mut Seq<Span>) -> Result<(), NoMemory> {
-        spans.push(self.span)?;
-        spans.push(self.name.span)?;
+        spans.append(&[self.span, self.name.span])?;
         add_pairs(spans, &self.pairs)?;
         add_each(&self.members, spans)
     }
@@ -124,9 +116,7 @@ impl Spanned for Member {
                 pairs,
                 span,
             } => {
-                spans.push(*span)?;
-                spans.push(kind.span)?;
-                spans.push(name.span)?;
+                spans.append(&[*span, kind.span, name.span])?;
                 add_pairs(spans, pairs)
             }
             Member::Method {
@@ -136,9 +126,7 @@ impl Spanned for Member {
                 pairs,
                 span,
             } => {
-                spans.push(*span)?;
-                spans.push(kind.span)?;
-                spans.push(name.span)?;
+                spans.append(&[*span, kind.span, name.span])?;
                 add_formals(spans, formals)?;
                 add_pairs(spans, pairs)
             }
@@ -151,8 +139,7 @@ impl Spanned for Structure {
     ghost spans_at = { λ s. spans_of (structure s) };
 
     fn add_to(&self, spans: &mut Seq<Span>) -> Result<(), NoMemory> {
-        spans.push(self.span)?;
-        spans.push(self.name.span)?;
+        spans.append(&[self.span, self.name.span])?;
         add_pairs(spans, &self.pairs)?;
         add_each(&self.members, spans)
     }

@@ -10,7 +10,6 @@ use ruby_base::{NoMemory, Seq};
 
 /// Adds the spans of an expression.
 #[cycle(expression_spans)]
-#[tactic(auto, using(crate::proofs::SpansOfBoxes::spans_of_boxes))]
 pub fn add_expr(spans: &mut Seq<Span>, e: &Expr) -> Result<(), NoMemory>
     ensures { OnOk result (spans.new ≡ spans.old ++ spans_of (expr e.now)) }
 {
@@ -49,32 +48,23 @@ pub fn add_expr(spans: &mut Seq<Span>, e: &Expr) -> Result<(), NoMemory>
             owner,
             member,
             span,
-        } => {
-            spans.push(*span)?;
-            spans.push(owner.span)?;
-            spans.push(member.span)
-        }
+        } => spans.append(&[*span, owner.span, member.span]),
         Expr::Call {
             name,
             arguments,
             span,
         } => {
-            spans.push(*span)?;
-            spans.push(name.span)?;
+            spans.append(&[*span, name.span])?;
             add_args(spans, arguments)
         }
-        Expr::New(name, span) => {
-            spans.push(*span)?;
-            spans.push(name.span)
-        }
+        Expr::New(name, span) => spans.append(&[*span, name.span]),
         Expr::Cast {
             target,
             value,
             span,
             ..
         } => {
-            spans.push(*span)?;
-            spans.push(target.span)?;
+            spans.append(&[*span, target.span])?;
             add_expr(spans, value.get())
         }
     }
@@ -105,17 +95,13 @@ fn add_suffix(spans: &mut Seq<Span>, s: &Suffix) -> Result<(), NoMemory>
     ensures { OnOk result (spans.new ≡ spans.old ++ spans_of (suffix s.now)) }
 {
     match s {
-        Suffix::Field(name, span) => {
-            spans.push(*span)?;
-            spans.push(name.span)
-        }
+        Suffix::Field(name, span) => spans.append(&[*span, name.span]),
         Suffix::Method {
             name,
             arguments,
             span,
         } => {
-            spans.push(*span)?;
-            spans.push(name.span)?;
+            spans.append(&[*span, name.span])?;
             add_args(spans, arguments)
         }
         Suffix::Index(key, span) => {

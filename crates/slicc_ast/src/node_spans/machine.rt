@@ -25,10 +25,12 @@ impl Spanned for OutPort {
     ghost spans_at = { λ p. spans_of (out_port p) };
 
     fn add_to(&self, spans: &mut Seq<Span>) -> Result<(), NoMemory> {
-        spans.push(self.span)?;
-        spans.push(self.name.span)?;
-        spans.push(self.message.span)?;
-        spans.push(self.buffer.span)?;
+        spans.append(&[
+            self.span,
+            self.name.span,
+            self.message.span,
+            self.buffer.span,
+        ])?;
         add_pairs(spans, &self.pairs)
     }
 }
@@ -37,10 +39,12 @@ impl Spanned for InPort {
     ghost spans_at = { λ p. spans_of (in_port p) };
 
     fn add_to(&self, spans: &mut Seq<Span>) -> Result<(), NoMemory> {
-        spans.push(self.span)?;
-        spans.push(self.name.span)?;
-        spans.push(self.message.span)?;
-        spans.push(self.buffer.span)?;
+        spans.append(&[
+            self.span,
+            self.name.span,
+            self.message.span,
+            self.buffer.span,
+        ])?;
         add_pairs(spans, &self.pairs)?;
         add_block(spans, &self.body)
     }
@@ -50,8 +54,7 @@ impl Spanned for Action {
     ghost spans_at = { λ a. spans_of (action a) };
 
     fn add_to(&self, spans: &mut Seq<Span>) -> Result<(), NoMemory> {
-        spans.push(self.span)?;
-        spans.push(self.name.span)?;
+        spans.append(&[self.span, self.name.span])?;
         add_pairs(spans, &self.pairs)?;
         add_block(spans, &self.body)
     }
@@ -104,9 +107,7 @@ impl Spanned for Function {
                 body,
                 span,
             } => {
-                spans.push(*span)?;
-                spans.push(kind.span)?;
-                spans.push(name.span)?;
+                spans.append(&[*span, kind.span, name.span])?;
                 add_formals(spans, formals)?;
                 add_pairs(spans, pairs)?;
                 match body {
@@ -123,9 +124,7 @@ impl Spanned for Object {
     ghost spans_at = { λ o. spans_of (object o) };
 
     fn add_to(&self, spans: &mut Seq<Span>) -> Result<(), NoMemory> {
-        spans.push(self.span)?;
-        spans.push(self.kind.span)?;
-        spans.push(self.name.span)?;
+        spans.append(&[self.span, self.kind.span, self.name.span])?;
         add_pairs(spans, &self.pairs)
     }
 }
@@ -164,9 +163,7 @@ impl Spanned for Parameter {
     ghost spans_at = { λ p. spans_of (parameter p) };
 
     fn add_to(&self, spans: &mut Seq<Span>) -> Result<(), NoMemory> {
-        spans.push(self.span)?;
-        spans.push(self.kind.span)?;
-        spans.push(self.name.span)?;
+        spans.append(&[self.span, self.kind.span, self.name.span])?;
         if let Some(literal) = &self.literal {
             spans.push(span_of(literal))?;
         }
@@ -178,8 +175,7 @@ impl Spanned for Machine {
     ghost spans_at = { λ m. spans_of (machine m) };
 
     fn add_to(&self, spans: &mut Seq<Span>) -> Result<(), NoMemory> {
-        spans.push(self.span)?;
-        spans.push(self.name.span)?;
+        spans.append(&[self.span, self.name.span])?;
         add_pairs(spans, &self.pairs)?;
         add_each(self.parameters.as_slice(), spans)?;
         add_each(self.declarations.as_slice(), spans)

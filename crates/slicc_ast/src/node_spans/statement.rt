@@ -2,7 +2,7 @@ ghost use Rattle.std.specs.Prelude.{◌≡◌, ◌++◌, OnOk};
 ghost use Rattle.std.specs.List.{flat_map};
 ghost use Rattle.slicc_ast.specs.Outline.{none, spans_in, spans_of};
 ghost use Rattle.slicc_ast.specs.Spans.{else_if_spans};
-ghost use Rattle.slicc_ast.specs.Statements.{block_outline, if_outline, latency_parts, stmt};
+ghost use Rattle.slicc_ast.specs.Statements.{block_outline, if_outline, optional_expr, stmt};
 
 use super::balanced::add_balanced;
 use super::declaration::add_pairs;
@@ -10,11 +10,11 @@ use super::expression::add_expr;
 use crate::tree::{Block, ElseIf, Expr, If, Span, Stmt};
 use ruby_base::{NoMemory, Seq};
 
-fn add_latency(spans: &mut Seq<Span>, latency: &Option<Expr>) -> Result<(), NoMemory>
-    ensures { OnOk result (spans.new ≡ spans.old ++ spans_in (latency_parts latency.now none)) }
+fn add_optional(spans: &mut Seq<Span>, value: &Option<Expr>) -> Result<(), NoMemory>
+    ensures { OnOk result (spans.new ≡ spans.old ++ spans_in (optional_expr value.now none)) }
 {
-    match latency {
-        Some(latency) => add_expr(spans, latency),
+    match value {
+        Some(value) => add_expr(spans, value),
         None => Ok(()),
     }
 }
@@ -67,9 +67,7 @@ fn add_stmt(spans: &mut Seq<Span>, s: &Stmt) -> Result<(), NoMemory>
             value,
             span,
         } => {
-            spans.push(*span)?;
-            spans.push(kind.span)?;
-            spans.push(name.span)?;
+            spans.append(&[*span, kind.span, name.span])?;
             add_expr(spans, value)
         }
         Stmt::Assign { place, value, span } => {
@@ -83,10 +81,7 @@ fn add_stmt(spans: &mut Seq<Span>, s: &Stmt) -> Result<(), NoMemory>
         }
         Stmt::Return(value, span) => {
             spans.push(*span)?;
-            match value {
-                Some(value) => add_expr(spans, value),
-                None => Ok(()),
-            }
+            add_optional(spans, value)
         }
         Stmt::If(inner) => add_if(spans, inner),
         Stmt::Peek {
@@ -96,9 +91,7 @@ fn add_stmt(spans: &mut Seq<Span>, s: &Stmt) -> Result<(), NoMemory>
             body,
             span,
         } => {
-            spans.push(*span)?;
-            spans.push(port.span)?;
-            spans.push(message.span)?;
+            spans.append(&[*span, port.span, message.span])?;
             add_pairs(spans, pairs)?;
             add_block(spans, body)
         }
@@ -109,10 +102,8 @@ fn add_stmt(spans: &mut Seq<Span>, s: &Stmt) -> Result<(), NoMemory>
             body,
             span,
         } => {
-            spans.push(*span)?;
-            spans.push(port.span)?;
-            spans.push(message.span)?;
-            add_latency(spans, latency)?;
+            spans.append(&[*span, port.span, message.span])?;
+            add_optional(spans, latency)?;
             add_block(spans, body)
         }
         Stmt::StallAndWait {
@@ -120,14 +111,10 @@ fn add_stmt(spans: &mut Seq<Span>, s: &Stmt) -> Result<(), NoMemory>
             address,
             span,
         } => {
-            spans.push(*span)?;
-            spans.push(port.span)?;
+            spans.append(&[*span, port.span])?;
             add_expr(spans, address)
         }
-        Stmt::CheckAllocate(table, span) => {
-            spans.push(*span)?;
-            spans.push(table.span)
-        }
+        Stmt::CheckAllocate(table, span) => spans.append(&[*span, table.span]),
         Stmt::Error(_, span) => spans.push(*span),
         Stmt::Print {
             arguments,

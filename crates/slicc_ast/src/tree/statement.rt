@@ -160,7 +160,7 @@ impl Drop for ElseIf {
 }
 
 /// The words that a statement of text for a trace begins with.
-#[derive(Clone, Copy, PartialEq, Eq)]
+#[derive(Clone, Copy)]
 pub enum PrintWord {
     /// `DPRINTF`
     Dprintf,

@@ -1,13 +1,17 @@
-use Rattle.std.proofs.Common.{◌∙◌, ◌++◌, ◌∷◌, [], ap, subst}
+use Rattle.std.proofs.Common.{◌≡◌, ◌∙◌, ◌++◌, ◌∷◌, [], ℕ, List, None, ap, refl, subst, sym}
 use Rattle.std.proofs.lemmas.Result.{err_from_is_err_and}
+use Rattle.ruby_value.specs.declared.value.Value.{Value}
+use Rattle.acts.specs.Acting.{Acting, given}
 use Rattle.acts.specs.DoesAs.{DoesAs, itself}
+use Rattle.acts.proofs.Walk.{decided_does, does_ends_as, then_does, then_stops, undecided_does}
 use Rattle.body_meaning.specs.declared.thing.Thing.{Thing}
 use Rattle.body_meaning.specs.Bodies.{calls_within}
-use Rattle.body_meaning.specs.Calls.{method_call}
+use Rattle.body_meaning.specs.Calls.{index, method_call}
 use Rattle.body_meaning.specs.Each.{each}
-use Rattle.body_meaning.specs.Expressions.{operand_step, suffixed, value_step, values_of}
+use Rattle.body_meaning.specs.Expressions.{field_in, operand_step, operated, suffixed, value_step, values_of}
+use Rattle.body_meaning.specs.Operators.{joined, settled}
 use Rattle.body_meaning.specs.Reading.{reading}
-use Rattle.body_walk.proofs.Arms.{call_does, cast_does, group_does, invalid_does, method_does, method_stops, negate_does, not_does, operation_does, operation_stops, postfix_does, postfix_stops, valid_does, value_added, value_not_added}
+use Rattle.body_walk.proofs.Arms.{call_does, inner_does, leaf_is, method_does, method_stops, operand_does, operation_does, operation_stops, postfix_does, postfix_stops, value_added, value_not_added}
 use Rattle.body_walk.proofs.Each.{leads_ends, leads_more, leads_stops}
 use Rattle.body_walk.proofs.expressions.+value.Goals as goal
 
@@ -92,22 +96,6 @@ value-returns-in_ok-t-in-Operation g t c =
     operation_does (reading c.args.s) (calls_within (reading c.args.s) c.args.depth) c.args.frame.now c.args.e.now c.in-Operation.first c.get.result.now c.in-Operation.others c.deref.result.now c.in-Operation.span c.in_ok-t-in-Operation.t c.value_in.result c.operation.result _ _ _
     c.in-Operation.is c.get.ensures c.deref.ensures c.in_ok-t-in-Operation.ensures c.value_in.ensures c.operation.ensures
 
-pub value-returns-in-Not : goal.value-returns-in-Not
-value-returns-in-Not g t c =
-    not_does (reading c.args.s) (calls_within (reading c.args.s) c.args.depth) c.args.frame.now c.args.e.now c.in-Not.operand c.get-operand.result.now c.in-Not.field-1 c.of_operand.result _ _ c.in-Not.is c.get-operand.ensures c.of_operand.ensures
-
-pub value-returns-in-Negate : goal.value-returns-in-Negate
-value-returns-in-Negate g t c =
-    negate_does (reading c.args.s) (calls_within (reading c.args.s) c.args.depth) c.args.frame.now c.args.e.now c.in-Negate.operand c.get-operand-in-Negate.result.now c.in-Negate.field-1 c.of_operand-in-Negate.result _ _ c.in-Negate.is c.get-operand-in-Negate.ensures c.of_operand-in-Negate.ensures
-
-pub value-returns-in-IsValid : goal.value-returns-in-IsValid
-value-returns-in-IsValid g t c =
-    valid_does (reading c.args.s) (calls_within (reading c.args.s) c.args.depth) c.args.frame.now c.args.e.now c.in-IsValid.inner c.get-operand-in-IsValid.result.now c.in-IsValid.field-1 c.of_operand-in-IsValid.result _ _ c.in-IsValid.is c.get-operand-in-IsValid.ensures c.of_operand-in-IsValid.ensures
-
-pub value-returns-in-IsInvalid : goal.value-returns-in-IsInvalid
-value-returns-in-IsInvalid g t c =
-    invalid_does (reading c.args.s) (calls_within (reading c.args.s) c.args.depth) c.args.frame.now c.args.e.now c.in-IsInvalid.inner c.get-operand-in-IsInvalid.result.now c.in-IsInvalid.field-1 c.of_operand-in-IsInvalid.result _ _ c.in-IsInvalid.is c.get-operand-in-IsInvalid.ensures c.of_operand-in-IsInvalid.ensures
-
 pub value-returns-in_err-t-in-Postfix : goal.value-returns-in_err-t-in-Postfix
 value-returns-in_err-t-in-Postfix g t c =
     let p = err_from_is_err_and c.from_residual-in_err-t-in-Postfix.result c.from_residual-in_err-t-in-Postfix.ensures.1 in
@@ -118,15 +106,73 @@ value-returns-in_ok-t-in-Postfix g t c =
     postfix_does (reading c.args.s) (calls_within (reading c.args.s) c.args.depth) c.args.frame.now c.args.e.now c.in-Postfix.inner c.get-in-Postfix.result.now c.in-Postfix.suffixes c.deref-in-Postfix.result.now c.in-Postfix.span c.in_ok-t-in-Postfix.t c.suffixed_all.result _ _ _
     c.in-Postfix.is c.get-in-Postfix.ensures c.deref-in-Postfix.ensures c.in_ok-t-in-Postfix.ensures c.suffixed_all.ensures
 
+pub value-returns-in-Not : goal.value-returns-in-Not
+value-returns-in-Not g t c =
+    operand_does (reading c.args.s) (calls_within (reading c.args.s) c.args.depth) c.args.frame.now c.args.e.now c.in-Not.operand c.get-in-Not.result.now c.unary_of-unary.result c.of_operand.result _ _ c.in-Not.is c.unary_of-unary.ensures c.get-in-Not.ensures c.of_operand.ensures
+
 pub value-returns-in-Call : goal.value-returns-in-Call
 value-returns-in-Call g t c =
-    call_does (reading c.args.s) (calls_within (reading c.args.s) c.args.depth) c.args.frame.now c.args.e.now c.in-Call.name c.in-Call.arguments c.in-Call.span c.deref-in-Call-2.result.now c.deref-in-Call.result.now c.called.result _ _
-    c.in-Call.is c.deref-in-Call-2.ensures c.deref-in-Call.ensures c.called.ensures
+    call_does (reading c.args.s) (calls_within (reading c.args.s) c.args.depth) c.args.frame.now c.args.e.now c.in-Call.name c.in-Call.arguments c.in-Call.span c.as_slice-items.result.now c.deref-in-Call.result.now c.called.result _ _
+    c.in-Call.is c.as_slice-items.ensures c.deref-in-Call.ensures c.called.ensures
 
 pub value-returns-in-Cast : goal.value-returns-in-Cast
 value-returns-in-Cast g t c =
-    cast_does (reading c.args.s) (calls_within (reading c.args.s) c.args.depth) c.args.frame.now c.args.e.now c.in-Cast.inner c.get-in-Cast.result.now c.in-Cast.target c.in-Cast.mode c.in-Cast.span c.value-in-Cast.result _ _ c.in-Cast.is c.get-in-Cast.ensures c.value-in-Cast.ensures
+    inner_does (reading c.args.s) (calls_within (reading c.args.s) c.args.depth) c.args.frame.now c.args.e.now c.in-Cast.inner c.get-in-Cast.result.now c.value-in-Cast.result _ _ c.in-Cast.is c.get-in-Cast.ensures c.value-in-Cast.ensures
 
-pub value-returns-in-Group : goal.value-returns-in-Group
-value-returns-in-Group g t c =
-    group_does (reading c.args.s) (calls_within (reading c.args.s) c.args.depth) c.args.frame.now c.args.e.now c.in-Group.inner c.get-in-Group.result.now c.in-Group.field-1 c.value-in-Group.result _ _ c.in-Group.is c.get-in-Group.ensures c.value-in-Group.ensures
+pub value-returns-in-Number : goal.value-returns-in-Number
+value-returns-in-Number g t c =
+    subst (λ (p : Acting Thing). DoesAs itself p c.leaf.result (g.T.Local.view c.args.local.now) (g.T.Local.view c.args.local.now)) (leaf_is (reading c.args.s) (calls_within (reading c.args.s) c.args.depth) c.args.frame.now c.args.e.now c.in-Number.is) c.leaf.ensures
+
+pub of_operand-returns-in_err-t : goal.of_operand-returns-in_err-t
+of_operand-returns-in_err-t g t c =
+    let p = err_from_is_err_and c.from_residual.result c.from_residual.ensures.1 in rw (p.1, p.2) (then_stops _ _ _ _ _ _ _ _ c.in_err-t.ensures)
+
+pub of_operand-returns : goal.of_operand-returns
+of_operand-returns g t c = then_does _ _ _ _ _ _ _ _ _ c.in_ok-t.ensures c.thing_made.ensures
+
+pub operation-returns-in_err-v : goal.operation-returns-in_err-v
+operation-returns-in_err-v g t c =
+    let p = err_from_is_err_and c.from_residual.result c.from_residual.ensures.1 in rw (p.1, p.2) (then_stops _ _ _ _ _ _ _ _ c.in_err-v.ensures)
+
+pub operation-returns : goal.operation-returns
+operation-returns g t c = then_does _ _ _ _ _ _ _ _ _ c.in_ok-v.ensures (does_ends_as _ _ _ _ refl)
+
+pub called-returns-in_err-vs : goal.called-returns-in_err-vs
+called-returns-in_err-vs g t c =
+    let p = err_from_is_err_and c.from_residual.result c.from_residual.ensures.1 in rw (p.1, p.2) (then_stops _ _ _ _ _ _ _ _ c.in_err-vs.ensures)
+
+pub called-returns : goal.called-returns
+called-returns g t c = then_does _ _ _ _ _ _ _ _ _ c.in_ok-vs.ensures c.named_call.ensures
+
+pub operated-returns-in-Some : goal.operated-returns-in-Some
+unfolding operated
+operated-returns-in-Some g t c = decided_does itself _ _ _ _ _ (sym c.settled.ensures ∙ c.in-Some.is) refl
+
+pub operated-returns-in_err-t : goal.operated-returns-in_err-t
+unfolding operated
+operated-returns-in_err-t g t c =
+    let p = err_from_is_err_and c.from_residual.result c.from_residual.ensures.1 in
+    let none : settled c.args.o.now.operator c.args.left ≡ None = cc in
+    rw (p.1, p.2) (undecided_does itself _ _ _ _ _ none (then_stops _ _ _ _ _ _ _ _ c.in_err-t.ensures))
+
+pub operated-returns : goal.operated-returns
+unfolding operated
+operated-returns g t c =
+    let none : settled c.args.o.now.operator c.args.left ≡ None = cc in
+    undecided_does itself _ _ _ _ _ none (then_does _ _ _ _ _ _ _ _ _ c.in_ok-t.ensures
+    (subst (λ (x : Value). DoesAs itself (given (joined c.args.o.now.operator c.args.left x)) c.joined_values.result (g.T.Local.view c.value.new.local) (g.T.Local.view c.value.new.local)) c.value_in.ensures c.joined_values.ensures))
+
+pub suffixed-returns-in-Field : goal.suffixed-returns-in-Field
+suffixed-returns-in-Field g t c =
+    rw c.in-Field.is
+    (subst (λ (text : List ℕ). DoesAs itself (field_in (reading c.args.s) text c.args.t.now) c.field_in.result (g.T.Local.view c.args.local.now) (g.T.Local.view c.args.local.now)) c.deref.ensures c.field_in.ensures)
+
+pub suffixed-returns-in_err-k-in-Index : goal.suffixed-returns-in_err-k-in-Index
+suffixed-returns-in_err-k-in-Index g t c =
+    let p = err_from_is_err_and c.from_residual-in_err-k-in-Index.result c.from_residual-in_err-k-in-Index.ensures.1 in
+    rw c.in-Index.is (rw (p.1, p.2) (then_stops _ _ _ _ _ _ _ _ c.in_err-k-in-Index.ensures))
+
+pub suffixed-returns-in_ok-k-in-Index : goal.suffixed-returns-in_ok-k-in-Index
+suffixed-returns-in_ok-k-in-Index g t c =
+    rw c.in-Index.is (then_does _ _ _ _ _ _ _ _ _ c.in_ok-k-in-Index.ensures
+    (subst (λ (x : Value). DoesAs itself (index (reading c.args.s) c.args.t.now x) c.index.result (g.T.Local.view c.value.new.local) (g.T.Local.view c.index.new.local)) c.value_in.ensures c.index.ensures))

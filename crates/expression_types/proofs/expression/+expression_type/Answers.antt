@@ -9,11 +9,12 @@ use Rattle.slicc_plan.specs.ExpressionTypes.{cast_to, from_operand, given_at, jo
 use Rattle.slicc_plan.specs.Meanings.{any_line, of_built_in}
 use Rattle.body_types.specs.Environments.{environment_of}
 use Rattle.body_types.specs.Found.{all_given_of, found_of, given_of, typed_of}
+use Rattle.body_types.specs.Views.{wanted_of}
 use Rattle.expression_types.specs.Known.{all_known}
 use Rattle.expression_types.specs.Lists.{all_arguments, all_operands, all_suffixes}
-use Rattle.expression_types.proofs.Boxes.{typed_of_Cast, typed_of_Group, typed_of_IsInvalid, typed_of_IsValid, typed_of_Negate, typed_of_Not, typed_of_Operation, typed_of_Postfix}
+use Rattle.expression_types.proofs.Boxes.{typed_of_Call, typed_of_Cast, typed_of_Group, typed_of_IsInvalid, typed_of_IsValid, typed_of_Negate, typed_of_Not, typed_of_Operation, typed_of_Postfix}
 use Rattle.expression_types.proofs.Rows.{arguments_of_row}
-use Rattle.expression_types.proofs.Steps.{call_found, cast_found, group_found, index_found, method_found, operand_found, operands_step, operation_found, postfix_found, suffixes_step}
+use Rattle.expression_types.proofs.Steps.{arguments_step, at_part, call_found, cast_found, from_same, index_found, method_found, operand_found, operands_step, operation_found, postfix_found, suffixes_step}
 use Rattle.expression_types.proofs.expression.+expression_type.Goals as goal
 
 pub typed-returns-in_ok-left-in-Operation : goal.typed-returns-in_ok-left-in-Operation
@@ -26,23 +27,29 @@ typed-returns-in_ok-left-in-Operation t c =
     same c.get-first.ensures refl c.in_ok-left-in-Operation.ensures c.deref.ensures told)
     c.operands.ensures
 
-pub typed-returns-in_ok-t-in-Not : goal.typed-returns-in_ok-t-in-Not
-typed-returns-in_ok-t-in-Not t c =
+pub typed-returns-in-Not : goal.typed-returns-in-Not
+typed-returns-in-Not t c =
     let env = environment_of c.args.env in
     let v = c.in-Not.operand in
-    let k = typed_of c.in_ok-t-in-Not.t in
-    operand_found env (of_built_in Boolean) Boolean v c.get-operand.result.now k (typed env c.args.e.now) (typed_of c.alone.result)
-    (ap (typed env) c.in-Not.is ∙ typed_of_Not env v c.in-Not.field-1) c.get-operand.ensures c.in_ok-t-in-Not.ensures
-    (c.alone.ensures ∙ ap (λ o. found_of (from_operand env o Boolean (given_at (span_of c.get-operand.result.now) k))) c.of_built_in.ensures)
+    let w = c.get.result.now in
+    let same : typed env c.args.e.now ≡ from_operand env (of_built_in Boolean) Boolean (given_at (span_of v) (typed env v)) =
+    ap (typed env) c.in-Not.is ∙ typed_of_Not env v c.in-Not.field-1 in
+    IfOk-weaker c.alone.result _ _
+    (λ r told. at_part env (λ x. from_operand env (of_built_in Boolean) Boolean (given_at (span_of x) (typed env x))) c.args.e.now v w (typed_of r) same c.get.ensures
+    (told ∙ ap (λ o. found_of (from_operand env o Boolean (given_at (span_of w) (typed env w)))) c.of_built_in.ensures))
+    c.alone.ensures
 
-pub typed-returns-in_ok-t-in-Negate : goal.typed-returns-in_ok-t-in-Negate
-typed-returns-in_ok-t-in-Negate t c =
+pub typed-returns-in-Negate : goal.typed-returns-in-Negate
+typed-returns-in-Negate t c =
     let env = environment_of c.args.env in
     let v = c.in-Negate.operand in
-    let k = typed_of c.in_ok-t-in-Negate.t in
-    operand_found env (of_built_in Int) Int v c.get-operand-in-Negate.result.now k (typed env c.args.e.now) (typed_of c.alone-in-Negate.result)
-    (ap (typed env) c.in-Negate.is ∙ typed_of_Negate env v c.in-Negate.field-1) c.get-operand-in-Negate.ensures c.in_ok-t-in-Negate.ensures
-    (c.alone-in-Negate.ensures ∙ ap (λ o. found_of (from_operand env o Int (given_at (span_of c.get-operand-in-Negate.result.now) k))) c.of_built_in-in-Negate.ensures)
+    let w = c.get-in-Negate.result.now in
+    let same : typed env c.args.e.now ≡ from_operand env (of_built_in Int) Int (given_at (span_of v) (typed env v)) =
+    ap (typed env) c.in-Negate.is ∙ typed_of_Negate env v c.in-Negate.field-1 in
+    IfOk-weaker c.alone-in-Negate.result _ _
+    (λ r told. at_part env (λ x. from_operand env (of_built_in Int) Int (given_at (span_of x) (typed env x))) c.args.e.now v w (typed_of r) same c.get-in-Negate.ensures
+    (told ∙ ap (λ o. found_of (from_operand env o Int (given_at (span_of w) (typed env w)))) c.of_built_in-in-Negate.ensures))
+    c.alone-in-Negate.ensures
 
 pub typed-returns-in_ok-left-in-Postfix : goal.typed-returns-in_ok-left-in-Postfix
 typed-returns-in_ok-left-in-Postfix t c =
@@ -50,51 +57,94 @@ typed-returns-in_ok-left-in-Postfix t c =
     let same : typed env c.args.e.now ≡ all_suffixes env c.in-Postfix.span (typed env c.in-Postfix.value) c.in-Postfix.suffixes =
     ap (typed env) c.in-Postfix.is ∙ typed_of_Postfix env c.in-Postfix.value c.in-Postfix.suffixes c.in-Postfix.span in
     IfOk-weaker c.with_suffixes.result _ _
-    (λ r told. postfix_found env c.args.e.now c.in-Postfix.value c.get.result.now c.in-Postfix.span (typed_of c.in_ok-left-in-Postfix.left) (typed_of r) c.deref-in-Postfix.result.now c.in-Postfix.suffixes
-    same c.get.ensures c.in_ok-left-in-Postfix.ensures c.deref-in-Postfix.ensures told)
+    (λ r told. postfix_found env c.args.e.now c.in-Postfix.value c.get-in-Postfix.result.now c.in-Postfix.span (typed_of c.in_ok-left-in-Postfix.left) (typed_of r) c.deref-in-Postfix.result.now c.in-Postfix.suffixes
+    same c.get-in-Postfix.ensures c.in_ok-left-in-Postfix.ensures c.deref-in-Postfix.ensures told)
     c.with_suffixes.ensures
 
-pub typed-returns-in_ok-given-in-Call : goal.typed-returns-in_ok-given-in-Call
-typed-returns-in_ok-given-in-Call t c =
+pub typed-returns-in-Call : goal.typed-returns-in-Call
+typed-returns-in-Call t c =
     let env = environment_of c.args.env in
-    let items = c.in-Call.arguments.items in
-    let same : typed env c.args.e.now ≡ named_call env c.in-Call.span c.in-Call.name (all_arguments env items) =
-    search (rules, the_lemmas, arguments_of_row env) in
-    let is_given : all_known (all_given_of c.deref-in-Call-2.result.now) ≡ all_known (all_arguments env items) =
-    ap (λ gs. all_known (all_given_of gs)) c.deref-in-Call-2.ensures ∙ c.in_ok-given-in-Call.ensures
-    ∙ ap (λ es. all_known (all_arguments env es)) c.deref-in-Call.ensures in
-    IfOk-weaker c.named_call.result _ _
-    (λ r told. call_found env c.in-Call.span c.in-Call.name (all_given_of c.deref-in-Call-2.result.now) (all_arguments env items) (typed env c.args.e.now) (typed_of r) same is_given told)
-    c.named_call.ensures
+    let same : typed env c.args.e.now ≡ named_call env c.in-Call.span c.in-Call.name (all_arguments env c.in-Call.arguments.items) =
+    ap (typed env) c.in-Call.is ∙ typed_of_Call env c.in-Call.name c.in-Call.arguments c.in-Call.span in
+    IfOk-weaker c.called.result _ _
+    (λ r told. from_same (typed env c.args.e.now) (named_call env c.in-Call.span c.in-Call.name (all_arguments env c.in-Call.arguments.items)) (typed_of r) same
+    (told ∙ ap (λ es. found_of (named_call env c.in-Call.span c.in-Call.name (all_arguments env es))) c.deref-in-Call.ensures))
+    c.called.ensures
 
-pub typed-returns-in_ok-t-in-IsValid : goal.typed-returns-in_ok-t-in-IsValid
-typed-returns-in_ok-t-in-IsValid t c =
+pub typed-returns-in-Number : goal.typed-returns-in-Number
+typed-returns-in-Number t c = ap found_of c.value_of.ensures ∙ ap (λ e. found_of (typed (environment_of c.args.env) e)) (sym c.in-Number.is)
+
+pub typed-returns-in-Nothing : goal.typed-returns-in-Nothing
+typed-returns-in-Nothing t c = ap found_of c.plain.ensures ∙ ap (λ e. found_of (typed (environment_of c.args.env) e)) (sym c.in-Nothing.is)
+
+pub typed-returns-in-Variable : goal.typed-returns-in-Variable
+typed-returns-in-Variable t c = ap found_of c.variable_type.ensures ∙ ap (λ e. found_of (typed (environment_of c.args.env) e)) (sym c.in-Variable.is)
+
+pub typed-returns-in-Member : goal.typed-returns-in-Member
+typed-returns-in-Member t c = c.member_type.ensures ∙ ap (λ e. found_of (typed (environment_of c.args.env) e)) (sym c.in-Member.is)
+
+pub typed-returns-in-New : goal.typed-returns-in-New
+typed-returns-in-New t c = ap found_of c.new_line.ensures ∙ ap (λ e. found_of (typed (environment_of c.args.env) e)) (sym c.in-New.is)
+
+pub typed-returns-in-IsValid : goal.typed-returns-in-IsValid
+typed-returns-in-IsValid t c =
     let env = environment_of c.args.env in
     let v = c.in-IsValid.operand in
     let same : typed env c.args.e.now ≡ from_operand env any_line Boolean (given_at (span_of v) (typed env v)) =
     search (rules, the_lemmas, typed_of_IsValid, typed_of_IsInvalid) in
-    operand_found env any_line Boolean v c.get-operand-in-IsValid.result.now (typed_of c.in_ok-t-in-IsValid.t) (typed env c.args.e.now) (typed_of c.alone-in-IsValid.result)
-    same c.get-operand-in-IsValid.ensures c.in_ok-t-in-IsValid.ensures c.alone-in-IsValid.ensures
+    IfOk-weaker c.alone-in-IsValid.result _ _
+    (λ r told. at_part env (λ x. from_operand env any_line Boolean (given_at (span_of x) (typed env x))) c.args.e.now v c.get-in-IsValid.result.now (typed_of r) same c.get-in-IsValid.ensures told)
+    c.alone-in-IsValid.ensures
 
-pub typed-returns-in_ok-t-in-Cast : goal.typed-returns-in_ok-t-in-Cast
-typed-returns-in_ok-t-in-Cast t c =
+pub typed-returns-in-Cast : goal.typed-returns-in-Cast
+typed-returns-in-Cast t c =
     let env = environment_of c.args.env in
     let target = c.in-Cast.target in
     let v = c.in-Cast.value in
-    let k = typed_of c.in_ok-t-in-Cast.t in
     let same : typed env c.args.e.now ≡ cast_to env target (given_at (span_of v) (typed env v)) (type_named env target.text) =
     ap (typed env) c.in-Cast.is ∙ typed_of_Cast env target c.in-Cast.mode v c.in-Cast.span in
-    cast_found env target v c.get-value.result.now (given_of c.given_at.result) k (typed env c.args.e.now) (typed_of c.cast_to.result)
-    same c.get-value.ensures c.in_ok-t-in-Cast.ensures (c.given_at.ensures ∙ ap (λ p. given_at p k) c.span_of.ensures) c.cast_to.ensures
+    IfOk-weaker c.cast.result _ _
+    (λ r told. at_part env (λ x. cast_to env target (given_at (span_of x) (typed env x)) (type_named env target.text)) c.args.e.now v c.get-in-Cast.result.now (typed_of r) same c.get-in-Cast.ensures told)
+    c.cast.ensures
 
 pub typed-returns-in-Group : goal.typed-returns-in-Group
 typed-returns-in-Group t c =
     let env = environment_of c.args.env in
-    let same : typed env c.args.e.now ≡ typed env c.in-Group.inner =
-    ap (typed env) c.in-Group.is ∙ typed_of_Group env c.in-Group.inner c.in-Group.field-1 in
+    let v = c.in-Group.inner in
+    let same : typed env c.args.e.now ≡ typed env v = ap (typed env) c.in-Group.is ∙ typed_of_Group env v c.in-Group.field-1 in
     IfOk-weaker c.typed-in-Group.result _ _
-    (λ r told. group_found env c.args.e.now c.in-Group.inner c.get-in-Group.result.now (typed_of r) same c.get-in-Group.ensures told)
+    (λ r told. at_part env (typed env) c.args.e.now v c.get-in-Group.result.now (typed_of r) same c.get-in-Group.ensures told)
     c.typed-in-Group.ensures
+
+pub alone-returns : goal.alone-returns
+alone-returns t c =
+    operand_found (environment_of c.args.env) (wanted_of c.args.wanted) c.args.answered c.args.operand.now (given_of c.with_place.result) (typed_of c.in_ok-t.t) (typed_of c.from_operand.result)
+    c.in_ok-t.ensures c.with_place.ensures c.from_operand.ensures
+
+pub cast-returns : goal.cast-returns
+cast-returns t c =
+    cast_found (environment_of c.args.env) c.args.target.now c.args.value.now (given_of c.with_place.result) (typed_of c.in_ok-t.t) (typed_of c.cast_to.result)
+    c.in_ok-t.ensures c.with_place.ensures c.cast_to.ensures
+
+pub called-returns : goal.called-returns
+called-returns t c =
+    let env = environment_of c.args.env in
+    let all = all_arguments env c.args.arguments.now in
+    let is_given : all_known (all_given_of c.deref.result.now) ≡ all_known all =
+    ap (λ gs. all_known (all_given_of gs)) c.deref.ensures ∙ c.in_ok-given.ensures in
+    IfOk-weaker c.named_call.result _ _
+    (λ r told. call_found env c.args.at c.args.name.now (all_given_of c.deref.result.now) all (typed_of r) is_given told)
+    c.named_call.ensures
+
+pub method-returns : goal.method-returns
+method-returns t c =
+    let env = environment_of c.args.env in
+    let all = all_arguments env c.args.arguments.now in
+    let is_given : all_known (all_given_of c.deref.result.now) ≡ all_known all =
+    ap (λ gs. all_known (all_given_of gs)) c.deref.ensures ∙ c.in_ok-given.ensures in
+    IfOk-weaker c.method_call.result _ _
+    (λ r told. method_found env c.args.at (typed_of c.args.left) c.args.name.now (all_given_of c.deref.result.now) all (typed_of r) is_given told)
+    c.method_call.ensures
 
 pub operands-loop-o-preserved : goal.operands-loop-o-preserved
 operands-loop-o-preserved t c =
@@ -106,37 +156,43 @@ operands-loop-o-preserved t c =
     operands_step env at c.args.others.now c.loop-o.o-index o left right (typed_of c.joined-left.result) _ c.loop-o-test.true
     (c.in_ok-right.ensures ∙ ap (λ (x : Operand). found_of (typed env x.value)) c.o-item.is)
     (c.joined-left.ensures
-    ∙ ap (λ g. found_of (joined env o.operator g (given_of c.given_at-in-loop-o.result))) (c.given_at.ensures ∙ ap (λ p. given_at p left) c.span_of.ensures)
-    ∙ ap (λ g. found_of (joined env o.operator (given_at at left) g)) (c.given_at-in-loop-o.ensures ∙ ap (λ p. given_at p right) c.span_of-in-loop-o.ensures)
+    ∙ ap (λ g. found_of (joined env o.operator g (given_of c.with_place-in-loop-o.result))) c.with_place.ensures
+    ∙ ap (λ g. found_of (joined env o.operator (given_at at left) g)) c.with_place-in-loop-o.ensures
     ∙ ap (λ (x : Operand). found_of (joined env x.operator (given_at at left) (given_at (span_of x.value) right))) c.o-item.is)
     c.loop-o.invariant
 
-pub suffixed-returns-in_ok-given-in-Method : goal.suffixed-returns-in_ok-given-in-Method
-suffixed-returns-in_ok-given-in-Method t c =
+pub suffixed-returns-in-Field : goal.suffixed-returns-in-Field
+suffixed-returns-in-Field t c =
+    c.field_of.ensures ∙ ap (λ s. found_of (suffix_typed (environment_of c.args.env) c.args.at (typed_of c.args.left) s)) (sym c.in-Field.is)
+
+pub suffixed-returns-in-Method : goal.suffixed-returns-in-Method
+suffixed-returns-in-Method t c =
     let env = environment_of c.args.env in
     let left = typed_of c.args.left in
-    let items = c.in-Method.arguments.items in
-    let same : suffix_typed env c.args.at left c.args.s.now ≡ method_call env c.args.at left c.in-Method.name (all_arguments env items) =
+    let same : suffix_typed env c.args.at left c.args.s.now ≡ method_call env c.args.at left c.in-Method.name (all_arguments env c.in-Method.arguments.items) =
     search (rules, the_lemmas, arguments_of_row env) in
-    let is_given : all_known (all_given_of c.deref-in-Method.result.now) ≡ all_known (all_arguments env items) =
-    ap (λ gs. all_known (all_given_of gs)) c.deref-in-Method.ensures ∙ c.in_ok-given-in-Method.ensures
-    ∙ ap (λ es. all_known (all_arguments env es)) c.deref.ensures in
-    IfOk-weaker c.method_call.result _ _
-    (λ r told. method_found env c.args.at left c.in-Method.name (all_given_of c.deref-in-Method.result.now) (all_arguments env items) (suffix_typed env c.args.at left c.args.s.now) (typed_of r) same is_given told)
-    c.method_call.ensures
+    IfOk-weaker c.method.result _ _
+    (λ r told. from_same (suffix_typed env c.args.at left c.args.s.now) (method_call env c.args.at left c.in-Method.name (all_arguments env c.in-Method.arguments.items)) (typed_of r) same
+    (told ∙ ap (λ es. found_of (method_call env c.args.at left c.in-Method.name (all_arguments env es))) c.deref.ensures))
+    c.method.ensures
 
-pub suffixed-returns-in_ok-t-in-Index : goal.suffixed-returns-in_ok-t-in-Index
-suffixed-returns-in_ok-t-in-Index t c =
+pub indexed-returns : goal.indexed-returns
+indexed-returns t c =
+    let env = environment_of c.args.env in
+    IfOk-weaker c.index_call.result _ _
+    (λ r told. index_found env c.args.at (typed_of c.args.left) c.args.key.now (given_of c.with_place.result) (typed_of c.in_ok-t.t) (typed_of r) c.in_ok-t.ensures c.with_place.ensures told)
+    c.index_call.ensures
+
+pub suffixed-returns-in-Index : goal.suffixed-returns-in-Index
+suffixed-returns-in-Index t c =
     let env = environment_of c.args.env in
     let left = typed_of c.args.left in
     let v = c.in-Index.key in
-    let k = typed_of c.in_ok-t-in-Index.t in
     let same : suffix_typed env c.args.at left c.args.s.now ≡ index_call env c.args.at left (given_at (span_of v) (typed env v)) =
     search (rules, the_lemmas) in
-    IfOk-weaker c.index_call.result _ _
-    (λ r told. index_found env c.args.at left v v (given_of c.given_at.result) k (suffix_typed env c.args.at left c.args.s.now) (typed_of r)
-    same refl c.in_ok-t-in-Index.ensures (c.given_at.ensures ∙ ap (λ p. given_at p k) c.span_of.ensures) told)
-    c.index_call.ensures
+    IfOk-weaker c.indexed.result _ _
+    (λ r told. from_same (suffix_typed env c.args.at left c.args.s.now) (index_call env c.args.at left (given_at (span_of v) (typed env v))) (typed_of r) same told)
+    c.indexed.ensures
 
 pub with_suffixes-loop-s-preserved : goal.with_suffixes-loop-s-preserved
 with_suffixes-loop-s-preserved t c =
@@ -144,3 +200,11 @@ with_suffixes-loop-s-preserved t c =
     suffixes_step env c.args.at c.args.suffixes.now c.loop-s.s-index c.s-item.result (typed_of c.loop-s.left) (typed_of c.in_ok-left.left) _ c.loop-s-test.true
     (c.in_ok-left.ensures ∙ ap (λ s. found_of (suffix_typed env c.args.at (typed_of c.loop-s.left) s)) c.s-item.is)
     c.loop-s.invariant
+
+pub all_given-loop-e-preserved : goal.all_given-loop-e-preserved
+all_given-loop-e-preserved t c =
+    arguments_step (environment_of c.args.env) c.args.arguments.now c.loop-e.e-index c.e-item.result _ _ c.with_place.result (typed_of c.in_ok-t.t) c.loop-e-test.true
+    c.in_ok-push.ensures.ok
+    (c.with_place.ensures ∙ ap (λ x. given_at (span_of x) (typed_of c.in_ok-t.t)) c.e-item.is)
+    (c.in_ok-t.ensures ∙ ap (λ x. found_of (typed (environment_of c.args.env) x)) c.e-item.is)
+    c.loop-e.invariant

@@ -1,5 +1,5 @@
 use Rattle.std.proofs.Common.{◌≡◌, arith, rules}
-use Rattle.gen_protocol.specs.Generated.{generated_name}
+use Rattle.call_meaning.specs.Generated.{generated_name}
 use Rattle.found_answers.proofs.Answering.{found_generated, is_gen}
 use Rattle.found_answers.proofs.find.find_generated.Goals as goal
 

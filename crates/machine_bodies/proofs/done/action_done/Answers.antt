@@ -2,8 +2,8 @@ use Rattle.std.proofs.Common.{Some, sym}
 use Rattle.std.proofs.lemmas.Result.{err_from_is_err_and}
 use Rattle.body_meaning.specs.Frames.{Ended}
 use Rattle.body_meaning.specs.Reading.{reading}
-use Rattle.scan_meaning.specs.Actions.{body_of_action}
-use Rattle.scan_meaning.specs.Transition.{about_left}
+use Rattle.body_meaning.specs.Actions.{body_of_action}
+use Rattle.body_meaning.specs.Transition.{about_left}
 use Rattle.machine_bodies.proofs.Ends.{body_ends, body_stops}
 use Rattle.machine_bodies.proofs.done.action_done.Goals as goal
 

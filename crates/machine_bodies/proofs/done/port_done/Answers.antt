@@ -2,7 +2,7 @@ use Rattle.std.proofs.Common.{None, refl, slice_get, sym}
 use Rattle.std.proofs.lemmas.Result.{err_from_is_err_and}
 use Rattle.body_meaning.specs.Frames.{Ended}
 use Rattle.body_meaning.specs.Reading.{reading}
-use Rattle.scan_meaning.specs.Scan.{port_block}
+use Rattle.body_meaning.specs.Scan.{port_block}
 use Rattle.machine_bodies.proofs.Ends.{body_ends, body_stops}
 use Rattle.machine_bodies.proofs.done.port_done.Goals as goal
 

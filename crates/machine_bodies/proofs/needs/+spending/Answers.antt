@@ -1,6 +1,6 @@
 use Rattle.std.proofs.Common.{rules, ◌≡◌, ◌∙◌, sym, ap, flat_map}
 use Rattle.slicc_ast.specs.declared.tree.statement.Stmt.TheViews.{the_lemmas}
-use Rattle.scan_meaning.specs.Actions.{block_checked, checked, names_table}
+use Rattle.body_meaning.specs.Actions.{block_checked, checked, names_table}
 use Rattle.machine_bodies.specs.Spending.{else_if_checked, spent}
 use Rattle.machine_bodies.proofs.Spends.{spent-if, stmt_rows}
 use Rattle.machine_bodies.proofs.needs.+spending.Goals as goal

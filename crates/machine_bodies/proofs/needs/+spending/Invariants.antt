@@ -1,6 +1,6 @@
 use Rattle.std.proofs.Common.{◌≡◌, take}
 use Rattle.std.specs.List.{flat_map}
-use Rattle.scan_meaning.specs.Actions.{checked, names_table}
+use Rattle.body_meaning.specs.Actions.{checked, names_table}
 use Rattle.machine_bodies.specs.Spending.{else_if_checked, spent}
 use Rattle.machine_bodies.proofs.needs.+spending.Given as goal
 

@@ -1,6 +1,6 @@
 use Rattle.std.proofs.Common.{◌∙◌, sym, ap, flat_map, is_none}
 use Rattle.body_meaning.specs.Reading.{reading}
-use Rattle.scan_meaning.specs.Actions.{block_checked, body_of_action, names_table}
+use Rattle.body_meaning.specs.Actions.{block_checked, body_of_action, names_table}
 use Rattle.machine_bodies.proofs.Spends.{none_left}
 use Rattle.machine_bodies.proofs.needs.need_more.Goals as goal
 

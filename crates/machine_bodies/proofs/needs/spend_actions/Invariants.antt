@@ -1,6 +1,6 @@
 use Rattle.std.proofs.Common.{◌≡◌, ℕ, take}
 use Rattle.std.specs.List.{flat_map}
-use Rattle.scan_meaning.specs.Actions.{block_checked, body_of_action, names_table}
+use Rattle.body_meaning.specs.Actions.{block_checked, body_of_action, names_table}
 use Rattle.body_meaning.specs.Reading.{reading}
 use Rattle.machine_bodies.specs.Spending.{spent}
 use Rattle.machine_bodies.proofs.needs.spend_actions.Given as goal

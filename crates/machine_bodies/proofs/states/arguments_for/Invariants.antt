@@ -1,5 +1,5 @@
 use Rattle.std.proofs.Common.{◌≡◌, map, take}
-use Rattle.scan_meaning.specs.Transition.{state_argument}
+use Rattle.body_meaning.specs.Transition.{state_argument}
 use Rattle.machine_bodies.proofs.states.arguments_for.Given as goal
 
 abbrev pub invariant-loop-argument : goal.invariant-loop-argument

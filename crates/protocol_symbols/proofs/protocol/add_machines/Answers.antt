@@ -1,6 +1,5 @@
-use Rattle.std.proofs.Common.{Bor, ◌++◌, ◌∷◌, [], ◌∙◌, ap, append_assoc, map, sym, take}
+use Rattle.std.proofs.Common.{◌++◌, ◌∷◌, [], ◌∙◌, ap, append_assoc, map, sym, take}
 use Rattle.std.proofs.lemmas.List.{take_all}
-use Rattle.slicc_ast.specs.declared.tree.machine.Machine.{Machine}
 use Rattle.slicc_plan.specs.SymbolsOf.{machines_from}
 use Rattle.type_numbers.specs.Numbered.{trees_of}
 use Rattle.slicc_plan.specs.SymbolsOfMachines.{machine_symbols}

@@ -1,4 +1,4 @@
-use Rattle.std.proofs.Common.{◌≡◌, ◌++◌, List, ap, ◌∙◌, []}
+use Rattle.std.proofs.Common.{◌++◌, ap, ◌∙◌}
 use Rattle.slicc_plan.specs.Declarations.{machines_of}
 use Rattle.slicc_plan.specs.SymbolsOf.{machines_from, symbols_of}
 use Rattle.slicc_plan.specs.SymbolsOfTypes.{enumeration_symbols, structure_symbols}
@@ -9,9 +9,8 @@ pub returns : goal.returns
 unfolding symbols_of
 returns c =
     let trees = trees_of c.args.types.now in
-    let made = c.in_ok-add_symbols.ensures in
     λ i. record {
-      enumerations = (made.enumerations ∙ ap (λ xs. xs ++ enumeration_symbols trees) c.new.ensures) i;
-      structures = (made.structures ∙ ap (λ xs. xs ++ structure_symbols trees) c.new-2.ensures) i;
-      machines = (made.machines ∙ ap (λ xs. xs ++ machines_from trees 0 (machines_of trees)) c.new-3.ensures) i;
+      enumerations = (c.in_ok-add_all_enumerations.ensures ∙ ap (λ xs. xs ++ enumeration_symbols trees) c.new.ensures) i;
+      structures = (c.in_ok-add_all_structures.ensures ∙ ap (λ xs. xs ++ structure_symbols trees) c.new-2.ensures) i;
+      machines = (c.in_ok-add_all_machines.ensures ∙ ap (λ xs. xs ++ machines_from trees 0 (machines_of trees)) c.new-3.ensures) i;
     }

@@ -1,10 +1,6 @@
-use Rattle.std.proofs.Common.{◌≡◌, false, nat_le, subst}
+use Rattle.std.proofs.Common.{◌≡◌, false, nat_le}
 use Rattle.std.proofs.lemmas.Bool.{lt-leb}
-use Rattle.acts.specs.DoesAs.{itself}
-use Rattle.ruby_symbols.specs.declared.machine.PortSymbol.{PortSymbol}
 use Rattle.body_meaning.specs.Reading.{reading}
-use Rattle.scan_meaning.specs.Scan.{ports_tried}
-use Rattle.scan_walk.specs.TriesAs.{TriesAs}
 use Rattle.scan_walk.proofs.Rounds.{round_is}
 use Rattle.scan_walk.proofs.ports.scan.Goals as goal
 

@@ -1,5 +1,5 @@
 use Rattle.std.proofs.Common.{sym}
-use Rattle.grammar_rows.specs.Grammar.Row.{done}
+use Rattle.slicc_grammar.specs.Grammar.Row.{done}
 use Rattle.slicc_ast.specs.declared.tree.token.Word.TheVariants.{Protocol}
 use Rattle.slicc_grammar.specs.Parts.{◌▸◌, semicolon, string, word}
 use Rattle.slicc_reading.proofs.Choices.{absent, present, fault_in_present}

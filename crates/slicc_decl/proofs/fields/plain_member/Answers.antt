@@ -1,5 +1,5 @@
 use Rattle.std.proofs.Common.{◌∷◌, [], sym}
-use Rattle.grammar_rows.specs.Grammar.Row.{done}
+use Rattle.slicc_grammar.specs.Grammar.Row.{done}
 use Rattle.slicc_grammar.specs.Form.Form.{formals}
 use Rattle.slicc_grammar.specs.Parts.{◌▸◌, of, optional, pairs, parentheses, plain_name, semicolon}
 use Rattle.slicc_grammar.specs.TokenKinds.{machine_type, other_name}

@@ -1,5 +1,5 @@
 use Rattle.std.proofs.Common.{◌∷◌, [], refl, sym}
-use Rattle.grammar_rows.specs.Grammar.Row.{done}
+use Rattle.slicc_grammar.specs.Grammar.Row.{done}
 use Rattle.slicc_grammar.specs.Form.Form.{machine_name}
 use Rattle.slicc_grammar.specs.Parts.{◌▸◌, colon, name, of}
 use Rattle.slicc_grammar.specs.TokenKinds.{functional_name, machine_type, other_name}

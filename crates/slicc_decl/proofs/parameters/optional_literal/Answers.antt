@@ -1,5 +1,5 @@
 use Rattle.std.proofs.Common.{sym}
-use Rattle.grammar_rows.specs.Grammar.Row.{done}
+use Rattle.slicc_grammar.specs.Grammar.Row.{done}
 use Rattle.slicc_grammar.specs.Form.Form.{literal}
 use Rattle.slicc_grammar.specs.Parts.{◌▸◌, assign, of}
 use Rattle.slicc_reading.proofs.Choices.{absent, present, fault_in_present}

@@ -1,5 +1,5 @@
 use Rattle.std.proofs.Common.{refl, sym}
-use Rattle.grammar_rows.specs.Grammar.Row.{done}
+use Rattle.slicc_grammar.specs.Grammar.Row.{done}
 use Rattle.slicc_grammar.specs.Form.Form.{formals}
 use Rattle.slicc_grammar.specs.Parts.{of}
 use Rattle.slicc_reading.specs.Reading.IsNode.{spelled}

@@ -1,5 +1,5 @@
 use Rattle.std.proofs.Common.{◌∷◌, [], refl, sym}
-use Rattle.grammar_rows.specs.Grammar.Row.{done}
+use Rattle.slicc_grammar.specs.Grammar.Row.{done}
 use Rattle.slicc_ast.specs.declared.tree.token.Sign.TheVariants.{Equals}
 use Rattle.slicc_grammar.specs.Form.Form.{transition_end}
 use Rattle.slicc_grammar.specs.Parts.{◌▸◌, names_of, optional, pairs, sign, value}

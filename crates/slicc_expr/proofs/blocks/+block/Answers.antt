@@ -1,5 +1,5 @@
 use Rattle.std.proofs.Common.{refl, sym, ◌<◌, length, arith, rules}
-use Rattle.grammar_rows.specs.Grammar.Row.{done}
+use Rattle.slicc_grammar.specs.Grammar.Row.{done}
 use Rattle.slicc_ast.specs.declared.tree.token.Sign.TheVariants.{CloseBrace}
 use Rattle.slicc_ast.specs.Names.{word as word_of}
 use Rattle.slicc_ast.specs.Statements.{block, stmt_list}

@@ -1,5 +1,5 @@
 use Rattle.std.proofs.Common.{◌-◌, refl, sym, arith, ◌∷◌, []}
-use Rattle.grammar_rows.specs.Grammar.Row.{done, form}
+use Rattle.slicc_grammar.specs.Grammar.Row.{done, form}
 use Rattle.slicc_ast.specs.Names.{sign}
 use Rattle.slicc_ast.specs.declared.tree.token.Sign.TheVariants.{CloseParenthesis, Dot, OpenBracket}
 use Rattle.slicc_grammar.specs.TokenKinds.{sign_kind}

@@ -1,5 +1,5 @@
 use Rattle.std.proofs.Common.{sym}
-use Rattle.grammar_rows.specs.Grammar.Row.{done}
+use Rattle.slicc_grammar.specs.Grammar.Row.{done}
 use Rattle.slicc_grammar.specs.Parts.{semicolon}
 use Rattle.slicc_reading.proofs.Parts.{◌then◌, as_node_behind, at_first, behind}
 use Rattle.slicc_reading.proofs.Choices.{absent, fault_in_present, present}

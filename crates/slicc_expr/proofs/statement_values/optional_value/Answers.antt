@@ -1,5 +1,5 @@
 use Rattle.std.proofs.Common.{sym}
-use Rattle.grammar_rows.specs.Grammar.Row.{done, form}
+use Rattle.slicc_grammar.specs.Grammar.Row.{done, form}
 use Rattle.slicc_grammar.specs.Form.{Form}
 use Rattle.slicc_reading.proofs.Parts.{as_part}
 use Rattle.slicc_reading.proofs.Choices.{absent, fault_in_present, present}

@@ -1,4 +1,4 @@
-use Rattle.grammar_rows.proofs.OneChoice.{one_choice_of_form}
+use Rattle.slicc_grammar.proofs.OneChoice.{one_choice_of_form}
 use Rattle.slicc_grammar.specs.Table.{table}
 use Rattle.slicc_grammar.proofs.Decided.{one_token_decides}
 use Rattle.slicc_grammar.proofs.Readers.{passed, failed}

@@ -7,7 +7,7 @@ use Rattle.slicc_names.proofs.collecting.collect.Goals as goal
 
 pub returns-in-Ok-Err : goal.returns-in-Ok-Err
 returns-in-Ok-Err c =
-    subst (λ (r : Refusal). IsAnswered (broken_declarations c.args.trees.now) (Some r)) (sym c.refusal.ensures)
+    subst (λ (r : Refusal). IsAnswered (broken_declarations c.args.trees.now) (Some r)) (sym c.refused.ensures)
     (breaks_one (subst (λ (x : Result (List (List (List ℕ))) Broken). AreNamesOrBroken c.args.trees.now x) c.in-Ok-Err.field-0-is c.in-Ok-Err.ensures))
 
 pub returns-in-Err : goal.returns-in-Err

@@ -1,6 +1,6 @@
 use Rattle.std.proofs.lemmas.Result.{IfErr-weaker, IfOk-weaker}
 use Rattle.std.proofs.Common.{◌∷◌, []}
-use Rattle.grammar_rows.specs.Grammar.Row.{nested}
+use Rattle.slicc_grammar.specs.Grammar.Row.{nested}
 use Rattle.slicc_ast.specs.declared.tree.token.Sign.TheVariants.{OpenParenthesis}
 use Rattle.slicc_grammar.specs.TokenKinds.{sign_kind}
 use Rattle.slicc_reading.proofs.Parts.{at_first, behind}

@@ -6,7 +6,7 @@ use Rattle.slicc_types.proofs.resolving.accept.Goals as goal
 
 pub returns-in-Ok-Err : goal.returns-in-Ok-Err
 returns-in-Ok-Err c =
-    subst (λ (r : Refusal). IsPlanOf c.args.trees.now (Err r)) (sym c.refusal.ensures)
+    subst (λ (r : Refusal). IsPlanOf c.args.trees.now (Err r)) (sym c.refused.ensures)
     (breaks_one (subst (IsResolved c.args.trees.now) c.in-Ok-Err.field-0-is c.in-Ok-Err.ensures))
 
 pub returns-in-Ok-Ok : goal.returns-in-Ok-Ok

@@ -1,20 +1,21 @@
 use denote.Param.Weighed.{at_most, most}
-use Rattle.std.proofs.Common.{rules, ◌≡◌, ◌≤◌, ◌++◌, ◌∙◌, ap, sym, subst, flat_map, drop, take, codes, ◌+◌}
+use Rattle.std.proofs.Common.{rules, IfOk, refl, ◌≡◌, ◌≤◌, ◌++◌, ◌∙◌, ap, sym, subst, flat_map, drop, take, codes, ◌+◌}
 use Rattle.slicc_ast.specs.declared.tree.statement.If.{out-If}
 use Rattle.slicc_ast.proofs.tree.statement.Stmt.TheLaws.{the_size}
 use Rattle.slicc_ast.specs.declared.tree.statement.Stmt.TheViews.{the_lemmas}
 use Rattle.slicc_plan.specs.declared.built_in.BuiltInType.TheVariants.{Bool as Boolean}
 use Rattle.slicc_plan.specs.Environment.{Environment, binding, fixed, meaning_named}
-use Rattle.slicc_plan.specs.ExpressionTypes.{broken_where}
-use Rattle.slicc_plan.specs.JudgedStatements.{after, enqueued, if_judged, in_enqueue, in_peek, in_type, judged, out_type, peeked, statements_judged}
-use Rattle.slicc_plan.specs.Meanings.{incoming_of_type, of_built_in, outgoing_of_type}
+use Rattle.slicc_plan.specs.ExpressionTypes.{broken_where, span_of, typed}
+use Rattle.slicc_plan.specs.JudgedStatements.{after, assigned, checked, declared, enqueued, if_judged, in_enqueue, in_peek, in_type, judged, out_type, peeked, returned, stalled, statements_judged}
+use Rattle.slicc_plan.specs.Meanings.{any_value, incoming_of_type, of_built_in, outgoing_of_type}
 use Rattle.slicc_plan.specs.Order.{earlier_of_both, first_of}
 use Rattle.slicc_plan.proofs.Firsts.{first_of-append}
 use Rattle.body_types.specs.Environments.{environment_of}
+use Rattle.body_types.specs.Views.{meaning_of}
 use Rattle.statement_rules.specs.Bindings.{IsGrown, at}
 use Rattle.statement_rules.specs.Elses.{else_if_judged}
-use Rattle.statement_rules.proofs.Rows.{if_none, if_some, judged_row}
-use Rattle.statement_rules.proofs.Steps.{grown_more, others_item, statements_item}
+use Rattle.statement_rules.proofs.Rows.{if_none, if_some, judged_enqueue, judged_peek, told_form}
+use Rattle.statement_rules.proofs.Steps.{block_names, grown_more, others_item, statements_item}
 use Rattle.statement_rules.proofs.judging.+statements.Goals as goal
 
 pub if_judged-arm_judged-requires : goal.if_judged-arm_judged-requires
@@ -50,8 +51,7 @@ judged-returns-in_ok-then-in-Peek-clause-first t c =
     let env : Environment = at c.args.env c.args.bound.now.items in
     let head = peeked env c.in-Peek.span c.in-Peek.port c.in-Peek.message in
     let held = statements_judged (in_peek env c.in-Peek.port) c.in-Peek.body.statements in
-    let row = judged_row (in_peek env c.in-Peek.port) in
-    let same : judged env c.args.s.now ≡ head ++ held = search (rules, the_lemmas, row) in
+    let same : judged env c.args.s.now ≡ head ++ held = ap (judged env) c.in-Peek.is ∙ judged_peek env c.in-Peek.port c.in-Peek.message c.in-Peek.pairs c.in-Peek.body c.in-Peek.span in
     let here = c.with_names-here.ensures.is ∙ ap (λ xs. at c.args.env xs) c.as_slice.ensures.value in
     c.earlier_of_two.ensures
     ∙ ap (λ o. earlier_of_both o c.in_ok-then-in-Peek.then) (c.peeked-own.ensures ∙ ap (λ e. first_of (peeked e c.in-Peek.span c.in-Peek.port c.in-Peek.message)) here)
@@ -64,8 +64,7 @@ judged-returns-in_ok-then-in-Enqueue-clause-first t c =
     let env : Environment = at c.args.env c.args.bound.now.items in
     let head = enqueued env c.in-Enqueue.span c.in-Enqueue.port c.in-Enqueue.message c.in-Enqueue.latency in
     let held = statements_judged (in_enqueue env c.in-Enqueue.port) c.in-Enqueue.body.statements in
-    let row = judged_row (in_enqueue env c.in-Enqueue.port) in
-    let same : judged env c.args.s.now ≡ head ++ held = search (rules, the_lemmas, row) in
+    let same : judged env c.args.s.now ≡ head ++ held = ap (judged env) c.in-Enqueue.is ∙ judged_enqueue env c.in-Enqueue.port c.in-Enqueue.message c.in-Enqueue.latency c.in-Enqueue.body c.in-Enqueue.span in
     let here = c.with_names-here.ensures.is ∙ ap (λ xs. at c.args.env xs) c.as_slice.ensures.value in
     c.earlier_of_two-in-Enqueue.ensures
     ∙ ap (λ o. earlier_of_both o c.in_ok-then-in-Enqueue.then) (c.in_ok-own-in-Enqueue.ensures
@@ -106,3 +105,63 @@ statements_judged-loop-s-preserved t c =
           c.loop-s.invariant.found;
       grown = grown_more c.args.bound.now.items c.loop-s.bound.items c.bind_local.new.bound.items c.loop-s.invariant.grown grown;
     }
+
+pub judged-returns-in-Declare-clause-first : goal.judged-returns-in-Declare-clause-first
+judged-returns-in-Declare-clause-first t c =
+    let env : Environment = at c.args.env c.args.bound.now.items in
+    let here : environment_of c.with_names-here.result ≡ env = c.with_names-here.ensures.is ∙ ap (λ xs. at c.args.env xs) c.as_slice.ensures.value in
+    let w = c.in-Declare in
+    told_form (λ e. declared e w.kind w.value) env (environment_of c.with_names-here.result) c.args.s.now _ c.declared.result c.declared.ensures here w.is refl
+
+pub judged-returns-in-Assign-clause-first : goal.judged-returns-in-Assign-clause-first
+judged-returns-in-Assign-clause-first t c =
+    let env : Environment = at c.args.env c.args.bound.now.items in
+    let here : environment_of c.with_names-here.result ≡ env = c.with_names-here.ensures.is ∙ ap (λ xs. at c.args.env xs) c.as_slice.ensures.value in
+    let w = c.in-Assign in
+    told_form (λ e. assigned e (span_of w.place) (typed e w.place) w.value) env (environment_of c.with_names-here.result) c.args.s.now _ c.assigned.result c.assigned.ensures here w.is refl
+
+pub judged-returns-in-Evaluate-clause-first : goal.judged-returns-in-Evaluate-clause-first
+judged-returns-in-Evaluate-clause-first t c =
+    let env : Environment = at c.args.env c.args.bound.now.items in
+    let here : environment_of c.with_names-here.result ≡ env = c.with_names-here.ensures.is ∙ ap (λ xs. at c.args.env xs) c.as_slice.ensures.value in
+    let w = c.in-Evaluate in
+    told_form (λ e. broken_where e any_value w.value) env (environment_of c.with_names-here.result) c.args.s.now _ c.evaluated.result c.evaluated.ensures here w.is refl
+
+pub judged-returns-in-Return-clause-first : goal.judged-returns-in-Return-clause-first
+judged-returns-in-Return-clause-first t c =
+    let env : Environment = at c.args.env c.args.bound.now.items in
+    let here : environment_of c.with_names-here.result ≡ env = c.with_names-here.ensures.is ∙ ap (λ xs. at c.args.env xs) c.as_slice.ensures.value in
+    let w = c.in-Return in
+    told_form (λ e. returned e w.value) env (environment_of c.with_names-here.result) c.args.s.now _ c.returned.result (subst (λ v. IfOk c.returned.result (λ first. first ≡ first_of (returned (environment_of c.with_names-here.result) v))) c.as_ref.ensures.value c.returned.ensures) here w.is refl
+
+pub judged-returns-in-StallAndWait-clause-first : goal.judged-returns-in-StallAndWait-clause-first
+judged-returns-in-StallAndWait-clause-first t c =
+    let env : Environment = at c.args.env c.args.bound.now.items in
+    let here : environment_of c.with_names-here.result ≡ env = c.with_names-here.ensures.is ∙ ap (λ xs. at c.args.env xs) c.as_slice.ensures.value in
+    let w = c.in-StallAndWait in
+    told_form (λ e. stalled e w.span w.port w.address) env (environment_of c.with_names-here.result) c.args.s.now _ c.stalled.result c.stalled.ensures here w.is refl
+
+pub judged-returns-in-Assert-clause-first : goal.judged-returns-in-Assert-clause-first
+judged-returns-in-Assert-clause-first t c =
+    let env : Environment = at c.args.env c.args.bound.now.items in
+    let here : environment_of c.with_names-here.result ≡ env = c.with_names-here.ensures.is ∙ ap (λ xs. at c.args.env xs) c.as_slice.ensures.value in
+    let w = c.in-Assert in
+    told_form (λ e. broken_where e (of_built_in Boolean) w.condition) env (environment_of c.with_names-here.result) c.args.s.now _ c.broken_value.result c.broken_value.ensures here w.is refl
+
+pub judged-returns-in-If-clause-first : goal.judged-returns-in-If-clause-first
+judged-returns-in-If-clause-first t c =
+    let env : Environment = at c.args.env c.args.bound.now.items in
+    told_form (λ e. if_judged e c.in-If.i) env env c.args.s.now _ c.if_judged.result c.if_judged.ensures.first refl c.in-If.is refl
+
+pub judged-returns-in-CheckAllocate-clause-first : goal.judged-returns-in-CheckAllocate-clause-first
+judged-returns-in-CheckAllocate-clause-first t c =
+    let env : Environment = at c.args.env c.args.bound.now.items in
+    let here = c.with_names-here.ensures.is ∙ ap (λ xs. at c.args.env xs) c.as_slice.ensures.value in
+    let w = c.in-CheckAllocate in
+    c.checked.ensures ∙ ap (λ e. first_of (checked e w.span w.name)) here ∙ ap (λ s. first_of (judged env s)) (sym w.is)
+
+pub block_judged-returns-clause-first : goal.block_judged-returns-clause-first
+block_judged-returns-clause-first t c =
+    let names = c.args.bound.now.items in
+    c.in_ok-first.ensures.first ∙ ap (λ e. first_of (statements_judged e c.deref.result.now)) (block_names c.args.env names c.push.new.self.items _ c.in_ok-push.ensures.items)
+    ∙ ap (λ ss. first_of (statements_judged (binding (at c.args.env names) (fixed c.args.name.now (meaning_of c.args.meaning))) ss)) c.deref.ensures

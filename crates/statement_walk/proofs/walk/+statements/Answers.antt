@@ -1,4 +1,4 @@
-use Rattle.std.proofs.Common.{◌≡◌, ◌<◌, ◌≤◌, ◌∙◌, ℕ, List, get_or, length, Option, Ok, refl, sym, ap, subst}
+use Rattle.std.proofs.Common.{codes, Err, ◌≡◌, ◌<◌, ◌≤◌, ◌∙◌, ℕ, List, get_or, length, Option, Ok, refl, sym, ap, subst}
 use Rattle.std.proofs.lemmas.Result.{err_from_is_err_and}
 use Rattle.slicc_ast.specs.declared.tree.statement.Block.{Block}
 use Rattle.slicc_ast.specs.declared.tree.statement.ElseIf.{ElseIf}
@@ -9,18 +9,20 @@ use Rattle.acts.specs.declared.body_fault.BodyFault.TheVariants as own
 use Rattle.acts.specs.Act as act
 use Rattle.acts.specs.Acting.{Acting, ◌>>=◌, act as done, found}
 use Rattle.acts.specs.DoesAs.{DoesAs, itself}
-use Rattle.acts.proofs.Walk.{does_ends_as, then_does}
+use Rattle.acts.proofs.Walk.{does_ends_as, does_without_memory, then_does, then_stops}
 use Rattle.body_meaning.specs.declared.frame.Flow.{Flow}
 use Rattle.body_meaning.specs.declared.frame.Flow.TheVariants.{WentOn, Returned, Triggered}
 use Rattle.body_meaning.specs.declared.frame.Frame.{Frame}
+use Rattle.body_meaning.specs.declared.thing.Thing.TheVariants as thing
 use Rattle.body_meaning.specs.Bodies.{calls_within}
 use Rattle.body_meaning.specs.Calls.{Calls}
-use Rattle.body_meaning.specs.Frames.{Ended, ended}
+use Rattle.body_meaning.specs.Frames.{Ended, bind, ended, leave}
 use Rattle.body_meaning.specs.Names.{message_of, port_named}
 use Rattle.body_meaning.specs.Reading.{Reading, reading}
-use Rattle.body_meaning.specs.Statements.{all_done, block_in, enqueued, exec, peeked}
+use Rattle.body_meaning.specs.Statements.{all_done, block_in, enqueued, exec, peeked, sent}
 use Rattle.statement_walk.specs.Parts.{otherwise_of, viewed}
-use Rattle.statement_walk.proofs.Rows.{Doing, exec_of_Enqueue, exec_of_Peek}
+use Rattle.statement_walk.proofs.Blocks.{scoped_ends, scoped_stops}
+use Rattle.statement_walk.proofs.Rows.{Doing, exec_of_Enqueue, exec_of_Peek, nothing_done}
 use Rattle.statement_walk.proofs.Steps.{all_ends, all_goes_on, all_returned, all_stops, all_triggered, arm_chosen, arm_passed, arm_stops, arms_end, if_first, if_second, if_stops}
 use Rattle.statement_walk.proofs.walk.+statements.Goals as goal
 
@@ -216,3 +218,138 @@ peeked-returns g t c =
     c.in_ok-number.number c.viewed.result v v w c.in_ok-number.ensures
     (then_does itself (ended f) (done (act.Front c.in_ok-buffer.buffer)) (λ (message : Message). viewed block c.in_ok-number.number message.fields frame)
     c.in_ok-message.message c.viewed.result v v w c.in_ok-message.ensures c.viewed.ensures))
+
+pub peeked-returns-in_err-buffer : goal.peeked-returns-in_err-buffer
+unfolding peeked
+peeked-returns-in_err-buffer g t c =
+    let p = err_from_is_err_and c.from_residual.result c.from_residual.ensures.1 in rw (p.1, p.2) (then_stops _ _ _ _ _ _ _ _ c.in_err-buffer.ensures)
+
+pub peeked-returns-in_err-number : goal.peeked-returns-in_err-number
+unfolding peeked
+peeked-returns-in_err-number g t c =
+    let p = err_from_is_err_and c.from_residual-in_err-number.result c.from_residual-in_err-number.ensures.1 in
+    rw (p.1, p.2) (then_does _ _ _ _ _ _ _ _ _ c.in_ok-buffer.ensures (then_stops _ _ _ _ _ _ _ _ c.in_err-number.ensures))
+
+pub peeked-returns-in_err-message : goal.peeked-returns-in_err-message
+unfolding peeked
+peeked-returns-in_err-message g t c =
+    let p = err_from_is_err_and c.from_residual-in_err-message.result c.from_residual-in_err-message.ensures.1 in
+    rw (p.1, p.2) (then_does _ _ _ _ _ _ _ _ _ c.in_ok-buffer.ensures (then_does _ _ _ _ _ _ _ _ _ c.in_ok-number.ensures (then_stops _ _ _ _ _ _ _ _ c.in_err-message.ensures)))
+
+pub viewed-returns-in_err-bind : goal.viewed-returns-in_err-bind
+viewed-returns-in_err-bind g t c =
+    let p = err_from_is_err_and c.from_residual.result c.from_residual.ensures.1 in rw (p.1, p.2) (does_without_memory _ _ _ _)
+
+pub viewed-returns-in_err-flow : goal.viewed-returns-in_err-flow
+viewed-returns-in_err-flow g t c =
+    let p = err_from_is_err_and c.from_residual-in_err-flow.result c.from_residual-in_err-flow.ensures.1 in
+    let message = thing.Message c.args.structure c.args.fields in
+    rw (p.1, p.2)
+    (scoped_stops (all_done (reading c.args.s) (calls_within (reading c.args.s) c.args.depth) c.args.statements.now) (length c.args.frame.now.names) (bind (codes "in_msg") message c.args.frame.now) c.bind.new.frame c.all_done.new.frame c.all_done.new.frame
+    (c.in_ok-bind.ensures ∙ ap (λ (text : List ℕ). bind text message c.args.frame.now) c.as_slice.ensures) _ _ _ _ c.in_err-flow.ensures)
+
+pub viewed-returns : goal.viewed-returns
+viewed-returns g t c =
+    let message = thing.Message c.args.structure c.args.fields in
+    scoped_ends (all_done (reading c.args.s) (calls_within (reading c.args.s) c.args.depth) c.args.statements.now) (length c.args.frame.now.names) (bind (codes "in_msg") message c.args.frame.now) c.bind.new.frame c.all_done.new.frame c.leave.new.frame
+    (c.in_ok-bind.ensures ∙ ap (λ (text : List ℕ). bind text message c.args.frame.now) c.as_slice.ensures) _ _ c.in_ok-flow.flow
+    (c.leave.ensures ∙ ap (λ (n : ℕ). leave n c.all_done.new.frame) c.len-n.ensures) c.in_ok-flow.ensures
+
+pub block_in-returns-in_err-flow : goal.block_in-returns-in_err-flow
+block_in-returns-in_err-flow g t c =
+    let p = err_from_is_err_and c.from_residual.result c.from_residual.ensures.1 in
+    rw (p.1, p.2)
+    (scoped_stops (all_done (reading c.args.s) (calls_within (reading c.args.s) c.args.depth) c.args.statements.now) (length c.args.frame.now.names) c.args.frame.now c.args.frame.now c.all_done.new.frame c.all_done.new.frame refl _ _ _ _ c.in_err-flow.ensures)
+
+pub block_in-returns : goal.block_in-returns
+block_in-returns g t c =
+    scoped_ends (all_done (reading c.args.s) (calls_within (reading c.args.s) c.args.depth) c.args.statements.now) (length c.args.frame.now.names) c.args.frame.now c.args.frame.now c.all_done.new.frame c.leave.new.frame refl _ _ c.in_ok-flow.flow
+    (c.leave.ensures ∙ ap (λ (n : ℕ). leave n c.all_done.new.frame) c.len-n.ensures) c.in_ok-flow.ensures
+
+pub made_and_sent-returns-in_err-bind : goal.made_and_sent-returns-in_err-bind
+made_and_sent-returns-in_err-bind g t c =
+    let p = err_from_is_err_and c.from_residual.result c.from_residual.ensures.1 in rw (p.1, p.2) (does_without_memory _ _ _ _)
+
+pub made_and_sent-returns-in_err-flow : goal.made_and_sent-returns-in_err-flow
+made_and_sent-returns-in_err-flow g t c =
+    let v = g.T.Local.view c.args.local.now in
+    let u = g.T.Local.view c.all_done.new.local in
+    let p = err_from_is_err_and c.from_residual-in_err-flow.result c.from_residual-in_err-flow.ensures.1 in
+    let s : Reading = reading c.args.s in
+    let calls : Calls = calls_within s c.args.depth in
+    let block : Doing = all_done s calls c.args.statements.now in
+    let f = c.all_done.new.frame in
+    let bound : c.bind.new.frame ≡ bind (codes "out_msg") c.args.t c.args.frame.now = c.in_ok-bind.ensures ∙ ap (λ (text : List ℕ). bind text c.args.t c.args.frame.now) c.as_slice.ensures in
+    rw (p.1, p.2)
+    (then_stops (ended f) (ended f) (block (bind (codes "out_msg") c.args.t c.args.frame.now)) (λ (e : Ended). sent s calls c.args.buffer c.args.written.now (length c.args.frame.now.names) e.flow e.frame) c.in_err-flow.field-0.0 v u u
+    (subst (λ (x : Frame). DoesAs (ended f) (block x) (Err c.in_err-flow.field-0.0) v u) bound c.in_err-flow.ensures))
+
+pub made_and_sent-returns : goal.made_and_sent-returns
+made_and_sent-returns g t c =
+    let s : Reading = reading c.args.s in
+    let calls : Calls = calls_within s c.args.depth in
+    let block : Doing = all_done s calls c.args.statements.now in
+    let f = c.all_done.new.frame in
+    let h = c.sent.new.frame in
+    let v = g.T.Local.view c.args.local.now in
+    let u = g.T.Local.view c.all_done.new.local in
+    let w = g.T.Local.view c.sent.new.local in
+    let bound : c.bind.new.frame ≡ bind (codes "out_msg") c.args.t c.args.frame.now = c.in_ok-bind.ensures ∙ ap (λ (text : List ℕ). bind text c.args.t c.args.frame.now) c.as_slice.ensures in
+    then_does (ended f) (ended h) (block (bind (codes "out_msg") c.args.t c.args.frame.now)) (λ (e : Ended). sent s calls c.args.buffer c.args.written.now (length c.args.frame.now.names) e.flow e.frame) c.in_ok-flow.flow c.sent.result v u w
+    (subst (λ (x : Frame). DoesAs (ended f) (block x) (Ok c.in_ok-flow.flow) v u) bound c.in_ok-flow.ensures)
+    (subst (λ (n : ℕ). DoesAs (ended h) (sent s calls c.args.buffer c.args.written.now n c.in_ok-flow.flow f) c.sent.result u w) c.len-n.ensures c.sent.ensures)
+
+pub enqueued-returns-in_err-buffer : goal.enqueued-returns-in_err-buffer
+unfolding enqueued
+enqueued-returns-in_err-buffer g t c =
+    let p = err_from_is_err_and c.from_residual.result c.from_residual.ensures.1 in rw (p.1, p.2) (then_stops _ _ _ _ _ _ _ _ c.in_err-buffer.ensures)
+
+pub enqueued-returns-in_err-number : goal.enqueued-returns-in_err-number
+unfolding enqueued
+enqueued-returns-in_err-number g t c =
+    let p = err_from_is_err_and c.from_residual-in_err-number.result c.from_residual-in_err-number.ensures.1 in
+    rw (p.1, p.2) (then_does _ _ _ _ _ _ _ _ _ c.in_ok-buffer.ensures (then_stops _ _ _ _ _ _ _ _ c.in_err-number.ensures))
+
+pub enqueued-returns-in_err-t : goal.enqueued-returns-in_err-t
+unfolding enqueued
+enqueued-returns-in_err-t g t c =
+    let p = err_from_is_err_and c.from_residual-in_err-t.result c.from_residual-in_err-t.ensures.1 in
+    rw (p.1, p.2) (then_does _ _ _ _ _ _ _ _ _ c.in_ok-buffer.ensures (then_does _ _ _ _ _ _ _ _ _ c.in_ok-number.ensures (then_stops _ _ _ _ _ _ _ _ c.in_err-t.ensures)))
+
+pub enqueued-returns : goal.enqueued-returns
+unfolding enqueued
+enqueued-returns g t c =
+    then_does _ _ _ _ _ _ _ _ _ c.in_ok-buffer.ensures (then_does _ _ _ _ _ _ _ _ _ c.in_ok-number.ensures (then_does _ _ _ _ _ _ _ _ _ c.in_ok-t.ensures c.made_and_sent.ensures))
+
+-- Statements without a block, and an `if`.
+
+pub exec-returns-in-Declare : goal.exec-returns-in-Declare
+exec-returns-in-Declare g t c = rw c.in-Declare.is c.declared.ensures
+
+pub exec-returns-in-Assign : goal.exec-returns-in-Assign
+exec-returns-in-Assign g t c = rw c.in-Assign.is c.assigned.ensures
+
+pub exec-returns-in-Evaluate : goal.exec-returns-in-Evaluate
+exec-returns-in-Evaluate g t c = rw c.in-Evaluate.is c.evaluated.ensures
+
+pub exec-returns-in-Return : goal.exec-returns-in-Return
+exec-returns-in-Return g t c = rw c.in-Return.is c.returned.ensures
+
+pub exec-returns-in-If : goal.exec-returns-in-If
+exec-returns-in-If g t c = rw c.in-If.is c.if_done.ensures
+
+pub exec-returns-in-StallAndWait : goal.exec-returns-in-StallAndWait
+exec-returns-in-StallAndWait g t c = rw c.in-StallAndWait.is c.stalled.ensures
+
+pub exec-returns-in-Error : goal.exec-returns-in-Error
+exec-returns-in-Error g t c = rw c.in-Error.is c.failed.ensures
+
+pub exec-returns-in-Assert : goal.exec-returns-in-Assert
+exec-returns-in-Assert g t c = rw c.in-Assert.is c.asserted.ensures
+
+pub exec-returns-in-CheckAllocate : goal.exec-returns-in-CheckAllocate
+exec-returns-in-CheckAllocate g t c =
+    let frame = c.args.frame.now in
+    let v = g.T.Local.view c.args.local.now in
+    subst (λ (p : Acting Ended). DoesAs (ended frame) p (Ok WentOn) v v) (sym (nothing_done (reading c.args.s) (calls_within (reading c.args.s) c.args.depth) c.args.statement.now frame c.in-CheckAllocate.is))
+    (does_ends_as (ended frame) (ended frame WentOn) WentOn v refl)

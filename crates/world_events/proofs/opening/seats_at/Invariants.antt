@@ -2,7 +2,7 @@ use Rattle.std.proofs.Common.{◌≡◌, map, take}
 use Rattle.slicc_plan.specs.SymbolsOf.{symbols_of}
 use Rattle.topology_fit.specs.Seats.{seat_setup}
 use Rattle.topology_fit.specs.Setups.{ranges_of}
-use Rattle.world_seats.specs.Seated.{setups_in}
+use Rattle.world_turns.specs.Seated.{setups_in}
 use Rattle.world_events.proofs.opening.seats_at.Given as goal
 
 abbrev pub invariant-loop-seat : goal.invariant-loop-seat

@@ -8,7 +8,7 @@ use Rattle.ruby_runs.specs.World as runs
 use Rattle.sequencer.specs.Drive.{Drive, after_drive}
 use Rattle.world_places.specs.Arrivals.{delivered}
 use Rattle.world_places.specs.Places.{places_with}
-use Rattle.world_seats.specs.Seated.{seated, setups_in}
+use Rattle.world_turns.specs.Seated.{seated, setups_in}
 use Rattle.world_turns.specs.Turned.{numbers_of, requests_in}
 use Rattle.world_turns.proofs.Asking.{few-messages}
 use Rattle.world_turns.proofs.Driven.{room-fewer}

@@ -6,8 +6,8 @@ use Rattle.protocol_runs.specs.Turn.{seats_in}
 use Rattle.sequencer.specs.OwnedSeats.{seats_of}
 use Rattle.sequencer.specs.Seats.{AreApart, Seat, Seating}
 use Rattle.world_places.specs.Places.{Made, places_with}
-use Rattle.world_seats.specs.declared.seat.SeatAt.{SeatAt}
-use Rattle.world_seats.specs.Seated.{IsHomeIn, controllers_in, seated, setups_in}
+use Rattle.world_turns.specs.declared.seat.SeatAt.{SeatAt}
+use Rattle.world_turns.specs.Seated.{IsHomeIn, controllers_in, seated, setups_in}
 use Rattle.world_turns.proofs.Driven.{owned-count, put-back, seat-count}
 use Rattle.world_turns.proofs.ready.prepare.Goals as goal
 

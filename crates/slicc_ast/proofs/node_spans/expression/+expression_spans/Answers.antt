@@ -1,19 +1,17 @@
-use Rattle.std.proofs.Common.{rules, ◌≡◌, ◌++◌, ◌∷◌, [], sym, subst, ap, ◌∙◌, append_assoc}
+use Rattle.std.proofs.Common.{◌≡◌, ◌++◌, ◌∷◌, [], inl, inr, sym, subst, ap, ◌∙◌}
 use Rattle.std.specs.List.{flat_map}
 use Rattle.std.proofs.lemmas.Result.{on_ok_weaker}
-use Rattle.slicc_ast.specs.declared.tree.expression.Expr.TheViews.{the_lemmas}
-use Rattle.slicc_ast.proofs.SpansOfLists.{args_spans, args_row_spans, added_two, added_all, added_behind, added_both}
-use Rattle.slicc_ast.proofs.SpansOfBoxes.{spans_of_Operation, spans_of_Postfix, spans_of_boxes}
+use Rattle.slicc_ast.proofs.SpansOfLists.{args_spans, added_all, added_after, added_alone, added_behind, added_both}
+use Rattle.slicc_ast.proofs.SpansOfBoxes.{spans_of_Operation, spans_of_Postfix, spans_of_Not, spans_of_Negate, spans_of_IsValid, spans_of_IsInvalid, spans_of_Group, spans_of_Cast, spans_of_Call, spans_of_Method}
 use Rattle.slicc_ast.specs.Outline.{spans_of}
-use Rattle.slicc_ast.specs.Expressions.{expr, suffix, args}
+use Rattle.slicc_ast.specs.Expressions.{expr, suffix}
 use Rattle.slicc_ast.specs.Spans.{operand_spans, suffix_spans}
 use Rattle.slicc_ast.proofs.node_spans.expression.+expression_spans.Goals as goal
 
-pub add_expr-returns-in_ok-push-in-Call-2 : goal.add_expr-returns-in_ok-push-in-Call-2
-add_expr-returns-in_ok-push-in-Call-2 t c =
-    let same : spans_of (expr c.args.e.now) ≡ c.in-Call.span ∷ c.in-Call.name.span ∷ spans_of (args c.in-Call.arguments) = search (rules, the_lemmas, args_row_spans) in
+pub add_expr-returns-in_ok-append-in-Call : goal.add_expr-returns-in_ok-append-in-Call
+add_expr-returns-in_ok-append-in-Call t c =
     on_ok_weaker c.add_args.result
-    (λ after. added_two c.args.spans.now c.in-Call.span c.in-Call.name.span _ _ _ _ _ c.in_ok-push-in-Call.ensures.ok c.in_ok-push-in-Call-2.ensures.ok after same)
+    (added_after c.args.spans.now _ _ _ _ _ c.in_ok-append-in-Call.ensures.ok (ap (λ e. spans_of (expr e)) c.in-Call.is ∙ spans_of_Call c.in-Call.name c.in-Call.arguments c.in-Call.span))
     c.add_args.ensures
 
 pub add_args-returns : goal.add_args-returns
@@ -39,15 +37,36 @@ add_expr-returns-in_ok-add_expr-in-Postfix t c =
     (added_both c.args.spans.now (c.in-Postfix.span ∷ []) _ _ _ c.in_ok-push-in-Postfix.ensures.ok c.in_ok-add_expr-in-Postfix.ensures) c.deref-in-Postfix.ensures after moved)
     c.add_suffixes.ensures
 
-pub add_suffix-returns-in_ok-push-in-Method-2 : goal.add_suffix-returns-in_ok-push-in-Method-2
-add_suffix-returns-in_ok-push-in-Method-2 t c =
-    let same : spans_of (suffix c.args.s.now) ≡ c.in-Method.span ∷ c.in-Method.name.span ∷ spans_of (args c.in-Method.arguments) = search (rules, the_lemmas, args_row_spans) in
+pub add_suffix-returns-in_ok-append-in-Method : goal.add_suffix-returns-in_ok-append-in-Method
+add_suffix-returns-in_ok-append-in-Method t c =
     on_ok_weaker c.add_args.result
-    (λ after. added_two c.args.spans.now c.in-Method.span c.in-Method.name.span _ _ _ _ _ c.in_ok-push-in-Method.ensures.ok c.in_ok-push-in-Method-2.ensures.ok after same)
+    (added_after c.args.spans.now _ _ _ _ _ c.in_ok-append-in-Method.ensures.ok (ap (λ s. spans_of (suffix s)) c.in-Method.is ∙ spans_of_Method c.in-Method.name c.in-Method.arguments c.in-Method.span))
     c.add_args.ensures
 
-pub add_expr-returns-in_ok-push-in-Cast-2 : goal.add_expr-returns-in_ok-push-in-Cast-2
-add_expr-returns-in_ok-push-in-Cast-2 t c = search (rules, the_lemmas, spans_of_boxes, append_assoc)
+pub add_expr-returns-in_ok-append-in-Cast : goal.add_expr-returns-in_ok-append-in-Cast
+add_expr-returns-in_ok-append-in-Cast t c =
+    on_ok_weaker c.add_expr-in-Cast.result
+    (added_after c.args.spans.now _ _ _ _ _ c.in_ok-append-in-Cast.ensures.ok
+    (ap (λ e. spans_of (expr e)) c.in-Cast.is ∙ spans_of_Cast c.in-Cast.target c.in-Cast.mode c.in-Cast.value c.in-Cast.span
+    ∙ ap (λ v. c.in-Cast.span ∷ c.in-Cast.target.span ∷ spans_of (expr v)) (sym c.get-in-Cast.ensures)))
+    c.add_expr-in-Cast.ensures
 
 pub add_expr-returns-in_ok-push-in-Not : goal.add_expr-returns-in_ok-push-in-Not
-add_expr-returns-in_ok-push-in-Not t c = search (rules, the_lemmas, spans_of_boxes, append_assoc)
+add_expr-returns-in_ok-push-in-Not t c =
+    let inner = c.in-Not.inner in
+    let span = c.in-Not.span in
+    let same : spans_of (expr c.args.e.now) ≡ span ∷ spans_of (expr inner) =
+    elim c.in-Not.is [
+      | inl e ↦ ap (λ x. spans_of (expr x)) e ∙ spans_of_Not inner span
+      | inr (inl e) ↦ ap (λ x. spans_of (expr x)) e ∙ spans_of_Negate inner span
+      | inr (inr (inl e)) ↦ ap (λ x. spans_of (expr x)) e ∙ spans_of_IsValid inner span
+      | inr (inr (inr (inl e))) ↦ ap (λ x. spans_of (expr x)) e ∙ spans_of_IsInvalid inner span
+      | inr (inr (inr (inr e))) ↦ ap (λ x. spans_of (expr x)) e ∙ spans_of_Group inner span
+    ] in
+    on_ok_weaker c.add_expr-in-Not.result
+    (added_after c.args.spans.now _ _ _ _ _ c.in_ok-push-in-Not.ensures.ok (same ∙ ap (λ v. span ∷ spans_of (expr v)) (sym c.get-in-Not.ensures)))
+    c.add_expr-in-Not.ensures
+
+pub add_expr-returns-in-Member : goal.add_expr-returns-in-Member
+add_expr-returns-in-Member t c =
+    on_ok_weaker c.append.result (added_alone c.args.spans.now _ _ _ (ap (λ e. spans_of (expr e)) c.in-Member.is)) c.append.ensures.ok

@@ -1,14 +1,13 @@
-use Rattle.std.proofs.Common.{rules, ◌≡◌, ◌∷◌, ◌++◌, ◌∙◌, [], sym, ap, append-nil}
+use Rattle.std.proofs.Common.{◌≡◌, ◌∷◌, ◌++◌, ◌∙◌, [], inl, inr, sym, ap, append-nil}
 use Rattle.std.specs.List.{flat_map}
 use Rattle.std.proofs.lemmas.Result.{on_ok_weaker}
 use Rattle.slicc_ast.specs.declared.tree.statement.If.{out-If}
-use Rattle.slicc_ast.specs.declared.tree.statement.Stmt.TheViews.{the_lemmas}
-use Rattle.slicc_ast.specs.Outline.{none, spans_of, spans_in}
-use Rattle.slicc_ast.specs.Declarations.{pair_list}
+use Rattle.slicc_ast.specs.Outline.{spans_of}
+use Rattle.slicc_ast.specs.Expressions.{expr}
 use Rattle.slicc_ast.specs.Spans.{else_if_spans}
-use Rattle.slicc_ast.specs.Statements.{stmt, block_outline, latency_parts}
-use Rattle.slicc_ast.proofs.SpansOfLists.{added_all}
-use Rattle.slicc_ast.proofs.SpansOfStatements.{stmt_list_spans, stmt_row_spans, if_some, if_none, latency_behind, added_three, added_four}
+use Rattle.slicc_ast.specs.Statements.{stmt}
+use Rattle.slicc_ast.proofs.SpansOfLists.{added_all, added_after, added_last, added_alone, added_both}
+use Rattle.slicc_ast.proofs.SpansOfStatements.{stmt_list_spans, if_some, if_none, added_four, spans_of_Return, spans_of_Peek, spans_of_Enqueue}
 use Rattle.slicc_ast.proofs.node_spans.statement.+statement_spans.Goals as goal
 
 pub add_block-returns : goal.add_block-returns
@@ -30,20 +29,70 @@ add_if-returns-in-None t c =
     c.in_ok-push.ensures.ok c.in_ok-add_expr.ensures c.in_ok-add_block.ensures (c.in_ok-add_others.ensures ∙ ap (λ xs. c.add_block.new.spans ++ flat_map else_if_spans xs) c.deref.ensures)
     (sym (append-nil c.add_others.new.spans)) (if_none c.args.i.now c.in-None.is)
 
+pub add_stmt-returns-in_ok-append-in-Declare : goal.add_stmt-returns-in_ok-append-in-Declare
+add_stmt-returns-in_ok-append-in-Declare t c =
+    on_ok_weaker c.add_expr.result
+    (added_last c.args.spans.now _ _ _ _ _ c.in_ok-append-in-Declare.ensures.ok (ap (λ s. spans_of (stmt s)) c.in-Declare.is))
+    c.add_expr.ensures
+
+pub add_stmt-returns-in_ok-add_expr-in-Assign : goal.add_stmt-returns-in_ok-add_expr-in-Assign
+add_stmt-returns-in_ok-add_expr-in-Assign t c =
+    on_ok_weaker c.add_expr-in-Assign-2.result
+    (added_last c.args.spans.now _ _ _ _ _
+    (added_both c.args.spans.now (c.in-Assign.span ∷ []) _ _ _ c.in_ok-push-in-Assign.ensures.ok c.in_ok-add_expr-in-Assign.ensures)
+    (ap (λ s. spans_of (stmt s)) c.in-Assign.is))
+    c.add_expr-in-Assign-2.ensures
+
+pub add_stmt-returns-in_ok-push-in-Return : goal.add_stmt-returns-in_ok-push-in-Return
+add_stmt-returns-in_ok-push-in-Return t c =
+    on_ok_weaker c.add_optional.result
+    (added_after c.args.spans.now _ _ _ _ _ c.in_ok-push-in-Return.ensures.ok (ap (λ s. spans_of (stmt s)) c.in-Return.is ∙ spans_of_Return c.in-Return.value c.in-Return.span))
+    c.add_optional.ensures
+
+pub add_stmt-returns-in-If : goal.add_stmt-returns-in-If
+add_stmt-returns-in-If t c =
+    on_ok_weaker c.add_if.result (added_alone c.args.spans.now _ _ _ (ap (λ s. spans_of (stmt s)) c.in-If.is)) c.add_if.ensures
+
 pub add_stmt-returns-in_ok-add_pairs-in-Peek : goal.add_stmt-returns-in_ok-add_pairs-in-Peek
 add_stmt-returns-in_ok-add_pairs-in-Peek t c =
-    let same : spans_of (stmt c.args.s.now) ≡ c.in-Peek.span ∷ (c.in-Peek.port.span ∷ c.in-Peek.message.span ∷ ((c.in-Peek.pairs.span ∷ spans_in (pair_list c.in-Peek.pairs.items)) ++ spans_of (block_outline c.in-Peek.body))) =
-    search (rules, the_lemmas, stmt_row_spans, append-nil) in
+    let p = c.in-Peek in
     on_ok_weaker c.add_block.result
-    (λ after. added_three c.args.spans.now c.in-Peek.span c.in-Peek.port.span c.in-Peek.message.span _ _ _ _ _ _ _ _
-    c.in_ok-push-in-Peek.ensures.ok c.in_ok-push-in-Peek-2.ensures.ok c.in_ok-push-in-Peek-3.ensures.ok c.in_ok-add_pairs-in-Peek.ensures after same)
+    (added_after c.args.spans.now _ _ _ _ _
+    (added_both c.args.spans.now _ _ _ _ c.in_ok-append-in-Peek.ensures.ok c.in_ok-add_pairs-in-Peek.ensures)
+    (ap (λ s. spans_of (stmt s)) p.is ∙ spans_of_Peek p.port p.message p.pairs p.body p.span))
     c.add_block.ensures
 
-pub add_stmt-returns-in_ok-add_latency-in-Enqueue : goal.add_stmt-returns-in_ok-add_latency-in-Enqueue
-add_stmt-returns-in_ok-add_latency-in-Enqueue t c =
-    let same : spans_of (stmt c.args.s.now) ≡ c.in-Enqueue.span ∷ (c.in-Enqueue.port.span ∷ c.in-Enqueue.message.span ∷ (spans_in (latency_parts c.in-Enqueue.latency none) ++ spans_of (block_outline c.in-Enqueue.body))) =
-    search (rules, the_lemmas, stmt_row_spans, append-nil, latency_behind) in
+pub add_stmt-returns-in_ok-add_optional-in-Enqueue : goal.add_stmt-returns-in_ok-add_optional-in-Enqueue
+add_stmt-returns-in_ok-add_optional-in-Enqueue t c =
+    let q = c.in-Enqueue in
     on_ok_weaker c.add_block-in-Enqueue.result
-    (λ after. added_three c.args.spans.now c.in-Enqueue.span c.in-Enqueue.port.span c.in-Enqueue.message.span _ _ _ _ _ _ _ _
-    c.in_ok-push-in-Enqueue.ensures.ok c.in_ok-push-in-Enqueue-2.ensures.ok c.in_ok-push-in-Enqueue-3.ensures.ok c.in_ok-add_latency-in-Enqueue.ensures after same)
+    (added_after c.args.spans.now _ _ _ _ _
+    (added_both c.args.spans.now _ _ _ _ c.in_ok-append-in-Enqueue.ensures.ok c.in_ok-add_optional-in-Enqueue.ensures)
+    (ap (λ s. spans_of (stmt s)) q.is ∙ spans_of_Enqueue q.port q.message q.latency q.body q.span))
     c.add_block-in-Enqueue.ensures
+
+pub add_stmt-returns-in_ok-append-in-StallAndWait : goal.add_stmt-returns-in_ok-append-in-StallAndWait
+add_stmt-returns-in_ok-append-in-StallAndWait t c =
+    on_ok_weaker c.add_expr-in-StallAndWait.result
+    (added_last c.args.spans.now _ _ _ _ _ c.in_ok-append-in-StallAndWait.ensures.ok (ap (λ s. spans_of (stmt s)) c.in-StallAndWait.is))
+    c.add_expr-in-StallAndWait.ensures
+
+pub add_stmt-returns-in-CheckAllocate : goal.add_stmt-returns-in-CheckAllocate
+add_stmt-returns-in-CheckAllocate t c =
+    on_ok_weaker c.append-in-CheckAllocate.result (added_alone c.args.spans.now _ _ _ (ap (λ s. spans_of (stmt s)) c.in-CheckAllocate.is)) c.append-in-CheckAllocate.ensures.ok
+
+pub add_stmt-returns-in-Error : goal.add_stmt-returns-in-Error
+add_stmt-returns-in-Error t c =
+    on_ok_weaker c.push-in-Error.result (added_alone c.args.spans.now _ _ _ (ap (λ s. spans_of (stmt s)) c.in-Error.is)) c.push-in-Error.ensures.ok
+
+pub add_stmt-returns-in_ok-push-in-Print : goal.add_stmt-returns-in_ok-push-in-Print
+add_stmt-returns-in_ok-push-in-Print t c =
+    on_ok_weaker c.add_balanced.result
+    (added_last c.args.spans.now _ _ _ _ _ c.in_ok-push-in-Print.ensures.ok (ap (λ s. spans_of (stmt s)) c.in-Print.is))
+    c.add_balanced.ensures
+
+pub add_stmt-returns-in_ok-push-in-Evaluate : goal.add_stmt-returns-in_ok-push-in-Evaluate
+add_stmt-returns-in_ok-push-in-Evaluate t c =
+    let same : spans_of (stmt c.args.s.now) ≡ c.in-Evaluate.span ∷ (spans_of (expr c.in-Evaluate.value) ++ []) =
+    elim c.in-Evaluate.is [ inl e ↦ ap (λ s. spans_of (stmt s)) e | inr e ↦ ap (λ s. spans_of (stmt s)) e ] in
+    on_ok_weaker c.add_expr-in-Evaluate.result (added_last c.args.spans.now _ _ _ _ _ c.in_ok-push-in-Evaluate.ensures.ok same) c.add_expr-in-Evaluate.ensures

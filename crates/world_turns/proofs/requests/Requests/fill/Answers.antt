@@ -2,7 +2,7 @@ use Rattle.std.proofs.Common.{◌≤◌, ◌+◌, ◌++◌, ◌∙◌, ℕ, List
 use Rattle.std.proofs.lemmas.List.{append-nil, drop_all}
 use Rattle.protocol_runs.specs.Requests.{request_messages}
 use Rattle.sequencer.specs.declared.issued.Issued.{Issued}
-use Rattle.world_seats.specs.Seated.{setups_in}
+use Rattle.world_turns.specs.Seated.{setups_in}
 use Rattle.world_turns.specs.Requests.{HasRoomFor}
 use Rattle.world_turns.proofs.Asking.{fewer, left-more, one-more}
 use Rattle.world_turns.proofs.requests.Requests.fill.Goals as goal

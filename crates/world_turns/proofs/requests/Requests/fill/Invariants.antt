@@ -1,6 +1,6 @@
 use Rattle.std.proofs.Common.{◌≡◌, ◌+◌, ◌++◌, drop, length}
 use Rattle.protocol_runs.specs.Requests.{request_messages}
-use Rattle.world_seats.specs.Seated.{setups_in}
+use Rattle.world_turns.specs.Seated.{setups_in}
 use Rattle.world_turns.specs.Requests.{HasRoomFor}
 use Rattle.world_turns.proofs.requests.Requests.fill.Given as goal
 

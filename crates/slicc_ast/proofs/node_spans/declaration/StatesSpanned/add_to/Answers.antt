@@ -7,6 +7,6 @@ use Rattle.slicc_ast.proofs.node_spans.declaration.StatesSpanned.add_to.Goals as
 pub returns : goal.returns
 returns c =
     on_ok_weaker c.add_each.result
-    (λ after. added_declaration state_spans c.args.spans.now c.args.self.now.span c.args.self.now.name.span c.args.self.now.pairs.span _ c.args.self.now.members c.deref.result.now _ _ _ _ _
-    c.in_ok-push.ensures.ok c.in_ok-push-2.ensures.ok c.in_ok-add_pairs.ensures c.deref.ensures after (state_list_spans c.args.self.now.members _))
+    (λ after. added_declaration state_spans c.args.spans.now c.args.self.now.span c.args.self.now.name.span c.args.self.now.pairs.span _ c.args.self.now.members c.deref.result.now _ _ _ _
+    c.in_ok-append.ensures.ok c.in_ok-add_pairs.ensures c.deref.ensures after (state_list_spans c.args.self.now.members _))
     c.add_each.ensures

@@ -16,7 +16,7 @@ returns c =
     subst (λ xs. c.add_each.new.spans ≡ c.add_pairs.new.spans ++ flat_map (λ p. spans_of (parameter p)) xs) c.as_slice.ensures c.in_ok-add_each.ensures in
     on_ok_weaker c.add_each-2.result
     (λ after. added_machine c.args.spans.now m.span m.name.span (m.pairs.span ∷ spans_in (pair_list m.pairs.items)) (flat_map (λ p. spans_of (parameter p)) m.parameters) (flat_map (λ d. spans_of (decl d)) m.declarations)
-    c.push.new.self c.push-2.new.self c.add_pairs.new.spans c.add_each.new.spans c.add_each-2.new.spans (spans_of (machine m))
-    c.in_ok-push.ensures.ok c.in_ok-push-2.ensures.ok c.in_ok-add_pairs.ensures three
+    c.append.new.self c.add_pairs.new.spans c.add_each.new.spans c.add_each-2.new.spans (spans_of (machine m))
+    c.in_ok-append.ensures.ok c.in_ok-add_pairs.ensures three
     (subst (λ xs. c.add_each-2.new.spans ≡ c.add_each.new.spans ++ flat_map (λ d. spans_of (decl d)) xs) c.as_slice-2.ensures after) same)
     c.add_each-2.ensures

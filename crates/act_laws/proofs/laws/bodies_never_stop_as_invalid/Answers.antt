@@ -1,5 +1,0 @@
-use Rattle.act_laws.proofs.Instances.{never_as_invalid}
-use Rattle.act_laws.proofs.laws.bodies_never_stop_as_invalid.Goals as goal
-
-pub returns : goal.returns
-returns g c = never_as_invalid

@@ -1,4 +1,0 @@
-pub mod Kept
-pub mod Mailed
-pub mod Added
-pub mod Left

@@ -1,3 +1,0 @@
-pub mod FirstNames
-pub mod PartLists
-pub mod PartsOfBoxes

@@ -1,0 +1,31 @@
+-- The scopes of machines, one after the other, and the declarations in one.
+use Rattle.std.proofs.Common.{◌≡◌, List, [], ◌∷◌, ◌++◌, map, flat_map, refl, ap}
+use Rattle.slicc_ast.specs.declared.tree.item.Tree.{Tree}
+use Rattle.slicc_ast.specs.declared.tree.machine.Machine.{Machine}
+use Rattle.slicc_plan.specs.Declarations.{Declaration, machine, enumeration, structure, states, parameter, object, out_port, in_port, action, function, symbol, state, member, formal, local, within, machines_of, wide_scopes}
+use Rattle.slicc_plan.specs.TransitionNames.{wrong_names, wrong_names_in, wrong_permissions}
+use Rattle.body_rules.specs.NamesInScopes.{wrong_names_within, wrong_states}
+
+within_same : (trees : List Tree) (ms : List Machine) → flat_map (wrong_names_within trees) (map within ms) ≡ flat_map (wrong_names_in trees) ms
+within_same trees [] = refl
+within_same trees (m ∷ ms) = ap (λ bs. wrong_names_in trees m ++ bs) (within_same trees ms)
+
+pub all_same : (trees : List Tree) → flat_map (wrong_names_within trees) (wide_scopes trees) ≡ wrong_names trees
+all_same trees = within_same trees (machines_of trees)
+
+pub states_same : (trees : List Tree) (m : Machine) (d : Declaration) → wrong_states trees (within m) d ≡ wrong_permissions trees m d
+states_same trees m (machine x) = refl
+states_same trees m (enumeration x) = refl
+states_same trees m (structure x) = refl
+states_same trees m (states x) = refl
+states_same trees m (parameter x) = refl
+states_same trees m (object x) = refl
+states_same trees m (out_port x) = refl
+states_same trees m (in_port x) = refl
+states_same trees m (action x) = refl
+states_same trees m (function x) = refl
+states_same trees m (symbol x) = refl
+states_same trees m (state x) = refl
+states_same trees m (member x) = refl
+states_same trees m (formal x) = refl
+states_same trees m (local x y z) = refl

@@ -1,3 +1,0 @@
-pub mod Extent
-pub mod Held
-pub mod Runs

@@ -1,3 +1,0 @@
-pub mod EndRows
-pub mod ReturnRows
-pub mod WayLists

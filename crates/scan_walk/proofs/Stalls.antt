@@ -1,0 +1,48 @@
+-- A written transition is stalled where a table is short of free lines or its actions say so, and else it fires.
+use Rattle.std.proofs.Common.{◌≡◌, ◌∙◌, ℕ, Bool, true, false, Result, Ok, Err, sym, subst, unwrap_or}
+use Rattle.ruby_symbols.specs.declared.machine.TransitionSymbol.{TransitionSymbol}
+use Rattle.ctl_face.specs.declared.trouble.Trouble.{Trouble}
+use Rattle.ctl_face.specs.LocalView.{LocalView}
+use Rattle.acts.specs.Acting.{Acting, either}
+use Rattle.acts.specs.DoesAs.{DoesAs, itself}
+use Rattle.acts.proofs.Walk.{false_does, then_does, then_stops, true_does}
+use Rattle.body_meaning.specs.Reading.{Reading}
+use Rattle.body_meaning.specs.declared.thing.Trigger.{Trigger}
+use Rattle.body_meaning.specs.declared.tried.Tried.{Tried}
+use Rattle.body_meaning.specs.Actions.{need}
+use Rattle.body_meaning.specs.Transition.{fired, is_short, is_stall_among, row_tried, waiting}
+
+module _ (s : Reading) (t : Trigger) (state : ℕ) (row : TransitionSymbol) (u v w : LocalView) where
+  abbrev shortness : Acting Bool
+  shortness = is_short (need s row.actions) 0 s.machine.tables
+
+  abbrev fires : Acting Tried
+  fires = fired s t state (unwrap_or row.next state) row
+
+  abbrev unless_stalled : Acting Tried
+  unless_stalled = either (is_stall_among row.actions s.machine.stall) waiting fires
+
+  abbrev after : Bool → Acting Tried
+  after short = either short waiting unless_stalled
+
+  pub row_stops : (e : Trouble) → DoesAs itself shortness (Err e) u v → DoesAs itself (row_tried s t state row) (Err e) u w
+  row_stops e found = then_stops itself itself shortness after e u v w found
+
+  module _ (short : Bool) (found : DoesAs itself shortness (Ok short) u v) (result : Result Tried Trouble) where
+    pub short_waits : short ≡ true → DoesAs itself waiting result v w → DoesAs itself (row_tried s t state row) result u w
+    short_waits is waits = then_does itself itself shortness after short result u v w found (true_does itself short waiting unless_stalled result v w is waits)
+
+    pub stalled_waits : (stalls : Bool) → stalls ≡ is_stall_among row.actions s.machine.stall → short ≡ false → stalls ≡ true → DoesAs itself waiting result v w
+        → DoesAs itself (row_tried s t state row) result u w
+    stalled_waits stalls told not_short is waits =
+        then_does itself itself shortness after short result u v w found
+        (false_does itself short waiting unless_stalled result v w not_short
+        (true_does itself (is_stall_among row.actions s.machine.stall) waiting fires result v w (sym told ∙ is) waits))
+
+    pub row_fires : (stalls : Bool) → stalls ≡ is_stall_among row.actions s.machine.stall → short ≡ false → stalls ≡ false
+        → (next : ℕ) → next ≡ unwrap_or row.next state → DoesAs itself (fired s t state next row) result v w → DoesAs itself (row_tried s t state row) result u w
+    row_fires stalls told not_short not_stalled next is did =
+        then_does itself itself shortness after short result u v w found
+        (false_does itself short waiting unless_stalled result v w not_short
+        (false_does itself (is_stall_among row.actions s.machine.stall) waiting fires result v w (sym told ∙ not_stalled)
+        (subst (λ (n : ℕ). DoesAs itself (fired s t state n row) result v w) is did)))

@@ -1,8 +1,0 @@
-use Rattle.std.proofs.Common.{◌≤◌, vec_len}
-use Rattle.tbe_table.proofs.table.allocate_all.Given as goal
-
-abbrev pub invariant-loop-line : goal.invariant-loop-line
-invariant-loop-line l = vec_len l.lines ≤ l.table.room
-
-abbrev pub decreases-loop-line : goal.decreases-loop-line
-decreases-loop-line l = vec_len l.lines

@@ -1,2 +1,0 @@
-mod MissingNames
-mod Walks

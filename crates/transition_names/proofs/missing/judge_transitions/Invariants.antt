@@ -1,8 +1,0 @@
-use Rattle.std.proofs.Common.{◌≡◌, take, flat_map}
-use Rattle.slicc_plan.specs.Machines.{transition_in}
-use Rattle.slicc_plan.specs.Order.{first_after}
-use Rattle.transition_names.specs.MissingBy.{missing_with}
-use Rattle.transition_names.proofs.missing.judge_transitions.Given as goal
-
-abbrev pub invariant-loop-d : goal.invariant-loop-d
-invariant-loop-d l = l.first ≡ first_after l.initial.first (flat_map (missing_with l.own) (flat_map transition_in (take l.d-index l.ds)))

@@ -1,2 +1,0 @@
-pub mod InScopes
-pub mod MissingBy

@@ -1,4 +1,0 @@
-pub mod Seats
-pub mod Served
-pub mod Swapped
-pub mod AllSeats
