@@ -4,4 +4,4 @@ pub mod EndRows
 pub mod ReturnRows
 pub mod WayLists
 mod MissingNames
-mod Walks
+mod NameWalks
