@@ -12,8 +12,7 @@ ghost use Rattle.body_types.specs.Views.{meaning_of, type_if, wanted_of};
 use crate::fitting::{fits, is_built_in, is_value};
 use crate::lines::Lines;
 use crate::meaning::{Meaning, Wanted};
-use built_ins::is_table;
-use declared_types::{KnownType, Scope};
+use declared_types::{KnownType, Scope, is_table};
 use slicc_ast::tree::{Span, Structure};
 use slicc_plan::{Broken, BuiltInType, Rule};
 

@@ -4,7 +4,7 @@ ghost use Rattle.slicc_plan.specs.BuiltInCalls.{permission_reading};
 ghost use Rattle.slicc_plan.specs.CallTypes.{answer_of as answer_in, built_in_call as built_in_call_in, plain as plain_of, wanted_by};
 ghost use Rattle.slicc_plan.specs.Environment.{is_allowed as is_allowed_in};
 ghost use Rattle.slicc_plan.specs.Meanings.{nothing};
-ghost use Rattle.built_ins.specs.Calls.{allowed_of, answer_of as answer_record, argument_of, call_of, receiver_of};
+ghost use Rattle.declared_types.specs.Calls.{allowed_of, answer_of as answer_record, argument_of, call_of, receiver_of};
 ghost use Rattle.body_types.specs.Environments.{IsEnvironment, environment_of, sort_of};
 ghost use Rattle.body_types.specs.Found.{all_given_of, found_of, typed_of};
 ghost use Rattle.body_types.specs.Lines.{AreLines};
@@ -19,8 +19,7 @@ use crate::writing::wrong_change;
 use body_types::{
     BodySort, Environment, Given, Lines, Meaning, Typed, Wanted, line_of_structure, unless,
 };
-use built_ins::{Allowed, Answer, Call, Receiver};
-use declared_types::KnownType;
+use declared_types::{Allowed, Answer, Call, KnownType, Receiver};
 use ruby_base::{NoMemory, Seq};
 use slicc_ast::tree::Machine;
 use slicc_plan::{Broken, BuiltInType, Rule, Span, earlier_of_two};

@@ -2,7 +2,7 @@
 ghost use Rattle.std.specs.Prelude.{◌≡◌, [], ◌∷◌, IfOk};
 ghost use Rattle.std.specs.Option.{option_copied, option_map};
 ghost use Rattle.slicc_plan.specs.CallTypes.{built_in_receiver as built_in_receiver_of, call_named as call_named_in, index_call as index_call_in, method_call as method_call_in, receiver_of as receiver_in, table_receiver as table_receiver_of, value_receiver as value_receiver_of};
-ghost use Rattle.built_ins.specs.Calls.{call_of, receiver_of as receiver_record};
+ghost use Rattle.declared_types.specs.Calls.{call_of, receiver_of as receiver_record};
 ghost use Rattle.declared_types.specs.Lent.{type_of};
 ghost use Rattle.body_types.specs.Environments.{IsEnvironment, environment_of};
 ghost use Rattle.body_types.specs.Found.{all_given_of, found_of, given_of, typed_of};
@@ -12,13 +12,12 @@ ghost use Rattle.call_types.specs.Arguments.{not_indexed as not_indexed_of};
 
 use crate::arguments::broken_in;
 use crate::built_in::built_in_call;
+use crate::call_on;
 use crate::declared::not_called;
 use crate::typing::plain;
 use crate::writing::is_told;
 use body_types::{Environment, Given, Lines, Meaning, Typed, has_line, told};
-use built_in_calls::call_on;
-use built_ins::{Call, Receiver};
-use declared_types::KnownType;
+use declared_types::{Call, KnownType, Receiver};
 use ruby_base::NoMemory;
 use slicc_ast::tree::Name;
 use slicc_plan::{BuiltInType, Rule, Span, earlier_of_two};

@@ -6,13 +6,12 @@ ghost use Rattle.slicc_plan.specs.Buffers.{listed};
 ghost use Rattle.slicc_plan.specs.CallTypes.{events_type as events_type_of, states_type as states_type_of, structure_on as structure_on_of, type_of_line as type_of_line_in};
 ghost use Rattle.slicc_plan.specs.Declarations.{enumeration, named_declarations, states};
 ghost use Rattle.slicc_plan.specs.Limits.{is_events, is_states};
-ghost use Rattle.built_ins.specs.Calls.{receiver_of};
+ghost use Rattle.declared_types.specs.Calls.{receiver_of};
 ghost use Rattle.body_types.specs.Lines.{AreLines};
 ghost use Rattle.body_types.specs.Views.{type_if};
 
 use body_types::Lines;
-use built_ins::Receiver;
-use declared_types::{KnownType, Scope};
+use declared_types::{KnownType, Receiver, Scope};
 use slicc_ast::tree::{Decl, Enumeration, Machine, States, Structure};
 
 /// The structure of the lines of a table, where the machine has it.

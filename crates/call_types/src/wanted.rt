@@ -4,15 +4,14 @@ ghost use Rattle.std.specs.Option.{option_map};
 ghost use Rattle.slicc_plan.specs.Buffers.{listed};
 ghost use Rattle.slicc_plan.specs.CallTypes.{formal_wanted as formal_wanted_of, line_wanted as line_wanted_of, wanted_by, wanted_for as wanted_for_of};
 ghost use Rattle.slicc_plan.specs.Meanings.{one_of};
-ghost use Rattle.built_ins.specs.Calls.{argument_of, receiver_of};
+ghost use Rattle.declared_types.specs.Calls.{argument_of, receiver_of};
 ghost use Rattle.body_types.specs.Environments.{IsEnvironment, environment_of};
 ghost use Rattle.body_types.specs.Lines.{AreLines};
 ghost use Rattle.body_types.specs.Views.{type_if, wanted_of};
 
 use crate::own::{events_type, structure_on, type_of_line};
 use body_types::{Environment, Lines, Wanted, like_it, value_of_type};
-use built_ins::{Argument, Receiver};
-use declared_types::KnownType;
+use declared_types::{Argument, KnownType, Receiver};
 use ruby_base::{NoMemory, Seq};
 use slicc_ast::tree::Formal;
 use slicc_plan::BuiltInType;

@@ -3,12 +3,12 @@ ghost use Rattle.std.specs.Prelude.{◌≡◌, slice_get};
 ghost use Rattle.std.specs.Option.{option_map};
 ghost use Rattle.slicc_plan.specs.CallTypes.{is_told as is_told_of, may_write as may_write_of, may_write_field as may_write_field_of, no_field as no_field_of, not_writable as not_writable_of, wrong_change as wrong_change_of};
 ghost use Rattle.slicc_plan.specs.Order.{first_of};
-ghost use Rattle.built_ins.specs.Calls.{change_of};
+ghost use Rattle.declared_types.specs.Calls.{change_of};
 ghost use Rattle.body_types.specs.Found.{all_given_of, given_of, typed_of};
 ghost use Rattle.body_types.specs.Views.{meaning_of, written_of};
 
 use body_types::{Given, Meaning, Typed, Written, unless};
-use built_ins::Change;
+use declared_types::Change;
 use slicc_plan::{Broken, Rule, Span};
 
 /// Whether it is told already that something is wrong with what has this meaning.

@@ -1,6 +1,6 @@
 // Answers of parts. What they give back is dropped here, and nowhere else.
+use crate::number_of;
 use ruby_value::{Fields, Value};
-use sample_controllers::number_of;
 
 /// Whether a call did what it was asked.
 pub(crate) fn is_done<T: Drop, E: Drop>(answer: Result<T, E>) -> bool {

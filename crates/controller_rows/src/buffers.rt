@@ -2,7 +2,7 @@ use crate::answers::is_done;
 use crate::copies::{copy, is_count, number};
 use crate::players::{Plays, add_part};
 use msg_buffer::{Buffer, NotReady};
-use row_text::RowText;
+use ruby_outside::RowText;
 use std::alloc::Global;
 
 /// A call on a buffer, and its answer. Messages are named by their counts.

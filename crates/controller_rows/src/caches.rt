@@ -1,9 +1,9 @@
 use crate::answers::{is_answer, left_number};
 use crate::players::{Plays, add_part};
+use crate::{number_of, one_field};
 use cache_array::{CacheArray, CacheFault};
-use row_text::RowText;
+use ruby_outside::RowText;
 use ruby_value::Value;
-use sample_controllers::{number_of, one_field};
 use std::alloc::Global;
 
 /// A call on a cache, and its answer.

@@ -1,8 +1,8 @@
 // Copies of messages without fields, which sender 1 has sent.
 ghost use Rattle.std.specs.Prelude.{◌≡◌};
 
+use crate::message;
 use ruby_value::{Fields, Message, MsgNo, Seq};
-use sample_controllers::message;
 use std::alloc::Global;
 
 pub(crate) fn number(count: u64) -> MsgNo {

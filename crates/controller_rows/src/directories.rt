@@ -1,9 +1,9 @@
 use crate::answers::{is_answer, is_done};
 use crate::players::{Plays, add_part};
+use crate::{number_of, one_field};
 use cache_array::DirMemory;
-use row_text::RowText;
+use ruby_outside::RowText;
 use ruby_value::Value;
-use sample_controllers::{number_of, one_field};
 use std::alloc::Global;
 
 /// A call on a directory, and its answer.

@@ -1,6 +1,6 @@
 use crate::answers::is_done;
 use crate::players::{Plays, add_part};
-use row_text::RowText;
+use ruby_outside::RowText;
 use ruby_value::{Fields, Kind, default_of};
 use std::alloc::Global;
 

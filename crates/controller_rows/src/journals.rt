@@ -1,7 +1,7 @@
 // The entries of one controller, for which the program never asks.
 use crate::answers::is_done;
 use crate::players::{Plays, add_part};
-use row_text::RowText;
+use ruby_outside::RowText;
 use run_journal::{End, Entry, FireNote, MsgNo, NoMemory, Sent, Seq, part};
 use std::alloc::Global;
 

@@ -1,4 +1,4 @@
-use row_text::RowText;
+use ruby_outside::RowText;
 use std::alloc::Global;
 
 /// A part of a controller on which steps are played, each a call with its answer.

@@ -2,7 +2,7 @@ ghost use Rattle.std.specs.Prelude.{◌^◌, ◌<◌};
 ghost use Rattle.ruby_value.specs.Requests.{IsRequest};
 
 use crate::players::{Plays, add_part};
-use row_text::RowText;
+use ruby_outside::RowText;
 use sequencer::{Answer, Ask, Asked, BackFault, Block, IssueFault, Sequencer};
 use std::alloc::Global;
 

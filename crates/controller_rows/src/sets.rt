@@ -1,5 +1,5 @@
 use crate::players::{Plays, add_part};
-use row_text::RowText;
+use ruby_outside::RowText;
 use ruby_value::NetDest;
 use std::alloc::Global;
 

@@ -1,7 +1,7 @@
 use crate::answers::is_done;
 use crate::copies::{are_copies, copy, number};
 use crate::players::{Plays, add_part};
-use row_text::RowText;
+use ruby_outside::RowText;
 use ruby_value::NoMemory;
 use stall_map::StallMap;
 use std::alloc::Global;

@@ -1,8 +1,8 @@
 use crate::answers::{is_answer, left_number};
 use crate::players::{Plays, add_part};
-use row_text::RowText;
+use crate::{number_of, one_field};
+use ruby_outside::RowText;
 use ruby_value::Value;
-use sample_controllers::{number_of, one_field};
 use std::alloc::Global;
 use tbe_table::{TbeFault, TbeTable};
 

@@ -1,7 +1,7 @@
 // Words of streams, by PCG's own demonstration, and far ones. That a jump leads where as many draws lead is proved.
 use crate::players::{Plays, add_part};
 use pcg_words::Words;
-use row_text::RowText;
+use ruby_outside::RowText;
 use std::alloc::Global;
 
 /// A draw, and what is drawn.

@@ -3,7 +3,7 @@ ghost use Rattle.std.specs.Prelude.{◌≡◌, codes};
 ghost use Rattle.slicc_plan.specs.Declarations.{machine_names};
 ghost use Rattle.slicc_plan.specs.Order.{first_after};
 ghost use Rattle.slicc_plan.specs.Values.{bad_attributes, is_built_in_default, is_member_word, is_right_default};
-ghost use Rattle.built_ins.specs.Types.{as_nature};
+ghost use Rattle.declared_types.specs.Types.{as_nature};
 ghost use Rattle.declared_types.specs.Lent.{scope_of, type_of};
 ghost use Rattle.declaration_rules.specs.Members.{members_in};
 ghost use Rattle.declaration_rules.specs.PairValues.{bad_pair};
@@ -11,8 +11,7 @@ ghost use Rattle.declaration_rules.specs.PairValues.{bad_pair};
 use crate::members::is_default_text;
 use crate::numbers::number_value;
 use crate::values::{is_either, told_bad};
-use built_ins::{Nature, nature_of};
-use declared_types::{KnownType, Scope, Scopes, attribute_in};
+use declared_types::{KnownType, Nature, Scope, Scopes, attribute_in, nature_of};
 use slicc_ast::tree::{Pair, PairValue, Pairs};
 use slicc_plan::{Broken, BuiltInType};
 

@@ -4,14 +4,13 @@ ghost use Rattle.std.specs.Option.{option_map};
 ghost use Rattle.slicc_plan.specs.FieldTypes.{may_be_field, refused_field, refused_for};
 ghost use Rattle.slicc_plan.specs.Order.{first_after};
 ghost use Rattle.slicc_plan.specs.Types.{nature_in};
-ghost use Rattle.built_ins.specs.Types.{as_nature};
+ghost use Rattle.declared_types.specs.Types.{as_nature};
 ghost use Rattle.declared_types.specs.Lent.{type_of};
 ghost use Rattle.declaration_rules.specs.Judging.{refused_of};
 
 use crate::fields::{FieldRule, first_in_fields};
 use crate::rule::DeclarationRule;
-use built_ins::{Nature, nature_of};
-use declared_types::{Declared, KnownType, Scopes};
+use declared_types::{Declared, KnownType, Nature, Scopes, nature_of};
 use slicc_ast::tree::{Pairs, TypeName};
 use slicc_plan::{Broken, Rule, Span, earlier_broken};
 

@@ -7,12 +7,11 @@ ghost use Rattle.slicc_ast.specs.declared.tree.declaration.Symbol.{Symbol as Sym
 ghost use Rattle.slicc_plan.specs.BuiltIn.{is_among, members_of};
 ghost use Rattle.slicc_plan.specs.Declarations.{machine_names};
 ghost use Rattle.slicc_plan.specs.Values.{default_name, default_names};
-ghost use Rattle.built_ins.specs.Types.{texts_of};
+ghost use Rattle.declared_types.specs.Types.{texts_of};
 ghost use Rattle.declared_types.specs.Lent.{scope_of, type_of};
 ghost use Rattle.declaration_rules.specs.Members.{members_in};
 
-use built_ins::fixed_members;
-use declared_types::{KnownType, Scope, Scopes, after_prefix};
+use declared_types::{KnownType, Scope, Scopes, after_prefix, fixed_members};
 use slicc_ast::tree::{State, Symbol};
 use slicc_plan::BuiltInType;
 

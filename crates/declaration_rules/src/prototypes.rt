@@ -6,8 +6,7 @@ ghost use Rattle.slicc_plan.specs.Order.{first_after};
 ghost use Rattle.slicc_plan.specs.Prototypes.{told_unless, unknown_built_in, unknown_method, unknown_prototype, unknown_structure};
 
 use crate::rule::DeclarationRule;
-use built_ins::is_call_name;
-use declared_types::{Declared, Scopes, is_external, table_named};
+use declared_types::{Declared, Scopes, is_call_name, is_external, table_named};
 use slicc_ast::tree::{Function, Member, Structure};
 use slicc_plan::{Broken, Rule, Span, earlier_broken};
 

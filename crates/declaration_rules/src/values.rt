@@ -5,14 +5,13 @@ ghost use Rattle.slicc_plan.specs.BuiltIn.{type_number};
 ghost use Rattle.slicc_plan.specs.Order.{first_after};
 ghost use Rattle.slicc_plan.specs.Types.{is_built_in};
 ghost use Rattle.slicc_plan.specs.Values.{bad_attributes, bad_buffer_attributes, bad_entries, bad_literal, bad_object_attributes, is_either, is_number_within, is_right_literal, literal_span};
-ghost use Rattle.built_ins.specs.Types.{as_nature};
+ghost use Rattle.declared_types.specs.Types.{as_nature};
 ghost use Rattle.declared_types.specs.Lent.{type_of};
 ghost use Rattle.declaration_rules.specs.PairValues.{bad_pair, told_bad};
 
 use crate::field_types::nature_in;
 use crate::numbers::number_value;
-use built_ins::Nature;
-use declared_types::{KnownType, attribute_in, is_word};
+use declared_types::{KnownType, Nature, attribute_in, is_word};
 use slicc_ast::tree::{Literal, Pair, PairValue, Pairs};
 use slicc_plan::{Broken, BuiltInType, Rule, Span, earlier_broken};
 

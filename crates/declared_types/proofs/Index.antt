@@ -8,7 +8,7 @@ use Rattle.std.proofs.lemmas.List.{length-map, length-take-le, map-append}
 use Rattle.std.specs.List.{list_any}
 use Rattle.std.specs.Option.{option_map, option_or}
 use Rattle.std.specs.Str.{bytes_eq}
-use Rattle.name_index.specs.Numbering.{is_name, number_among, with_name}
+use Rattle.ruby_base.specs.Numbering.{is_name, number_among, with_name}
 use Rattle.slicc_plan.specs.Declarations.{Declaration, first_named, is_named}
 use Rattle.declared_types.specs.declared.lent.Declared.{Declared}
 use Rattle.declared_types.specs.declared.lent.Declared.TheVariants.{Machine, Enumeration, Structure, States, Parameter, Object, OutPort, InPort, Action, Function}

@@ -3,3 +3,5 @@ pub mod Lent
 pub mod LineSorts
 pub mod Scopes
 pub mod Table
+pub mod Calls
+pub mod Types

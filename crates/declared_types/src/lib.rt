@@ -1,10 +1,15 @@
-//! What the names of types stand for in each scope of a protocol, and the rules of declarations that need to know it.
+//! What the names of types stand for in each scope of a protocol, and the rules of declarations that need to know it. What is there in
+//! every protocol without a declaration, that is types, their members and calls, is here by its name.
 #![tactic(auto)]
 
 mod attributes;
+mod built_in_types;
+mod call;
+mod calls;
 mod lent;
 mod lines;
 mod lists;
+mod members;
 mod scopes;
 mod table;
 mod tables;
@@ -14,9 +19,13 @@ mod words;
 pub use attributes::{
     Attribute, attribute_in, first_attribute, has_attribute, is_external, is_word,
 };
+pub use built_in_types::{NamedType, Nature, built_in_type, is_table, nature_of, request_fields};
+pub use call::{Allowed, Answer, Argument, Call, Change, Receiver};
+pub use calls::{built_in_calls, is_call_name};
 pub use lent::{Declared, KnownType, Scope};
 pub use lines::{LineSort, first_line};
 pub use lists::{declared, machine_list};
+pub use members::fixed_members;
 pub use scopes::Scopes;
 pub use table::name_of;
 pub use types::{declared_type, table_named};

@@ -9,12 +9,12 @@ ghost use Rattle.slicc_ast.specs.contracts.tree.declaration.Structure as structu
 ghost use Rattle.slicc_ast.specs.contracts.tree.declaration.Member as member_type;
 ghost use Rattle.declared_types.specs.Scopes.{AreTables};
 
+use crate::built_in_type;
 use crate::lent::{Declared, KnownType, Scope};
 use crate::table::Table;
 use crate::tables::{all_tables, any_bears};
 use crate::types::declared_type;
 use crate::words::before_suffix;
-use built_ins::built_in_type;
 use ruby_base::{NoMemory, Seq};
 use slicc_ast::tree::Tree;
 use std::alloc::Global;

@@ -1,14 +1,13 @@
 //! The declarations of a scope with an index from their names.
 ghost use Rattle.std.specs.Prelude.{◌≡◌, [], length, IfOk, OnOk, Some};
 ghost use Rattle.std.specs.Option.{option_map};
-ghost use Rattle.name_index.specs.Numbering.{number_among, with_name};
+ghost use Rattle.ruby_base.specs.Numbering.{number_among, with_name};
 ghost use Rattle.slicc_plan.specs.Declarations.{first_named, function_name, name_of};
 ghost use Rattle.declared_types.specs.Lent.{declaration_of, declarations_of, scope_of, text_of, texts_of};
 ghost use Rattle.declared_types.specs.Table.{IsIndexed, with_first};
 
 use crate::lent::{Declared, Scope};
-use name_index::NameIndex;
-use ruby_base::{NoMemory, Seq};
+use ruby_base::{NameIndex, NoMemory, Seq};
 use slicc_ast::tree::{Function, Name};
 use std::alloc::Global;
 

@@ -7,7 +7,7 @@ ghost use Rattle.declared_types.specs.Lent.{declaration_of, scope_of, type_of};
 
 use crate::attributes::is_external;
 use crate::lent::{Declared, KnownType, Scope};
-use built_ins::{built_in_type, is_table};
+use crate::{built_in_type, is_table};
 use slicc_ast::tree::Structure;
 use slicc_plan::BuiltInType;
 

@@ -8,8 +8,8 @@ use Rattle.slicc_ast.specs.declared.tree.item.Tree.{Tree}
 use Rattle.slicc_ast.specs.declared.tree.machine.Machine.{Machine}
 use Rattle.slicc_plan.specs.BuiltIn.{is_among}
 use Rattle.slicc_plan.specs.Declarations.{Scope, machine_names, machines_of, wide_scopes}
-use Rattle.built_in_calls.specs.Called.{machines_in}
-use Rattle.built_in_calls.proofs.Machines.{machines_wide}
+use Rattle.call_types.specs.Called.{machines_in}
+use Rattle.call_types.proofs.Machines.{machines_wide}
 use Rattle.expression_types.specs.Known.{is_called}
 
 among_names : (text : List ℕ) (ms : List Machine) → is_among (map (λ (m : Machine). m.name.text) ms) text ≡ list_any (is_called text) ms

@@ -5,7 +5,7 @@ ghost use Rattle.slicc_plan.specs.BuiltIn.{request_fields as request_fields_of};
 ghost use Rattle.slicc_plan.specs.Buffers.{listed};
 ghost use Rattle.slicc_plan.specs.Declarations.{first_named, member as member_declaration, member_name as member_name_of};
 ghost use Rattle.slicc_plan.specs.ExpressionTypes.{built_in_field as built_in_field_of, field_declared as field_declared_of, field_in as field_in_of, field_of as field_of_in, fields_scope, found_field as found_field_of, request_field as request_field_of};
-ghost use Rattle.built_ins.specs.Types.{meaning_in, named_of};
+ghost use Rattle.declared_types.specs.Types.{meaning_in, named_of};
 ghost use Rattle.declared_types.specs.Lent.{scope_of, type_of};
 ghost use Rattle.declared_types.specs.Scopes.{scope_at};
 ghost use Rattle.body_types.specs.Environments.{IsEnvironment, environment_of};
@@ -13,9 +13,8 @@ ghost use Rattle.body_types.specs.Found.{found_of, typed_of};
 ghost use Rattle.body_types.specs.Views.{meaning_of, written_of};
 
 use body_types::{Environment, Meaning, Typed, Written, told, value_of_type};
-use built_ins::{NamedType, request_fields};
 use call_types::plain;
-use declared_types::{KnownType, Scope};
+use declared_types::{KnownType, NamedType, Scope, request_fields};
 use slicc_ast::tree::{Member, Name};
 use slicc_plan::{Broken, BuiltInType, Rule, earlier_of_two};
 

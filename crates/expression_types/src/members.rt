@@ -8,7 +8,7 @@ ghost use Rattle.slicc_ast.specs.declared.tree.declaration.Symbol.{Symbol as Sym
 ghost use Rattle.slicc_plan.specs.BuiltIn.{is_among, members_of, nature_of};
 ghost use Rattle.slicc_plan.specs.Declarations.{machine_names};
 ghost use Rattle.slicc_plan.specs.ExpressionTypes.{enumeration_members, is_enumeration_nature, member_among as member_among_of, member_type as member_type_of, variable_type as variable_type_of, written_as as written_as_of};
-ghost use Rattle.built_in_calls.specs.Called.{machines_in};
+ghost use Rattle.call_types.specs.Called.{machines_in};
 ghost use Rattle.declared_types.specs.Lent.{scope_of, type_of};
 ghost use Rattle.body_types.specs.Environments.{IsEnvironment, environment_of};
 ghost use Rattle.body_types.specs.Found.{found_of, typed_of};
@@ -18,9 +18,8 @@ ghost use Rattle.expression_types.specs.Known.{is_called};
 use body_types::{
     Environment, Meaning, Typed, Written, told, type_named, value_named, wrong_type_name,
 };
-use built_ins::fixed_members;
 use call_types::plain;
-use declared_types::{KnownType, Scope, Scopes};
+use declared_types::{KnownType, Scope, Scopes, fixed_members};
 use slicc_ast::tree::{Name, State, Symbol};
 use slicc_plan::{BuiltInType, Rule};
 

@@ -40,12 +40,12 @@ use Rattle.slicc_plan.specs.SymbolsOfTypes.{enumeration_symbols, field_of_type, 
 use Rattle.slicc_plan.specs.Tables.{line_structure, table_in}
 use Rattle.slicc_plan.specs.TypeNumbers.{declared_structures, made_in, no_structure, own_default, scoped_declarations, structure_number}
 use Rattle.slicc_plan.specs.Types.{KnownType, built_in, enumerated, structured}
-use Rattle.symbol_laws.proofs.Counted.{machine_has_numbers}
-use Rattle.symbol_laws.proofs.Machines.{symbols_at}
-use Rattle.symbol_laws.proofs.Messages.{IsDeclared, has_states, message_declared}
-use Rattle.symbol_laws.proofs.Reading.{reads_states}
-use Rattle.symbol_laws.proofs.There.{There, found_passes, get_right, in_machine, machine_there, there_found, there_later}
-use Rattle.symbol_laws.proofs.Types.{as_many, each_structure, states_stand, structure_stands}
+use Rattle.slicc_plan.proofs.Counted.{machine_has_numbers}
+use Rattle.slicc_plan.proofs.Machines.{symbols_at}
+use Rattle.slicc_plan.proofs.Messages.{IsDeclared, has_states, message_declared}
+use Rattle.slicc_plan.proofs.Reading.{reads_states}
+use Rattle.slicc_plan.proofs.There.{There, found_passes, get_right, in_machine, machine_there, there_found, there_later}
+use Rattle.slicc_plan.proofs.Types.{as_many, each_structure, states_stand, structure_stands}
 use Rattle.machine_setup.specs.BySymbols.{buffer_by, default_of, default_state_by, fields_at, fields_of, first_values, kinds_of, kinds_of_ranges, line_of, setup_by, table_by, tables_by, values_by, values_of_ranges}
 
 -- What is read off the symbols of fields is read off the fields.

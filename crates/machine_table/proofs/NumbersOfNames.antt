@@ -21,7 +21,7 @@ use Rattle.slicc_plan.specs.Machines.{actions_of, each_once, names_in, next_numb
 use Rattle.machine_table.specs.declared.numbers.PartNumbers.{PartNumbers}
 use Rattle.slicc_plan.specs.Buffers.{listed}
 use Rattle.slicc_plan.specs.Declarations.{Declaration, action, is_named, is_text, name_of, named_declarations}
-use Rattle.name_index.specs.Numbering.{is_name, number_among, with_name}
+use Rattle.ruby_base.specs.Numbering.{is_name, number_among, with_name}
 use Rattle.machine_table.specs.Found.{Finding, actions_among, found_by, found_in, found_next, found_with, written_with}
 
 listed_option : {Y : Type 0} (o : Option Y) → cons_option o [] ≡ listed o

@@ -5,7 +5,7 @@ use Rattle.std.specs.Option.{option_or}
 use Rattle.std.specs.Str.{bytes_eq}
 use Rattle.slicc_ast.specs.declared.tree.name.Name.{Name}
 use Rattle.slicc_ast.specs.declared.tree.machine.Transition.{Transition}
-use Rattle.name_index.specs.Numbering.{number_among}
+use Rattle.ruby_base.specs.Numbering.{number_among}
 use Rattle.slicc_plan.specs.declared.row.Written.{Written}
 use Rattle.slicc_ast.specs.declared.tree.machine.Decl.{Decl}
 use Rattle.slicc_plan.specs.Declarations.{Declaration, is_named, named_declarations}

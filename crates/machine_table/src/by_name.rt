@@ -1,8 +1,7 @@
 //! Numbers by names.
 ghost use Rattle.std.specs.Prelude.{◌≡◌, length, IfOk};
 
-use name_index::NameIndex;
-use ruby_base::{NoMemory, Seq};
+use ruby_base::{NameIndex, NoMemory, Seq};
 use std::alloc::Global;
 
 /// Numbers that are found by names. A search takes the time of a hash of the name.

@@ -4,10 +4,10 @@ use Rattle.std.proofs.lemmas.List.{append-nil, append_assoc}
 use Rattle.std.proofs.lemmas.Option.{same_Some}
 use Rattle.run_journal.specs.declared.entry.Entry.{Entry}
 use Rattle.run_journal.specs.declared.event.Event.{Event}
-use Rattle.ruby_runs.specs.Alone.{IsAlone, IsAloneEvent}
-use Rattle.ruby_runs.specs.Rules.{Rules}
-use Rattle.ruby_runs.specs.Run.{IsRun, Ran}
-use Rattle.ruby_runs.specs.World.{World}
+use Rattle.protocol_runs.specs.Alone.{IsAlone, IsAloneEvent}
+use Rattle.protocol_runs.specs.RunRules.{Rules}
+use Rattle.protocol_runs.specs.Run.{IsRun, Ran}
+use Rattle.protocol_runs.specs.World.{World}
 use Rattle.one_worker.specs.Adds.{AddsAlone}
 
 not_nil : {A : Type 0} (before after : List A) (y : A) → [] ≡ before ++ y ∷ after → ⊥

@@ -6,9 +6,9 @@ use Rattle.ruby_value.specs.declared.setup.MachineSetup.{MachineSetup}
 use Rattle.run_journal.specs.declared.entry.End.TheVariants as end
 use Rattle.run_journal.specs.declared.entry.FireNote.{FireNote}
 use Rattle.run_journal.specs.declared.entry.StopAt.{StopAt}
-use Rattle.ruby_runs.specs.Change.{Filled, Halted, Idled}
-use Rattle.ruby_runs.specs.Rules.{Fired, Idle, Scan}
-use Rattle.ruby_runs.specs.World.{World}
+use Rattle.protocol_runs.specs.Change.{Filled, Halted, Idled}
+use Rattle.protocol_runs.specs.RunRules.{Fired, Idle, Scan}
+use Rattle.protocol_runs.specs.World.{World}
 use Rattle.ctl_face.specs.Acts.{Acts}
 use Rattle.ctl_face.specs.Again.{again}
 use Rattle.ctl_face.specs.Ctl.{Ctl}

@@ -6,11 +6,11 @@ use Rattle.run_journal.specs.declared.entry.Entry.{Entry}
 use Rattle.run_journal.specs.declared.event.Event.{Event}
 use Rattle.run_journal.specs.AreFinals.{AreFinals}
 use Rattle.run_journal.specs.Tally.{tally}
-use Rattle.ruby_runs.specs.Account.{account}
-use Rattle.ruby_runs.specs.Alone.{IsAlone}
-use Rattle.ruby_runs.specs.Rules.{Rules}
-use Rattle.ruby_runs.specs.Run.{IsRun}
-use Rattle.ruby_runs.specs.World.{World}
+use Rattle.protocol_runs.specs.Account.{account}
+use Rattle.protocol_runs.specs.Alone.{IsAlone}
+use Rattle.protocol_runs.specs.RunRules.{Rules}
+use Rattle.protocol_runs.specs.Run.{IsRun}
+use Rattle.protocol_runs.specs.World.{World}
 use Rattle.ruby_topology.specs.declared.topology.Topology.{Topology}
 use Rattle.ctl_face.specs.Ctl.{Ctl}
 use Rattle.protocol_meaning.specs.Meaning.{meaning_of}
@@ -18,7 +18,7 @@ use Rattle.protocol_meaning.specs.Setting.{setting_of}
 use Rattle.protocol_runs.specs.Rules.{rules}
 use Rattle.sequencer.specs.Drive.{Drive}
 use Rattle.sequencer.specs.Seats.{Seat}
-use Rattle.run_record.specs.declared.record.RunRecord.{RunRecord}
+use Rattle.protocol_meaning.specs.declared.record.RunRecord.{RunRecord}
 use Rattle.protocol_meaning.specs.Records as records
 use Rattle.world_events.specs.Worlds.{IsWorldOf, WorldView, rules_in}
 

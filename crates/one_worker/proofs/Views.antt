@@ -8,11 +8,11 @@ use Rattle.ruby_value.specs.declared.message.Message.{Message}
 use Rattle.run_journal.specs.declared.event.Event.{Event}
 use Rattle.run_journal.specs.declared.event.Event.TheVariants.{Done, Fire, Take, Turn}
 use Rattle.run_journal.specs.declared.verdict.Verdict.{Verdict}
-use Rattle.ruby_runs.specs.Alone.{IsAlone, IsAloneEvent, IsNextTake}
-use Rattle.ruby_runs.specs.Rules.{Rules}
-use Rattle.ruby_runs.specs.Run.{IsRun, Ran, run}
-use Rattle.ruby_runs.specs.Step.{Stepped, step}
-use Rattle.ruby_runs.specs.World.{Place, World, is_free}
+use Rattle.protocol_runs.specs.Alone.{IsAlone, IsAloneEvent, IsNextTake}
+use Rattle.protocol_runs.specs.RunRules.{Rules}
+use Rattle.protocol_runs.specs.Run.{IsRun, Ran, run}
+use Rattle.protocol_runs.specs.Step.{Stepped, step}
+use Rattle.protocol_runs.specs.World.{Place, World, is_free}
 use Rattle.ctl_face.specs.Ctl.{Ctl}
 use Rattle.ruby_topology.specs.declared.topology.Topology.{Topology}
 use Rattle.protocol_meaning.specs.Meaning.{meaning_of}

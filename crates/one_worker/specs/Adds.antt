@@ -4,10 +4,10 @@
 use Rattle.std.specs.Prelude.{◌≡◌, ◌++◌, ◌∷◌, ℕ, List}
 use Rattle.run_journal.specs.declared.entry.Entry.{Entry}
 use Rattle.run_journal.specs.declared.event.Event.{Event}
-use Rattle.ruby_runs.specs.Alone.{IsAloneEvent}
-use Rattle.ruby_runs.specs.Rules.{Rules}
-use Rattle.ruby_runs.specs.Run.{IsRun}
-use Rattle.ruby_runs.specs.World.{World}
+use Rattle.protocol_runs.specs.Alone.{IsAloneEvent}
+use Rattle.protocol_runs.specs.RunRules.{Rules}
+use Rattle.protocol_runs.specs.Run.{IsRun}
+use Rattle.protocol_runs.specs.World.{World}
 use Rattle.world_events.specs.Worlds.{WorldView, rules_in}
 use Rattle.sequencer.specs.Drive.{Drive}
 use Rattle.sequencer.specs.Seats.{Seat}

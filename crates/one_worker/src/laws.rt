@@ -1,6 +1,6 @@
 // What a world's contracts say together. These functions do nothing: their contracts are the laws.
 ghost use Rattle.std.specs.Prelude.{◌≡◌, [], ℕ, List};
-ghost use Rattle.ruby_runs.specs.Alone.{IsAlone};
+ghost use Rattle.protocol_runs.specs.Alone.{IsAlone};
 ghost use Rattle.one_worker.specs.Adds.{HasAddedAlone};
 ghost use Rattle.world_events.specs.Worlds.{WorldView, rules_in};
 ghost use Rattle.sequencer.specs.Drive.{Drive};

@@ -1,18 +1,18 @@
 //! The record of a run that has ended.
 ghost use Rattle.std.specs.Prelude.{◌≡◌, ◌∷◌, [], IfOk, Ok};
 ghost use Rattle.run_journal.specs.Tally.{tally};
-ghost use Rattle.ruby_runs.specs.Account.{account};
-ghost use Rattle.ruby_runs.specs.Alone.{IsAlone};
-ghost use Rattle.ruby_runs.specs.Run.{HasEnded};
+ghost use Rattle.protocol_runs.specs.Account.{account};
+ghost use Rattle.protocol_runs.specs.Alone.{IsAlone};
+ghost use Rattle.protocol_runs.specs.Run.{HasEnded};
 ghost use Rattle.protocol_meaning.specs.Records.{IsRecordOf, IsWholeRunBy, rules_in as rules_of};
 ghost use Rattle.world_events.specs.Worlds.{InWorld, rules_in};
 
 use crate::waking::WORKER;
+use protocol_meaning::RunRecord;
 use ruby_base::Seq;
 use ruby_options::Options;
 use ruby_value::NoMemory;
 use run_journal::{Account, Tally};
-use run_record::RunRecord;
 use sequencer::Driver;
 use std::alloc::Global;
 use world_events::World;

@@ -12,8 +12,7 @@ mod symbols;
 mod tester;
 mod topologies;
 
-use row_text::RowText;
-use ruby_outside::Library;
+use ruby_outside::{Library, RowText};
 
 /// Adds the rows of all parts, over a library with their folders.
 pub fn add_parts<L: Library>(rows: &mut RowText, library: &mut L) {

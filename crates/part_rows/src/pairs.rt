@@ -1,8 +1,7 @@
 // Which protocols are the same: of each pair of files in the folders `pairs` and `symbols` whether they are one protocol, as they are where they
 // differ in blanks and comments alone, and not where a file includes what the other has. What is expected was worked out by hand.
 use crate::protocols::plan_in;
-use row_text::RowText;
-use ruby_outside::Library;
+use ruby_outside::{Library, RowText};
 use slicc_plan::{Plan, same_plan};
 
 // A folder and a file in it.

@@ -1,8 +1,7 @@
 // The protocols whose files are read.
-use row_text::RowText;
+use controller_rows::plan_of;
 use ruby_base::NoMemory;
-use ruby_outside::Library;
-use sample_stores::plan_of;
+use ruby_outside::{Library, RowText};
 use slicc_plan::Plan;
 use std::alloc::Global;
 

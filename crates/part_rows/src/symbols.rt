@@ -6,8 +6,7 @@ mod types;
 
 use crate::protocols::plan_in;
 use list::add_list;
-use row_text::RowText;
-use ruby_outside::Library;
+use ruby_outside::{Library, RowText};
 use ruby_symbols::Symbols;
 
 // The protocols, in the folder `symbols`.

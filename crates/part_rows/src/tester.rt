@@ -8,8 +8,8 @@ mod seats;
 
 use memory::Script;
 use play::{Run, add_run};
-use row_text::RowText;
 use ruby_base::NoMemory;
+use ruby_outside::RowText;
 
 // Runs of 40 requests, at one, two and three seats.
 fn add_draws(rows: &mut RowText, seed: u64) -> Result<(), NoMemory> {

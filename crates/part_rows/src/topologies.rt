@@ -4,8 +4,7 @@
 mod answer;
 mod table;
 
-use row_text::RowText;
-use ruby_outside::{Got, Library};
+use ruby_outside::{Got, Library, RowText};
 use table::add_rows;
 
 // The file with the topologies, and the most bytes that it may have.

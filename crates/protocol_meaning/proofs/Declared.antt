@@ -22,9 +22,9 @@ use Rattle.slicc_plan.specs.SymbolsOf.{symbols_of}
 use Rattle.slicc_plan.specs.SymbolsOfTypes.{enumeration_symbol, enumeration_symbols, owner}
 use Rattle.slicc_plan.specs.TypeNumbers.{ScopedDeclaration, declared_enumerations, declared_number, declares, default_found, default_member, default_number, is_default_of, made_in, member_number, own_default, scoped_declarations}
 use Rattle.slicc_plan.specs.Types.{KnownType, enumerated, declared_type}
-use Rattle.symbol_laws.proofs.There.{There, all_there, there_filtered}
-use Rattle.symbol_laws.proofs.Types.{each_enumeration, enumeration_stands, made_at}
-use Rattle.topology_fit.proofs.Places.{at_position, map_found}
+use Rattle.slicc_plan.proofs.There.{There, all_there, there_filtered}
+use Rattle.slicc_plan.proofs.Types.{each_enumeration, enumeration_stands, made_at}
+use Rattle.protocol_meaning.proofs.Places.{at_position, map_found}
 use Rattle.protocol_meaning.specs.Extent.{Extent, IsMember, members_of}
 use Rattle.protocol_meaning.specs.Runs.{declared_extent}
 

@@ -2,8 +2,8 @@
 use Rattle.std.proofs.Common.{◌≡◌, ◌≤◌, ℕ, All, List, Some, length, slice_get}
 use Rattle.run_journal.specs.declared.entry.Entry.{Entry}
 use Rattle.run_journal.specs.declared.event.Event.{Event}
-use Rattle.ruby_runs.specs.Run.{IsRun}
-use Rattle.ruby_runs.specs.World.{Place, World}
+use Rattle.protocol_runs.specs.Run.{IsRun}
+use Rattle.protocol_runs.specs.World.{Place, World}
 use Rattle.slicc_ast.specs.declared.tree.item.Tree.{Tree}
 use Rattle.slicc_plan.specs.AllRules.{IsAccepted}
 use Rattle.ruby_topology.specs.declared.topology.Topology.{Topology}
@@ -11,8 +11,8 @@ use Rattle.ctl_face.specs.Ctl.{Ctl}
 use Rattle.ctl_face.specs.Fits.{last_cycle}
 use Rattle.sequencer.specs.Drive as own
 use Rattle.sequencer.specs.Seats.{Seat}
-use Rattle.topology_fit.specs.FitsPlan.{FitsPlan}
-use Rattle.topology_fit.specs.Setups.{ranges_of}
+use Rattle.protocol_meaning.specs.FitsPlan.{FitsPlan}
+use Rattle.protocol_meaning.specs.Setups.{ranges_of}
 use Rattle.protocol_runs.specs.IsSetting.{IsSetting}
 use Rattle.protocol_runs.specs.Rules.{rules}
 use Rattle.protocol_runs.specs.Setting.{Setting}

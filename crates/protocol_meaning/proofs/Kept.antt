@@ -19,8 +19,8 @@ use Rattle.slicc_plan.specs.Setups.{parameter_table, range_values, setup_in, set
 use Rattle.slicc_plan.specs.SymbolsOf.{symbols_of}
 use Rattle.slicc_plan.specs.SymbolsOfMachines.{machine_symbols, table_of_sort, table_symbol}
 use Rattle.slicc_plan.specs.Tables.{table_in, tables_of}
-use Rattle.symbol_laws.proofs.Machines.{symbols_at, symbols_counted}
-use Rattle.symbol_laws.proofs.There.{get_right}
+use Rattle.slicc_plan.proofs.Machines.{symbols_at, symbols_counted}
+use Rattle.slicc_plan.proofs.There.{get_right}
 use Rattle.built_in_acts.specs.declared.machines.KeptMachines.{KeptMachines}
 use Rattle.body_meaning.specs.Reading.{Reading}
 use Rattle.protocol_meaning.specs.Kept.{IsKept, KeepsRanges, kept_value}

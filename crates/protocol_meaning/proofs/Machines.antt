@@ -64,17 +64,17 @@ use Rattle.ctl_face.specs.Opening.{opening_table}
 use Rattle.ctl_face.specs.RoutesFit.{AreNumbered}
 use Rattle.ctl_face.proofs.Lines.{All-found}
 use Rattle.ruby_topology.specs.declared.topology.Topology.{Topology}
-use Rattle.topology_fit.specs.FitsPlan.{AreSizesIn, FitsPlan}
-use Rattle.topology_fit.specs.Setups.{ranges_of, setups_of}
-use Rattle.topology_fit.proofs.ByNumber.{setup_found, setups_counted, symbols_found}
-use Rattle.topology_fit.proofs.Places.{any_get, any_position, at_position}
+use Rattle.protocol_meaning.specs.FitsPlan.{AreSizesIn, FitsPlan}
+use Rattle.protocol_meaning.specs.Setups.{ranges_of, setups_of}
+use Rattle.protocol_meaning.proofs.ByNumber.{setup_found, setups_counted, symbols_found}
+use Rattle.protocol_meaning.proofs.Places.{any_get, any_position, at_position}
 use Rattle.protocol_runs.proofs.Ranges.{first-free}
 use Rattle.body_meaning.specs.Reading.{Reading}
 use Rattle.protocol_meaning.specs.Kept.{IsKept, KeepsRanges, kept_value}
 use Rattle.protocol_meaning.specs.Readings.{reading_of, reading_with}
 use Rattle.protocol_meaning.proofs.Kept.{ranges_are_kept}
-use Rattle.symbol_laws.proofs.Machines.{symbols_counted}
-use Rattle.symbol_laws.proofs.There.{There, found_passes, get_right, in_machine, machine_there, there_found}
+use Rattle.slicc_plan.proofs.Machines.{symbols_counted}
+use Rattle.slicc_plan.proofs.There.{There, found_passes, get_right, in_machine, machine_there, there_found}
 use Rattle.protocol_meaning.specs.Extent.{AreWithin, Extent, IsMember, IsWithin, members_of}
 use Rattle.protocol_meaning.proofs.Bounds.{Bounds}
 use Rattle.protocol_meaning.proofs.Reading.{ReadingWithin, TransitionWithin, bounds_of}

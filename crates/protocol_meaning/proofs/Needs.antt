@@ -36,8 +36,8 @@ use Rattle.slicc_plan.specs.Declarations.{machines_of}
 use Rattle.slicc_plan.specs.SymbolsOf.{symbols_of}
 use Rattle.slicc_plan.specs.SymbolsOfMachines.{action_symbol, machine_symbols, numbered_from}
 use Rattle.slicc_plan.specs.TableNeeds.{checks_or_none, needs}
-use Rattle.symbol_laws.specs.Numbering.{HasSymbols, need_of}
-use Rattle.symbol_laws.proofs.Numbering.{actions_written, needs_by_symbols, one_numbering, symbols_are}
+use Rattle.slicc_plan.specs.Numbering.{HasSymbols, need_of}
+use Rattle.slicc_plan.proofs.Numbering.{actions_written, needs_by_symbols, one_numbering, symbols_are}
 use Rattle.body_meaning.specs.Reading.{Reading}
 use Rattle.body_meaning.specs.Actions.{action_block, block_checked, block_of, body_of_action, checked, if_checked, is_table, names_table, need, others_checked, otherwise_checked, row_checked}
 use Rattle.protocol_meaning.specs.Readings.{reading_of, reading_with}

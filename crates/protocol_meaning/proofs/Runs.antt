@@ -27,14 +27,14 @@ use Rattle.run_journal.specs.declared.entry.FireNote.{FireNote}
 use Rattle.run_journal.specs.declared.entry.StopAt.{StopAt}
 use Rattle.run_journal.specs.declared.event.Event.{Event}
 use Rattle.run_journal.specs.declared.verdict.Verdict.TheVariants as verdict
-use Rattle.ruby_runs.specs.Change.{Change, Closes, Ends, EndedBy, Filled, FiredBy, Halted, Idled, Move, Moves, Released, Taken, Turns}
-use Rattle.ruby_runs.specs.Premises as runs
-use Rattle.ruby_runs.specs.Rules.{Acts, Fired, Full, Idle, Outcome, Rules, Scan, Stop}
-use Rattle.ruby_runs.specs.Run.{IsRun, Ran}
-use Rattle.ruby_runs.specs.Step.{Moved, Stepped, after_driver, driver_turn_in, fired_entry, with_driver_turn}
-use Rattle.ruby_runs.specs.World.{Place, World}
-use Rattle.ruby_runs.proofs.Fitting as fitting_runs
-use Rattle.ruby_runs.proofs.Runs.{hold-along}
+use Rattle.protocol_runs.specs.Change.{Change, Closes, Ends, EndedBy, Filled, FiredBy, Halted, Idled, Move, Moves, Released, Taken, Turns}
+use Rattle.protocol_runs.specs.Premises as runs
+use Rattle.protocol_runs.specs.RunRules.{Acts, Fired, Full, Idle, Outcome, Rules, Scan, Stop}
+use Rattle.protocol_runs.specs.Run.{IsRun, Ran}
+use Rattle.protocol_runs.specs.Step.{Moved, Stepped, after_driver, driver_turn_in, fired_entry, with_driver_turn}
+use Rattle.protocol_runs.specs.World.{Place, World}
+use Rattle.protocol_runs.proofs.Fitting as fitting_runs
+use Rattle.protocol_runs.proofs.Runs.{hold-along}
 use Rattle.slicc_ast.specs.declared.tree.item.Tree.{Tree}
 use Rattle.slicc_plan.specs.SymbolsOf.{symbols_of}
 use Rattle.ctl_face.specs.Between.{DriverAct, Issues, Takes, after_driver_acts, at_cycle, with_arrival, with_one_fired, with_request, with_stop, with_wake_up, without_first_answer}

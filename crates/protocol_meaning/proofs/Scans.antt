@@ -11,8 +11,8 @@ use Rattle.ruby_symbols.specs.declared.machine.TransitionSymbol.{TransitionSymbo
 use Rattle.ruby_symbols.specs.declared.symbols.Symbols.{Symbols}
 use Rattle.run_journal.specs.declared.entry.FireNote.{FireNote}
 use Rattle.run_journal.specs.declared.entry.StopAt.{StopAt}
-use Rattle.ruby_runs.specs.InvalidExactly.{invalid_at}
-use Rattle.ruby_runs.specs.Rules.{Acts, Fired, Full, Idle, Outcome, Scan, Stop, Tried as RunTried}
+use Rattle.protocol_runs.specs.InvalidExactly.{invalid_at}
+use Rattle.protocol_runs.specs.RunRules.{Acts, Fired, Full, Idle, Outcome, Scan, Stop, Tried as RunTried}
 use Rattle.slicc_ast.specs.declared.tree.item.Tree.{Tree}
 use Rattle.slicc_ast.specs.declared.tree.machine.Machine.{Machine}
 use Rattle.slicc_plan.specs.Declarations.{machines_of}

@@ -7,9 +7,9 @@ use Rattle.slicc_ast.specs.declared.tree.item.Tree.{Tree}
 use Rattle.slicc_plan.specs.SymbolsOf.{symbols_of}
 use Rattle.ruby_topology.specs.declared.topology.Topology.{Topology}
 use Rattle.ctl_face.specs.Fits.{last_cycle}
-use Rattle.topology_fit.specs.FitsPlan.{FitsPlan, IsSeat}
-use Rattle.topology_fit.specs.Seats.{seat_setup, seat_setups}
-use Rattle.topology_fit.specs.Setups.{ranges_of}
+use Rattle.protocol_meaning.specs.FitsPlan.{FitsPlan, IsSeat}
+use Rattle.protocol_meaning.specs.Seats.{seat_setup, seat_setups}
+use Rattle.protocol_meaning.specs.Setups.{ranges_of}
 use Rattle.protocol_runs.specs.IsSetting.{HasQueue, IsSetting}
 use Rattle.protocol_runs.specs.Machines.{setup_of}
 use Rattle.protocol_runs.specs.Setting.{SeatSetup, Setting}

@@ -29,7 +29,7 @@ use Rattle.slicc_plan.specs.SymbolsOf.{symbols_of}
 use Rattle.slicc_plan.specs.SymbolsOfTypes.{field_of_type, field_symbol, field_symbols, owner, request_field, request_symbol, structure_declared, structure_symbol, structure_symbols}
 use Rattle.slicc_plan.specs.TypeNumbers.{ScopedDeclaration, built_in_kind, declared_number, declared_structures, default_member, is_default_of, kind_or_bool, made_in, made_with_its_own, member_number, plain_kind, scoped_declarations}
 use Rattle.slicc_plan.specs.Types.{KnownType, built_in, enumerated, structured, declared_type, external_type, global_type, structure_type, table_named, type_in, type_of_found, type_where}
-use Rattle.symbol_laws.proofs.There.{There, in_machine, there_first, there_flat, there_found, there_later}
+use Rattle.slicc_plan.proofs.There.{There, in_machine, there_first, there_flat, there_found, there_later}
 use Rattle.protocol_meaning.specs.Extent.{Extent, IsMember, IsWithin, members_of}
 use Rattle.protocol_meaning.specs.Runs.{declared_extent}
 use Rattle.protocol_meaning.proofs.Declared.{L, counted, default_within, listed, names_in, text_in}

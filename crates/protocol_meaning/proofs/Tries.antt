@@ -6,7 +6,7 @@ use Rattle.ruby_value.specs.declared.fault.Fault.{Fault}
 use Rattle.ruby_value.specs.declared.fault.Fault.TheVariants.{Invalid}
 use Rattle.ruby_value.proofs.Contained.{Contains-cons_cases, Contains-cons_here, Contains-cons_there}
 use Rattle.run_journal.specs.declared.entry.StopAt.{StopAt}
-use Rattle.ruby_runs.specs.InvalidExactly.{invalid_at}
+use Rattle.protocol_runs.specs.InvalidExactly.{invalid_at}
 use Rattle.ctl_face.specs.LocalView.{LocalView}
 use Rattle.acts.specs.declared.body_fault.BodyFault.{BodyFault}
 use Rattle.acts.specs.declared.body_fault.BodyFault.TheVariants as own

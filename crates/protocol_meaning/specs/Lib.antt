@@ -8,3 +8,6 @@ pub mod Adding
 pub mod Extent
 pub mod Held
 pub mod Runs
+pub mod FitsPlan
+pub mod Seats
+pub mod Setups

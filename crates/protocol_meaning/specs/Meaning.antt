@@ -6,7 +6,7 @@ use Rattle.std.specs.List.{list_any}
 use Rattle.slicc_ast.specs.declared.tree.item.Tree.{Tree}
 use Rattle.ruby_value.specs.declared.message.Message.{Message}
 use Rattle.ruby_symbols.specs.declared.machine.MachineSymbols.{MachineSymbols}
-use Rattle.ruby_runs.specs.Rules.{Fired, Full, Idle, Outcome, Scan, Stop, Tried}
+use Rattle.protocol_runs.specs.RunRules.{Fired, Full, Idle, Outcome, Scan, Stop, Tried}
 use Rattle.ctl_face.specs.Ctl.{Ctl}
 use Rattle.ctl_face.specs.LocalView.{LocalView}
 use Rattle.body_meaning.specs.Reading.{Reading}

@@ -5,16 +5,16 @@ use Rattle.std.specs.Prelude.{◌≡◌, ℕ, Some, List, [], ◌∷◌}
 use Rattle.ruby_value.specs.declared.message.Message.{Message}
 use Rattle.run_journal.specs.AreFinals.{AreFinals}
 use Rattle.run_journal.specs.Tally.{tally}
-use Rattle.ruby_runs.specs.Account.{account}
-use Rattle.ruby_runs.specs.Rules.{Rules}
-use Rattle.ruby_runs.specs.Run.{HasEnded, IsRun}
-use Rattle.ruby_runs.specs.World.{World}
+use Rattle.protocol_runs.specs.Account.{account}
+use Rattle.protocol_runs.specs.RunRules.{Rules}
+use Rattle.protocol_runs.specs.Run.{HasEnded, IsRun}
+use Rattle.protocol_runs.specs.World.{World}
 use Rattle.ctl_face.specs.Ctl.{Ctl}
 use Rattle.protocol_meaning.specs.Meaning.{meaning_of}
 use Rattle.protocol_meaning.specs.Setting.{setting_of}
 use Rattle.protocol_runs.specs.Rules.{rules}
 use Rattle.protocol_runs.specs.Setting.{Setting}
-use Rattle.run_record.specs.declared.record.RunRecord.{RunRecord}
+use Rattle.protocol_meaning.specs.declared.record.RunRecord.{RunRecord}
 use Rattle.sequencer.specs.Drive.{Drive}
 use Rattle.sequencer.specs.Seats.{Seat}
 

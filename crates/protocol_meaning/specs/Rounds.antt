@@ -2,7 +2,7 @@
 -- was done to messages; of one in which nothing fires it is the controller as it was, but for the mark of a stall. And that a scan that
 -- fires goes on in the same scan.
 use Rattle.ruby_value.specs.declared.message.Message.{Message}
-use Rattle.ruby_runs.specs.Rules.{Outcome}
+use Rattle.protocol_runs.specs.RunRules.{Outcome}
 use Rattle.ctl_face.specs.Ctl.{Ctl}
 use Rattle.ctl_face.specs.LocalView.{LocalView, SameScan}
 use Rattle.body_meaning.specs.declared.round.RoundEnd.{RoundEnd}

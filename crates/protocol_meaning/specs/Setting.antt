@@ -5,8 +5,8 @@ use Rattle.std.specs.Prelude.{ℕ, List}
 use Rattle.slicc_ast.specs.declared.tree.item.Tree.{Tree}
 use Rattle.slicc_plan.specs.SymbolsOf.{symbols_of}
 use Rattle.ruby_topology.specs.declared.topology.Topology.{Topology}
-use Rattle.topology_fit.specs.Seats.{seat_setups}
-use Rattle.topology_fit.specs.Setups.{ranges_of, setups_of}
+use Rattle.protocol_meaning.specs.Seats.{seat_setups}
+use Rattle.protocol_meaning.specs.Setups.{ranges_of, setups_of}
 use Rattle.protocol_runs.specs.Setting.{Setting}
 
 abbrev pub setting_of : {D : Type 0} → List Tree → Topology → (seed cycles limit : ℕ) → D → Setting D

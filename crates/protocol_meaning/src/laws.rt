@@ -13,7 +13,7 @@ ghost use Rattle.ruby_topology.specs.declared.topology.Topology.{Topology as Top
 ghost use Rattle.ctl_face.specs.Fits.{last_cycle};
 ghost use Rattle.ctl_face.specs.LocalView.{LocalView};
 ghost use Rattle.body_meaning.specs.Reading.{Reading};
-ghost use Rattle.topology_fit.specs.FitsPlan.{FitsPlan};
+ghost use Rattle.protocol_meaning.specs.FitsPlan.{FitsPlan};
 ghost use Rattle.protocol_runs.specs.IsSetting.{IsSetting};
 ghost use Rattle.protocol_runs.specs.Meaning.{IsMeaning};
 ghost use Rattle.body_meaning.specs.declared.round.RoundEnd.{RoundEnd as RoundRecord};

@@ -3,22 +3,22 @@ use Rattle.std.proofs.Common.{◌≡◌, ◌+◌, ◌∙◌, ℕ, List, None, So
 use Rattle.std.proofs.lemmas.Option.{same_Some}
 use Rattle.run_journal.specs.declared.entry.Entry.{Entry}
 use Rattle.run_journal.specs.declared.event.Event.{Event}
-use Rattle.ruby_runs.specs.Account.{IsAccounted, account}
-use Rattle.ruby_runs.specs.Alone.{IsAlone}
-use Rattle.ruby_runs.specs.Fresh.{HasFreshNumbers}
-use Rattle.ruby_runs.specs.InvalidExactly.{InvalidExactly}
-use Rattle.ruby_runs.specs.MarksStay.{MarksStay}
-use Rattle.ruby_runs.specs.Step.{Stepped, step}
-use Rattle.ruby_runs.specs.Run.{HasEnded, IsRun, Ran}
-use Rattle.ruby_runs.specs.WakesOnce.{WakesOnce}
-use Rattle.ruby_runs.specs.World.{Place, World}
-use Rattle.ruby_runs.proofs.Accounted as accounting
-use Rattle.ruby_runs.proofs.Fitting as fitting
-use Rattle.ruby_runs.proofs.Fresh.{fresh-numbers}
-use Rattle.ruby_runs.proofs.Invalid as invalid
-use Rattle.ruby_runs.proofs.Marks.{marks-stay}
-use Rattle.ruby_runs.proofs.OneRun as one
-use Rattle.ruby_runs.proofs.Woken as waking
+use Rattle.protocol_runs.specs.Account.{IsAccounted, account}
+use Rattle.protocol_runs.specs.Alone.{IsAlone}
+use Rattle.protocol_runs.specs.Fresh.{HasFreshNumbers}
+use Rattle.protocol_runs.specs.InvalidExactly.{InvalidExactly}
+use Rattle.protocol_runs.specs.MarksStay.{MarksStay}
+use Rattle.protocol_runs.specs.Step.{Stepped, step}
+use Rattle.protocol_runs.specs.Run.{HasEnded, IsRun, Ran}
+use Rattle.protocol_runs.specs.WakesOnce.{WakesOnce}
+use Rattle.protocol_runs.specs.World.{Place, World}
+use Rattle.protocol_runs.proofs.Accounted as accounting
+use Rattle.protocol_runs.proofs.Fitting as fitting
+use Rattle.protocol_runs.proofs.Fresh.{fresh-numbers}
+use Rattle.protocol_runs.proofs.Invalid as invalid
+use Rattle.protocol_runs.proofs.Marks.{marks-stay}
+use Rattle.protocol_runs.proofs.OneRun as one
+use Rattle.protocol_runs.proofs.Woken as waking
 use Rattle.ctl_face.specs.Ctl.{Ctl}
 use Rattle.sequencer.specs.Drive.{Drive}
 use Rattle.sequencer.specs.Seats.{FitSeats, Seat}

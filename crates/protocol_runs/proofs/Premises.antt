@@ -15,11 +15,11 @@ use Rattle.ruby_value.specs.declared.setup.MachineSetup.{MachineSetup}
 use Rattle.ruby_value.specs.NumberBefore.{number_before, same_number}
 use Rattle.run_journal.specs.declared.entry.FireNote.{FireNote}
 use Rattle.run_journal.specs.declared.entry.StopAt.{StopAt}
-use Rattle.ruby_runs.specs.Account.{times}
-use Rattle.ruby_runs.specs.InvalidExactly.{IsInvalidTry, invalid_at}
-use Rattle.ruby_runs.specs.Premises as runs
-use Rattle.ruby_runs.specs.Rules as runs_rules
-use Rattle.ruby_runs.specs.Rules.{Acts, Fired, Idle, Rules, Stop, Tried}
+use Rattle.protocol_runs.specs.Account.{times}
+use Rattle.protocol_runs.specs.InvalidExactly.{IsInvalidTry, invalid_at}
+use Rattle.protocol_runs.specs.Premises as runs
+use Rattle.protocol_runs.specs.RunRules as runs_rules
+use Rattle.protocol_runs.specs.RunRules.{Acts, Fired, Idle, Rules, Stop, Tried}
 use Rattle.ctl_face.specs.ActsFit.{numbers_in}
 use Rattle.ctl_face.specs.Between.{with_arrival, with_one_fired, with_stop, with_wake_up}
 use Rattle.ctl_face.specs.Ctl.{Ctl, InboxMessage, Mail}

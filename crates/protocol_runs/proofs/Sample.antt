@@ -7,7 +7,7 @@ use Rattle.ruby_value.specs.declared.message.Delivery.{Delivery}
 use Rattle.ruby_value.specs.declared.message.Message.{Message}
 use Rattle.run_journal.specs.declared.entry.FireNote.{FireNote}
 use Rattle.run_journal.specs.declared.entry.StopAt.{StopAt}
-use Rattle.ruby_runs.specs.Rules.{Acts, Fired, Full, Idle, Outcome, Stop, Tried}
+use Rattle.protocol_runs.specs.RunRules.{Acts, Fired, Full, Idle, Outcome, Stop, Tried}
 use Rattle.ctl_face.specs.Ctl.{Ctl}
 use Rattle.ctl_face.specs.LocalView.{LocalView}
 use Rattle.ctl_face.specs.ScanView.{scan_view}

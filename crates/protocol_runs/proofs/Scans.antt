@@ -7,10 +7,10 @@ use Rattle.ruby_value.specs.declared.message.Delivery.{Delivery}
 use Rattle.ruby_value.specs.declared.message.Message.{Message}
 use Rattle.ruby_value.specs.declared.message.Sent.{Sent}
 use Rattle.ruby_value.specs.declared.setup.MachineSetup.{MachineSetup}
-use Rattle.ruby_runs.specs.Premises as runs
-use Rattle.ruby_runs.specs.Rules as runs_rules
-use Rattle.ruby_runs.specs.Rules.{Rules}
-use Rattle.ruby_runs.specs.Step.{delivery_numbers}
+use Rattle.protocol_runs.specs.Premises as runs
+use Rattle.protocol_runs.specs.RunRules as runs_rules
+use Rattle.protocol_runs.specs.RunRules.{Rules}
+use Rattle.protocol_runs.specs.Step.{delivery_numbers}
 use Rattle.ctl_face.specs.ActsFit.{numbers_in}
 use Rattle.ctl_face.specs.Between.{with_one_fired}
 use Rattle.ctl_face.specs.Ctl.{Ctl, InboxMessage}

@@ -18,9 +18,9 @@ use Rattle.ruby_value.specs.declared.setup.MachineSetup.{MachineSetup}
 use Rattle.ruby_value.specs.HasKinds.{has_kinds}
 use Rattle.ruby_value.specs.NumbersFrom.{numbers_from}
 use Rattle.ruby_value.proofs.Ordered.{AllPairs-head, AllPairs-nil, AllPairs-tail}
-use Rattle.ruby_runs.specs.Premises as runs
-use Rattle.ruby_runs.specs.Rules.{Rules}
-use Rattle.ruby_runs.specs.Step.{delivery_numbers}
+use Rattle.protocol_runs.specs.Premises as runs
+use Rattle.protocol_runs.specs.RunRules.{Rules}
+use Rattle.protocol_runs.specs.Step.{delivery_numbers}
 use Rattle.ctl_face.specs.Between.{DriverAct, IsDriverAct, Issues, Takes, after_driver_act, after_driver_acts}
 use Rattle.ctl_face.specs.Ctl.{Ctl, Mail}
 use Rattle.acts.specs.Kept.{AreMarked}

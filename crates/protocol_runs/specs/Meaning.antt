@@ -12,8 +12,8 @@ use Rattle.ruby_value.specs.declared.message.Message.{Message}
 use Rattle.ruby_value.specs.declared.setup.MachineSetup.{MachineSetup}
 use Rattle.run_journal.specs.declared.entry.FireNote.{FireNote}
 use Rattle.run_journal.specs.declared.entry.StopAt.{StopAt}
-use Rattle.ruby_runs.specs.InvalidExactly.{invalid_at}
-use Rattle.ruby_runs.specs.Rules.{Acts, Fired, Idle, Scan, Stop, Tried}
+use Rattle.protocol_runs.specs.InvalidExactly.{invalid_at}
+use Rattle.protocol_runs.specs.RunRules.{Acts, Fired, Idle, Scan, Stop, Tried}
 use Rattle.ctl_face.specs.Acts as face
 use Rattle.ctl_face.specs.Between.{with_wake_up}
 use Rattle.ctl_face.specs.Ctl.{Ctl}

@@ -4,7 +4,7 @@
 use Rattle.std.specs.Prelude.{ℕ, Bool, false, Option, None, Some, List, [], ◌∷◌, ◌++◌, length, map, replicate, is_some, slice_get}
 use Rattle.ruby_value.specs.declared.message.Message.{Message}
 use Rattle.ruby_value.specs.declared.setup.MachineSetup.{MachineSetup}
-use Rattle.ruby_runs.specs.Rules.{DriverTurn, Idle, Mailed, Rules, Scan}
+use Rattle.protocol_runs.specs.RunRules.{DriverTurn, Idle, Mailed, Rules, Scan}
 use Rattle.ctl_face.specs.Between.{at_cycle, with_message, with_one_fired, with_stop, with_wake_up}
 use Rattle.ctl_face.specs.Ctl.{Ctl, InboxMessage}
 use Rattle.ctl_face.specs.Opening.{opening_ctl}

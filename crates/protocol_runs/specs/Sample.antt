@@ -14,10 +14,10 @@ use Rattle.run_journal.specs.declared.entry.Entry.{Entry}
 use Rattle.run_journal.specs.declared.event.Event.{Event}
 use Rattle.run_journal.specs.declared.event.Event.TheVariants.{Take, Fire, Done as GivenBack, Turn}
 use Rattle.run_journal.specs.declared.verdict.Verdict.TheVariants as verdict
-use Rattle.ruby_runs.specs.Account.{consumed_numbers}
-use Rattle.ruby_runs.specs.Rules.{Fired, Full, Idle, Outcome, Rules, Stop}
-use Rattle.ruby_runs.specs.Run.{IsRun}
-use Rattle.ruby_runs.specs.World.{World}
+use Rattle.protocol_runs.specs.Account.{consumed_numbers}
+use Rattle.protocol_runs.specs.RunRules.{Fired, Full, Idle, Outcome, Rules, Stop}
+use Rattle.protocol_runs.specs.Run.{IsRun}
+use Rattle.protocol_runs.specs.World.{World}
 use Rattle.ctl_face.specs.Ctl.{Ctl}
 use Rattle.ctl_face.specs.declared.routes.Routes.{Routes}
 use Rattle.ctl_face.specs.IsMachine.{network_count}

@@ -1,5 +1,6 @@
-//! What a run of a protocol is, over whatever its scans do and over any driver: an instance of the rules of runs, with its premises and
-//! laws. There is no code here; the functions do nothing, and their contracts are the laws.
+//! What a run is: worlds, events, steps, verdicts and accounts, over any controllers, messages and driver, and the laws of every run.
+//! What a run of a protocol is, over whatever its scans do and over any driver: an instance of these rules, with its premises and laws.
+//! There is no code here: the definitions stand in `specs/`, and the functions do nothing, and their contracts are the laws.
 #![tactic(auto)]
 
 mod laws;

@@ -1,7 +1,7 @@
 // The premises can be met.
 ghost use Rattle.std.specs.Prelude.{ℕ, List};
 ghost use Rattle.run_journal.specs.declared.entry.Entry.{Entry as EntryRecord};
-ghost use Rattle.ruby_runs.specs.World.{World};
+ghost use Rattle.protocol_runs.specs.World.{World};
 ghost use Rattle.ctl_face.specs.Ctl.{Ctl};
 ghost use Rattle.protocol_runs.specs.IsSetting.{IsSetting};
 ghost use Rattle.protocol_runs.specs.Meaning.{IsMeaning};

@@ -6,8 +6,7 @@ ghost use Rattle.declared_types.specs.Lent.{scope_of};
 ghost use Rattle.type_numbers.specs.Numbered.{AreNumbered, scoped_of, trees_of};
 
 use crate::names::{add_texts, place_named};
-use built_ins::fixed_members;
-use declared_types::{Declared, Scope};
+use declared_types::{Declared, Scope, fixed_members};
 use ruby_base::{NoMemory, Seq, Text};
 use ruby_symbols::EnumerationSymbol;
 use slicc_plan::BuiltInType;

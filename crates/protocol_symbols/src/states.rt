@@ -6,12 +6,11 @@ ghost use Rattle.slicc_ast.specs.declared.tree.declaration.State.{State as State
 ghost use Rattle.slicc_plan.specs.Declarations.{enumeration};
 ghost use Rattle.slicc_plan.specs.Declarations.{states as states_declaration};
 ghost use Rattle.slicc_plan.specs.SymbolsOfMachines.{number_of_found, permission_number, permissions_found};
-ghost use Rattle.built_ins.specs.Types.{texts_of};
+ghost use Rattle.declared_types.specs.Types.{texts_of};
 ghost use Rattle.type_numbers.specs.Numbered.{AreNumbered, trees_of};
 
 use crate::names::place_named;
-use built_ins::fixed_members;
-use declared_types::{KnownType, Scope};
+use declared_types::{KnownType, Scope, fixed_members};
 use ruby_base::{NoMemory, Seq};
 use slicc_ast::tree::{Enumeration, Machine, State, States};
 use slicc_plan::BuiltInType;

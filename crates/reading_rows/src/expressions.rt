@@ -3,8 +3,8 @@ ghost use Rattle.std.specs.Prelude.{◌≤◌, length};
 ghost use Rattle.slicc_lex.specs.Syntax.{AreEnded};
 
 use crate::forms::Reading;
-use row_text::RowText;
 use ruby_base::Seq;
+use ruby_outside::RowText;
 use slicc_ast::tree::{Expr, Operand, Operator, Span, Suffix};
 use slicc_expr::expr;
 use slicc_lex::Token;

@@ -3,8 +3,8 @@ ghost use Rattle.std.specs.Prelude.{◌≤◌, length};
 ghost use Rattle.slicc_parse.specs.Parsed.{AreEndedOnce};
 
 use machine_table::build_of_trees;
-use row_text::RowText;
 use ruby_base::{Seq, Text};
+use ruby_outside::RowText;
 use slicc_ast::tree::Tree;
 use slicc_flow::flow_of_trees;
 use slicc_lex::Token;

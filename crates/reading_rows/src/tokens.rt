@@ -1,5 +1,5 @@
 // Tokens of texts, and places in them.
-use row_text::RowText;
+use ruby_outside::RowText;
 use slicc_ast::tree::Span;
 use slicc_lex::{Sign, Token, TokenKind, Word, place_of};
 

@@ -2,10 +2,11 @@
 // the rows of a list, and of each are printed a line `== LINE`, what the sink then holds, the status, and whether a record is kept.
 use crate::row::{add, row_of};
 use crate::table::end_of;
-use row_text::RowText;
 use ruby_base::{NoMemory, Seq, Text};
 use ruby_cli::ruby;
-use ruby_outside::{Got, Library, MemLibrary, MemSink, OpenGate, Sink, SureLibrary, SureSink};
+use ruby_outside::{
+    Got, Library, MemLibrary, MemSink, OpenGate, RowText, Sink, SureLibrary, SureSink,
+};
 use std::alloc::Global;
 use std::sync::Wait;
 use std::thread::Threads;

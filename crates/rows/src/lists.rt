@@ -1,9 +1,8 @@
 // The lists of rows, each a file with a row in each line.
 use crate::row::add;
 use crate::{faults, table};
-use row_text::RowText;
 use ruby_base::NoMemory;
-use ruby_outside::{Got, Library};
+use ruby_outside::{Got, Library, RowText};
 use std::alloc::Global;
 use std::sync::Wait;
 use std::thread::Threads;

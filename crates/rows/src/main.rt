@@ -3,8 +3,8 @@
 //! the program is run in, so that the calls in `data/calls` and their answers in `stdout` are rows of a table: each says what the whole
 //! program makes of a protocol, and a further row is a file and its lines, and no proof. After them come the calls of the file `faults`, over
 //! libraries and sinks in memory; the runs of the file `worlds/rows`, whose requests are those of a script; the rows of parts of the program,
-//! by `part_rows`; of what is read in texts, of the parts of controllers, of what comes in and goes out and of command lines, by
-//! `reading_rows`, `controller_rows` and `outside_rows`; and the scans of small protocols, by `scan_rows`.
+//! by `part_rows`; of what is read in texts, by `reading_rows`; of the parts of controllers, by `controller_rows`; of what comes in and
+//! goes out and of command lines, by `reading_rows` again; and the scans of small protocols, by `scan_rows`.
 //!
 //! With words, it makes one run of its own, which is for `bench/world`.
 #![tactic(auto)]
@@ -17,12 +17,10 @@ mod worlds;
 
 use controller_rows::add_controllers;
 use lists::{List, add_list};
-use outside_rows::{add_options, add_outside};
 use part_rows::add_parts;
-use reading_rows::add_readings;
-use row_text::RowText;
+use reading_rows::{add_options, add_outside, add_readings};
 use ruby_options::words;
-use ruby_outside::{FileLibrary, Library, Sink, StdSink, put};
+use ruby_outside::{FileLibrary, Library, RowText, Sink, StdSink, put};
 use scan_rows::add_scans;
 use std::alloc::Global;
 use std::process::ExitCode;

@@ -2,8 +2,8 @@
 ghost use Rattle.std.specs.Prelude.{◌≡◌, ◌++◌, IfOk, OnOk};
 ghost use Rattle.rows.specs.Row.{ending_of, row_of as row_of_call, status_line};
 
-use row_text::RowText;
 use ruby_base::{NoMemory, Text};
+use ruby_outside::RowText;
 use std::alloc::Global;
 
 // What comes after a text.

@@ -2,3 +2,15 @@ pub mod Counting
 pub mod Following
 pub mod NoPairShared
 pub mod RowsBelow
+pub mod ReadsMade
+pub mod OnePlain
+pub mod WholeRuns
+pub mod OneRecord
+pub mod OneAnswer
+pub mod OverFiles
+pub mod RightRuns
+pub mod Causes
+pub mod Clauses
+pub mod Steps
+pub mod Answering
+pub mod MadeRuns

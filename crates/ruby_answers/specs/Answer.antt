@@ -2,7 +2,7 @@
 use Rattle.std.specs.Prelude.{ℕ, Bool, Option, None, Some, if◌then◌else◌}
 use Rattle.run_journal.specs.declared.verdict.Verdict.{Verdict}
 use Rattle.run_journal.specs.declared.verdict.Verdict.TheVariants.{Passed, Quiet}
-use Rattle.run_record.specs.declared.record.RunRecord.{RunRecord}
+use Rattle.protocol_meaning.specs.declared.record.RunRecord.{RunRecord}
 use Rattle.ruby_answers.specs.declared.answer.Answer.{Answer}
 use Rattle.ruby_answers.specs.declared.answer.Answer.TheVariants.{Ran, Generated, Accepted, Tabled, Usage, Refused, Unfit, Absent, TooLarge, ReadFault}
 use Rattle.ruby_answers.specs.declared.done.Done.{Done}

@@ -1,3 +1,16 @@
 pub mod Answer
 pub mod Tables
 pub mod Text
+pub mod Call
+pub mod Find
+pub mod Headline
+pub mod Record
+pub mod Right
+pub mod Words
+pub mod Generated
+pub use Rattle.ruby_answers.specs.Call
+pub use Rattle.ruby_answers.specs.Find
+pub use Rattle.ruby_answers.specs.Headline
+pub use Rattle.ruby_answers.specs.Record
+pub use Rattle.ruby_answers.specs.Right
+pub use Rattle.ruby_answers.specs.Words

@@ -19,7 +19,7 @@ use Rattle.trace_print.specs.Entries.{entry_lines}
 use Rattle.trace_print.specs.Lines.{line_of, numbered, place}
 use Rattle.trace_print.specs.Names.{controller_machine, state_word}
 use Rattle.trace_print.specs.Rows.{row_lines}
-use Rattle.run_record.specs.declared.record.RunRecord.{RunRecord}
+use Rattle.protocol_meaning.specs.declared.record.RunRecord.{RunRecord}
 use Rattle.ruby_answers.specs.declared.answer.Answer.{Answer}
 use Rattle.ruby_answers.specs.declared.answer.Answer.TheVariants.{Ran, Generated, Accepted, Tabled, Usage, Refused, Unfit, Absent, TooLarge, ReadFault}
 

@@ -2,9 +2,9 @@
 ghost use Rattle.std.specs.Prelude.{◌≡◌};
 ghost use Rattle.ruby_answers.specs.Answer.{status_of, verdict_status as verdict_status_of};
 
+use protocol_meaning::RunRecord;
 use ruby_base::{Seq, Text};
 use run_journal::Verdict;
-use run_record::RunRecord;
 use slicc_front::Refused;
 use slicc_plan::{Counts, Plan, Row};
 

@@ -4,7 +4,7 @@ ghost use Rattle.std.specs.Process.{exit_status};
 ghost use Rattle.ruby_answers.specs.Answer.{done_of, out_of_memory as out_of_memory_done};
 
 use crate::Answer;
-use run_record::RunRecord;
+use protocol_meaning::RunRecord;
 use std::process::ExitCode;
 
 // The status where the sink met a fault.

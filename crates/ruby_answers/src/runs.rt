@@ -5,10 +5,10 @@ ghost use Rattle.slicc_plan.specs.SymbolsOf.{symbols_of};
 ghost use Rattle.trace_print.specs.Entries.{entry_lines};
 ghost use Rattle.trace_print.specs.Pieces.{AreLinesPut, IsLinePut};
 
+use protocol_meaning::RunRecord;
 use ruby_base::{Seq, Text};
 use ruby_outside::Sink;
 use run_journal::Entry;
-use run_record::RunRecord;
 use slicc_plan::{Plan, counts};
 use trace_print::{
     RunText, Word, controller_machine, state_word, write_entry, write_rest, write_verdict,

@@ -1,2 +1,4 @@
 pub mod Lends
 pub mod formers
+pub mod Numbering
+pub mod Finds

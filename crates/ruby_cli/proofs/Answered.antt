@@ -9,9 +9,9 @@ use Rattle.ruby_answers.specs.declared.answer.Answer.{Answer}
 use Rattle.ruby_answers.specs.declared.done.Done.{Done}
 use Rattle.ruby_answers.specs.Answer.{done_of, out_of_memory}
 use Rattle.ruby_answers.specs.Text.{lines_of}
-use Rattle.found_answers.specs.Call.{IsAnswered, IsReadOnce}
-use Rattle.found_answers.specs.Find.{IsFoundBy}
-use Rattle.found_answers.specs.Right.{IsRight}
+use Rattle.ruby_answers.specs.Call.{IsAnswered, IsReadOnce}
+use Rattle.ruby_answers.specs.Find.{IsFoundBy}
+use Rattle.ruby_answers.specs.Right.{IsRight}
 
 module _ {L S : Type 0} (reads : L → List ℕ → ℕ → Got → L → Type 0) (writes : S → List ℕ → Wrote → S → Type 0) (o : Options) where
   pub answered : (library library' : L) (sink sink' : S) (a : Answer) (whole : Bool) (d : Done)

@@ -19,9 +19,9 @@ use Rattle.ruby_options.specs.Within.{IsWithin}
 use Rattle.ruby_options.proofs.Between.{are_within}
 use Rattle.ruby_answers.specs.declared.done.Done.{Done}
 use Rattle.ruby_answers.specs.Answer.{out_of_memory}
-use Rattle.found_answers.specs.Call.{IsAnswered, IsBeginning, IsUsageAnswered}
-use Rattle.found_answers.specs.Right.{IsReadBy}
-use Rattle.found_answers.specs.Words as words
+use Rattle.ruby_answers.specs.Call.{IsAnswered, IsBeginning, IsUsageAnswered}
+use Rattle.ruby_answers.specs.Right.{IsReadBy}
+use Rattle.ruby_answers.specs.Words as words
 
 -- over plain values, since the options that words give are long
 ok-is : {A E : Type 0} (x y : A) → ◌≡◌ {A = Result A E} (Ok x) (Ok y) → x ≡ y

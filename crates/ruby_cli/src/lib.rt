@@ -5,9 +5,8 @@
 mod program;
 mod top;
 
-pub use found_answers::{answers_are_one, clauses_follow};
 pub use program::ruby;
-pub use ruby_answers::{Answer, Done, exit_code};
+pub use ruby_answers::{Answer, Done, answers_are_one, clauses_follow, exit_code};
 pub use ruby_options::{Command, Options};
 pub use slicc_front::Refused;
 pub use slicc_plan::Counts;

@@ -1,15 +1,14 @@
 // The top call over the words of a command line.
 ghost use Rattle.std.specs.Prelude.{IfSome, map, string_bytes};
 ghost use Rattle.ruby_outside.specs.Faults.{Rose};
-ghost use Rattle.found_answers.specs.Call.{IsAnswered, IsUsageAnswered};
-ghost use Rattle.found_answers.specs.Headline.{IsWokenOnce, IsMessageAccount, IsInvalidExactly, IsTallied, IsAsAsked, IsAsWritten, IsCaused, IsComplete, IsByOneWorker};
-ghost use Rattle.found_answers.specs.Record.{IsWholeRun};
-ghost use Rattle.found_answers.specs.Words.{asked_by};
+ghost use Rattle.ruby_answers.specs.Call.{IsAnswered, IsUsageAnswered};
+ghost use Rattle.ruby_answers.specs.Headline.{IsWokenOnce, IsMessageAccount, IsInvalidExactly, IsTallied, IsAsAsked, IsAsWritten, IsCaused, IsComplete, IsByOneWorker};
+ghost use Rattle.ruby_answers.specs.Record.{IsWholeRun};
+ghost use Rattle.ruby_answers.specs.Words.{asked_by};
 
 use crate::top::ruby_alone;
 use crate::{Answer, Done};
-use found_answers::clauses_follow;
-use ruby_answers::write_answer;
+use ruby_answers::{clauses_follow, write_answer};
 use ruby_options::{OptionFault, read};
 use ruby_outside::{Gate, Library, Sink};
 use std::alloc::Global;

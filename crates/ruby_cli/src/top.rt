@@ -1,15 +1,14 @@
 // The top call on one thread.
 ghost use Rattle.std.specs.Prelude.{◌≡◌, ◌≢◌, Some, IfSome, IsUtf8};
 ghost use Rattle.ruby_outside.specs.Faults.{Rose};
-ghost use Rattle.found_answers.specs.Call.{IsAnswered, IsReadOnce};
-ghost use Rattle.found_answers.specs.Headline.{IsWokenOnce, IsMessageAccount, IsInvalidExactly, IsTallied, IsAsAsked, IsAsWritten, IsCaused, IsComplete, IsByOneWorker};
-ghost use Rattle.found_answers.specs.Record.{IsWholeRun};
+ghost use Rattle.ruby_answers.specs.Call.{IsAnswered, IsReadOnce};
+ghost use Rattle.ruby_answers.specs.Headline.{IsWokenOnce, IsMessageAccount, IsInvalidExactly, IsTallied, IsAsAsked, IsAsWritten, IsCaused, IsComplete, IsByOneWorker};
+ghost use Rattle.ruby_answers.specs.Record.{IsWholeRun};
 ghost use Rattle.ruby_options.specs.Within.{IsWithin};
 ghost use Rattle.ruby_options.specs.declared.options.Command.TheVariants.{Code};
 
 use crate::{Done, Options};
-use found_answers::{clauses_follow, find_answer};
-use ruby_answers::write_answer;
+use ruby_answers::{clauses_follow, find_answer, write_answer};
 use ruby_base::NoMemory;
 use ruby_outside::{Library, Sink};
 use std::alloc::Global;

@@ -4,13 +4,13 @@ use Rattle.std.specs.List.{list_any}
 use Rattle.std.proofs.lemmas.Option.{same_Some}
 use Rattle.slicc_ast.specs.declared.tree.item.Tree.{Tree}
 use Rattle.run_journal.specs.declared.entry.Entry.{Entry}
-use Rattle.ruby_runs.specs.Alone.{IsAlone}
-use Rattle.ruby_runs.specs.Rules.{Rules}
-use Rattle.ruby_runs.specs.Run.{IsRun, Ran}
-use Rattle.ruby_runs.specs.World.{World, is_held, opening, opening_place}
+use Rattle.protocol_runs.specs.Alone.{IsAlone}
+use Rattle.protocol_runs.specs.RunRules.{Rules}
+use Rattle.protocol_runs.specs.Run.{IsRun, Ran}
+use Rattle.protocol_runs.specs.World.{World, is_held, opening, opening_place}
 use Rattle.ruby_topology.specs.declared.topology.Topology.{Topology}
 use Rattle.one_worker.specs.RunLimits.{RunLimits}
-use Rattle.run_record.specs.declared.record.RunRecord.{RunRecord}
+use Rattle.protocol_meaning.specs.declared.record.RunRecord.{RunRecord}
 use Rattle.one_worker.specs.Adds.{HasAddedAlone}
 use Rattle.protocol_meaning.specs.Records as records
 use Rattle.one_worker.specs.Worlds.{InWorld, IsNobodyHeld, WorldView, opened, rules_in}

@@ -6,5 +6,5 @@ mod whole;
 
 pub use alone::run_alone;
 pub use one_worker::{Held, RunLimits, World, into_record, runs_from_the_opening_are_alone};
-pub use run_record::RunRecord;
+pub use protocol_meaning::RunRecord;
 pub use whole::run_whole;

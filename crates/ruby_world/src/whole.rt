@@ -1,17 +1,16 @@
 //! A whole run by one worker, from its opening to its record.
 ghost use Rattle.std.specs.Prelude.{◌≡◌, ◌≤◌, IfOk, length};
 ghost use Rattle.ctl_face.specs.Fits.{last_cycle};
-ghost use Rattle.ruby_runs.specs.Alone.{IsAlone};
+ghost use Rattle.protocol_runs.specs.Alone.{IsAlone};
 ghost use Rattle.protocol_meaning.specs.Records.{IsWholeRunBy, rules_in};
-ghost use Rattle.topology_fit.specs.FitsPlan.{FitsPlan};
+ghost use Rattle.protocol_meaning.specs.FitsPlan.{FitsPlan};
 
 use crate::alone::run_alone;
 use one_worker::{RunLimits, World, into_record, runs_from_the_opening_are_alone};
-use protocol_meaning::Protocol;
+use protocol_meaning::{Protocol, RunRecord};
 use ruby_options::Options;
 use ruby_topology::Topology;
 use ruby_value::NoMemory;
-use run_record::RunRecord;
 use sequencer::Driver;
 use slicc_plan::Plan;
 use std::alloc::Global;

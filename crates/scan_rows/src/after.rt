@@ -2,14 +2,14 @@
 ghost use Rattle.std.specs.Prelude.{◌<◌, ◌≤◌, OnOk};
 ghost use Rattle.ctl_face.specs.Fits.{last_cycle};
 ghost use Rattle.ctl_store.specs.Kept.{ctl_of};
-ghost use Rattle.sample_stores.specs.Going.{GoesOn, IsEndOf};
+ghost use Rattle.controller_rows.specs.Going.{GoesOn, IsEndOf};
 
 use crate::left::{add_copies, add_lines, add_mail, add_requests};
+use controller_rows::{ScanEnd, apply, wake_again};
 use ctl_face::{Message, NoMemory, Routes, Seq};
 use ctl_store::{Draft, Store};
-use row_text::RowText;
+use ruby_outside::RowText;
 use ruby_value::Delivery;
-use sample_stores::{ScanEnd, apply, wake_again};
 use std::alloc::Global;
 
 // Makes of the controller what the scan leaves of it: nothing but what it has done where it has fired, and a mark for the next cycle

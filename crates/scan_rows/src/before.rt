@@ -4,12 +4,12 @@ ghost use Rattle.ctl_face.specs.Fits.{last_cycle};
 ghost use Rattle.ctl_face.specs.LocalView.{SameScan};
 ghost use Rattle.ctl_store.specs.Drafted.{view_of};
 ghost use Rattle.ctl_store.specs.Kept.{ctl_of};
-ghost use Rattle.sample_stores.specs.Going.{GoesOn, IsDone};
+ghost use Rattle.controller_rows.specs.Going.{GoesOn, IsDone};
 
+use controller_rows::apply;
 use ctl_face::{Local, Routes, Trouble, receives};
 use ctl_store::{Draft, Outcome, Store};
 use run_journal::FireNote;
-use sample_stores::apply;
 use std::alloc::Global;
 
 /// What is done to the controller before its scan.

@@ -1,15 +1,14 @@
 // The controller whose scans are done: its store, with a request in its queue, and the routes to it and another of its machine.
 ghost use Rattle.std.specs.Prelude.{◌-◌, IfOk, IfSome};
 ghost use Rattle.ruby_value.specs.Requests.{IsRequest};
-ghost use Rattle.sample_stores.specs.Going.{GoesOn};
+ghost use Rattle.controller_rows.specs.Going.{GoesOn};
 
+use controller_rows::{Network, is_delivered, is_issued, message, opened};
 use ctl_face::{Fields, NoMemory, Routes};
 use ctl_store::Store;
 use machine_setup::setup;
 use ruby_symbols::{Symbols, mandatory};
 use ruby_value::{Ask, Asked, MachineSetup, MsgNo, Seq, Sizes, Value};
-use sample_controllers::{Network, message};
-use sample_stores::{is_delivered, is_issued, opened};
 use slicc_plan::Plan;
 use std::alloc::Global;
 
@@ -46,7 +45,7 @@ pub(crate) fn routes(alloc: Global, receiving: Option<u16>) -> Result<Routes, No
         in_order: false,
     };
     let row = [receiving];
-    sample_controllers::routes(alloc, &network, &[row.as_slice(), row.as_slice()])
+    controller_rows::routes(alloc, &network, &[row.as_slice(), row.as_slice()])
 }
 
 // A load of four bytes of a line, by its address, whose second address is one of line 3.

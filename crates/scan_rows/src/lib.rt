@@ -19,8 +19,7 @@ mod scans;
 mod shown;
 
 use list::{LISTS, add_list};
-use row_text::RowText;
-use ruby_outside::Library;
+use ruby_outside::{Library, RowText};
 
 /// Adds the rows, over a library with the folder `scans`.
 pub fn add_scans<L: Library>(rows: &mut RowText, library: &mut L) {

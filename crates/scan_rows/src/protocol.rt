@@ -1,9 +1,8 @@
 // The protocols of the rows.
 use crate::list::{number, part};
-use row_text::RowText;
+use controller_rows::plan_of;
 use ruby_base::{NoMemory, Seq, Text};
-use ruby_outside::SureLibrary;
-use sample_stores::plan_of;
+use ruby_outside::{RowText, SureLibrary};
 use slicc_plan::Plan;
 use std::alloc::Global;
 

@@ -1,16 +1,16 @@
 // Does the scans, and tells how each ends and what it leaves.
 ghost use Rattle.std.specs.Prelude.{◌-◌};
-ghost use Rattle.sample_stores.specs.Going.{GoesOn};
+ghost use Rattle.controller_rows.specs.Going.{GoesOn};
 
 use crate::after::add_after;
 use crate::before::{Before, make_ready};
 use crate::begun::{is_begun, queue, routes, store_of};
 use crate::protocol::{add_protocol, plan_by};
 use crate::shown::add_end;
+use controller_rows::{begin, scan as scan_store};
 use ctl_face::{NoMemory, Routes};
 use ctl_store::Store;
-use row_text::RowText;
-use sample_stores::{begin, scan as scan_store};
+use ruby_outside::RowText;
 use slicc_interpreter::Interpreted;
 use slicc_plan::Plan;
 

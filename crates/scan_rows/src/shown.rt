@@ -1,9 +1,9 @@
 // How a scan ended, what it did to messages, and values, as text.
+use controller_rows::ScanEnd;
 use ctl_store::Outcome;
-use row_text::RowText;
+use ruby_outside::RowText;
 use ruby_value::{Block, MsgNo, NetDest, Sent, Value};
 use run_journal::{FireNote, StopAt};
-use sample_stores::ScanEnd;
 use trace_print::fault_word;
 
 /// The name of a state.

@@ -3,14 +3,14 @@ ghost use Rattle.std.specs.Prelude.{◌≡◌, ◌+◌, ◌<◌, [], ◌∷◌, 
 ghost use Rattle.acts.specs.DoesAs.{DoesAs, itself};
 ghost use Rattle.body_meaning.specs.Each.{each};
 ghost use Rattle.body_meaning.specs.Reading.{reading};
-ghost use Rattle.machine_bodies.specs.Few.{HasFew};
+ghost use Rattle.statement_walk.specs.Few.{HasFew};
 ghost use Rattle.body_meaning.specs.Actions.{need};
 ghost use Rattle.body_meaning.specs.Transition.{action_done as action_done_is, is_among as is_among_is, is_short as is_short_is, is_stall_among as is_stall_among_is, table_short as table_short_is};
 
 use acts::{Local, Trouble, free};
 use body_meaning::{About, Scope};
-use machine_bodies::{action_done, need_more};
 use ruby_symbols::TableSymbol;
+use statement_walk::{action_done, need_more};
 use std::alloc::Global;
 
 // The first of these, and the others.

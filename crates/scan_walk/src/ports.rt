@@ -1,7 +1,7 @@
 // The in ports of a machine, one after another.
 ghost use Rattle.acts.specs.DoesAs.{itself};
 ghost use Rattle.body_meaning.specs.Reading.{reading};
-ghost use Rattle.machine_bodies.specs.Few.{HasFew};
+ghost use Rattle.statement_walk.specs.Few.{HasFew};
 ghost use Rattle.body_meaning.specs.Round.{IsRoundOf};
 ghost use Rattle.body_meaning.specs.Scan.{after_port as after_port_is, port_tried as port_tried_is, ports_tried as ports_tried_is, scan as scan_is};
 ghost use Rattle.scan_walk.specs.TriesAs.{IsEndOf, TriesAs};
@@ -11,8 +11,8 @@ use crate::halt::{Halt, told};
 use crate::transition::tried;
 use acts::{Local, NoMemory};
 use body_meaning::{Flow, Known, RoundEnd, Scope, Tried};
-use machine_bodies::port_done;
 use ruby_symbols::PortSymbol;
+use statement_walk::port_done;
 use std::alloc::Global;
 
 #[tactic(auto, using(crate::proofs::Tries::tries_ends))]

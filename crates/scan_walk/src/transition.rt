@@ -3,7 +3,7 @@ ghost use Rattle.std.specs.Prelude.{◌≡◌, None, find};
 ghost use Rattle.std.specs.Option.{option_copied};
 ghost use Rattle.acts.specs.DoesAs.{DoesAs, itself};
 ghost use Rattle.body_meaning.specs.Reading.{reading};
-ghost use Rattle.machine_bodies.specs.Few.{HasFew};
+ghost use Rattle.statement_walk.specs.Few.{HasFew};
 ghost use Rattle.body_meaning.specs.Transition.{about as about_is, fired as fired_is, is_for as is_for_is, known as known_is, row_tried as row_tried_is, try as try_is, waiting as waiting_is};
 ghost use Rattle.scan_walk.specs.TriesAs.{TriesAs};
 
@@ -11,9 +11,9 @@ use crate::actions::{actions_done, is_among, is_short, is_stall_among};
 use crate::halt::{Halt, told};
 use acts::{Fault, Local, Trouble, again};
 use body_meaning::{About, Known, Scope, Tried, Trigger};
-use machine_bodies::{permission_set, state_by, state_set};
 use ruby_symbols::{MachineSymbols, TransitionSymbol};
 use run_journal::{FireNote, StopAt};
+use statement_walk::{permission_set, state_by, state_set};
 use std::alloc::Global;
 
 fn about(t: Trigger) -> About

@@ -13,7 +13,7 @@ use Rattle.slicc_ast.specs.Declarations.{formal, formal_list, member, member_lis
 use Rattle.slicc_ast.specs.Machines.{action_list, more_names, name_list, parameter, parameter_list}
 use Rattle.slicc_ast.specs.Names.{name, sign}
 use Rattle.slicc_ast.specs.Outline.{Parts, none, part, provided}
-use Rattle.slicc_grammar.specs.Parts.{Part}
+use Rattle.slicc_ast.specs.Parts.{Part}
 use Rattle.slicc_lex.specs.declared.token.Token.{Token}
 use Rattle.slicc_reading.specs.declared.fault.Fault.{Fault}
 use Rattle.slicc_reading.specs.Reading.{AreParts, AreRead, Refuses}

@@ -9,17 +9,17 @@ use Rattle.slicc_ast.specs.declared.tree.token.TokenKind.TheVariants.{Name as Na
 use Rattle.slicc_ast.specs.declared.tree.name.Name.{Name}
 use Rattle.slicc_ast.specs.Declarations.{is_skipped}
 use Rattle.slicc_ast.specs.Outline.{node, none, Parts, token}
-use Rattle.slicc_grammar.specs.Faults.{Stop}
-use Rattle.slicc_grammar.specs.Faults.Stop.{Passed}
-use Rattle.slicc_grammar.specs.Grammar.Row.{done, token as token_row}
-use Rattle.slicc_grammar.specs.Grammar.Rows.{end}
-use Rattle.slicc_grammar.specs.Kinds.{has, is_ahead}
-use Rattle.slicc_grammar.specs.Reader.{Passes, Stops}
-use Rattle.slicc_grammar.specs.Reader.Stops.{read, refused, taken}
-use Rattle.slicc_grammar.proofs.Steps.{passes_token}
-use Rattle.slicc_grammar.specs.Parts.{Part, names_of}
-use Rattle.slicc_grammar.specs.Table.{table}
-use Rattle.slicc_grammar.specs.TokenKinds.{functional_name, kind_of, machine_type, name_kind, other_name}
+use Rattle.slicc_ast.specs.Faults.{Stop}
+use Rattle.slicc_ast.specs.Faults.Stop.{Passed}
+use Rattle.slicc_ast.specs.Grammar.Row.{done, token as token_row}
+use Rattle.slicc_ast.specs.Grammar.Rows.{end}
+use Rattle.slicc_ast.specs.Kinds.{has, is_ahead}
+use Rattle.slicc_ast.specs.Reader.{Passes, Stops}
+use Rattle.slicc_ast.specs.Reader.Stops.{read, refused, taken}
+use Rattle.slicc_ast.proofs.Steps.{passes_token}
+use Rattle.slicc_ast.specs.Parts.{Part, names_of}
+use Rattle.slicc_ast.specs.Table.{table}
+use Rattle.slicc_ast.specs.TokenKinds.{functional_name, kind_of, machine_type, name_kind, other_name}
 use Rattle.slicc_lex.specs.declared.token.Token.{Token}
 use Rattle.slicc_lex.specs.Syntax.{symbols}
 use Rattle.slicc_reading.specs.declared.fault.Fault.{Fault}

@@ -11,8 +11,8 @@ use Rattle.slicc_ast.specs.declared.tree.token.Sign.TheVariants.{CloseBrace, Clo
 use Rattle.slicc_ast.specs.Declarations.{member_list, pair, pairs as pairs_of}
 use Rattle.slicc_ast.specs.Names.{balanced as balanced_of, name as name_of, sign}
 use Rattle.slicc_ast.specs.Outline.{Parts, part}
-use Rattle.slicc_grammar.specs.Form.Form.{functional_end, member, names, transition_end}
-use Rattle.slicc_grammar.specs.Parts.{Part, ◌▸◌, balanced, braces, colon, comma, name, of, optional, pairs, parentheses, repeated, semicolon, sign as sign_part, skipped_name}
+use Rattle.slicc_ast.specs.Form.Form.{functional_end, member, names, transition_end}
+use Rattle.slicc_ast.specs.Parts.{Part, ◌▸◌, balanced, braces, colon, comma, name, of, optional, pairs, parentheses, repeated, semicolon, sign as sign_part, skipped_name}
 
 -- a member of an enumeration
 abbrev pub symbol_row : Part

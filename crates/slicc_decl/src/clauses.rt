@@ -6,7 +6,7 @@ ghost use Rattle.slicc_ast.specs.Trees.{item as item_of, protocol_parts};
 ghost use Rattle.slicc_ast.specs.declared.tree.token.Sign.TheVariants.{Semicolon};
 ghost use Rattle.slicc_ast.specs.declared.tree.token.TokenKind.TheVariants.{Quoted as QuotedKind};
 ghost use Rattle.slicc_ast.specs.declared.tree.token.Word.TheVariants.{Include as IncludeWord, Protocol as ProtocolWord};
-ghost use Rattle.slicc_grammar.specs.Parts.{◌▸◌, optional, semicolon, string as string_part, word as word_part};
+ghost use Rattle.slicc_ast.specs.Parts.{◌▸◌, optional, semicolon, string as string_part, word as word_part};
 ghost use Rattle.slicc_reading.specs.Reading.{AreRead, IsRead, Refuses};
 
 use slicc_ast::Text;

@@ -1,14 +1,14 @@
 //! The fields and methods of structures.
 ghost use Rattle.std.specs.Prelude.{◌≡◌, ◌∷◌, [], true, MatchResult};
-ghost use Rattle.slicc_grammar.specs.Kinds.{is_ahead};
+ghost use Rattle.slicc_ast.specs.Kinds.{is_ahead};
 ghost use Rattle.slicc_ast.specs.Declarations.{formals as formals_of, member as member_of, pairs as pairs_of};
 ghost use Rattle.slicc_ast.specs.Names.{sign as sign_of};
 ghost use Rattle.slicc_ast.specs.Outline.{node, none, token};
 ghost use Rattle.slicc_ast.specs.declared.tree.token.Sign.TheVariants.{OpenParenthesis, Semicolon};
 ghost use Rattle.slicc_ast.specs.declared.tree.token.TokenKind.TheVariants.{Name as Named};
-ghost use Rattle.slicc_grammar.specs.Form.Form.{formals as formals_form};
-ghost use Rattle.slicc_grammar.specs.Parts.{◌▸◌, of, optional, pairs as pairs_part, parentheses, plain_name, semicolon};
-ghost use Rattle.slicc_grammar.specs.TokenKinds.{machine_type, other_name, sign_kind};
+ghost use Rattle.slicc_ast.specs.Form.Form.{formals as formals_form};
+ghost use Rattle.slicc_ast.specs.Parts.{◌▸◌, of, optional, pairs as pairs_part, parentheses, plain_name, semicolon};
+ghost use Rattle.slicc_ast.specs.TokenKinds.{machine_type, other_name, sign_kind};
 ghost use Rattle.slicc_lex.specs.Syntax.{symbols};
 ghost use Rattle.slicc_reading.specs.Reading.{AreRead, IsNode, IsRead, Refuses};
 

@@ -1,11 +1,11 @@
 //! The heads of declarations: a name and attributes in parentheses, and names and attributes that a sign ends.
 ghost use Rattle.std.specs.Prelude.{◌≡◌, ◌∷◌, ◌<◌, [], length, IfOk, MatchResult};
-ghost use Rattle.slicc_grammar.specs.Kinds.{is_ahead};
+ghost use Rattle.slicc_ast.specs.Kinds.{is_ahead};
 ghost use Rattle.slicc_ast.specs.Declarations.{pairs as pairs_of};
 ghost use Rattle.slicc_ast.specs.Names.{name as name_of, sign as sign_of};
 ghost use Rattle.slicc_ast.specs.declared.tree.token.Sign.TheVariants.{CloseParenthesis, Comma, OpenParenthesis, Semicolon};
-ghost use Rattle.slicc_grammar.specs.Parts.{◌▸◌, name as name_part, pairs as pairs_part, parentheses, sign as sign_part};
-ghost use Rattle.slicc_grammar.specs.TokenKinds.{sign_kind};
+ghost use Rattle.slicc_ast.specs.Parts.{◌▸◌, name as name_part, pairs as pairs_part, parentheses, sign as sign_part};
+ghost use Rattle.slicc_ast.specs.TokenKinds.{sign_kind};
 ghost use Rattle.slicc_lex.specs.Syntax.{symbols};
 ghost use Rattle.slicc_reading.specs.Reading.{AreRead, Refuses};
 

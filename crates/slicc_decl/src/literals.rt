@@ -2,8 +2,8 @@
 ghost use Rattle.std.specs.Prelude.{◌<◌, length, IfOk, MatchResult};
 ghost use Rattle.slicc_ast.specs.Machines.{literal};
 ghost use Rattle.slicc_ast.specs.declared.tree.token.Sign.TheVariants.{Minus as MinusSign};
-ghost use Rattle.slicc_grammar.specs.Form.Form.{literal as literal_form};
-ghost use Rattle.slicc_grammar.specs.Parts.{◌▸◌, number_token, of, sign as sign_part};
+ghost use Rattle.slicc_ast.specs.Form.Form.{literal as literal_form};
+ghost use Rattle.slicc_ast.specs.Parts.{◌▸◌, number_token, of, sign as sign_part};
 ghost use Rattle.slicc_reading.specs.Reading.{AreRead, IsRead, Refuses};
 
 use slicc_ast::tree::{Literal, Sign, Word};

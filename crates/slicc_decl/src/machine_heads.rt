@@ -1,16 +1,16 @@
 //! The head of a machine: its name, its title, attributes and parameters.
 ghost use Rattle.std.specs.Prelude.{◌≡◌, ◌∷◌, [], codes, MatchResult};
 ghost use Rattle.std.specs.Str.{bytes_eq};
-ghost use Rattle.slicc_grammar.specs.Kinds.{has, is_ahead};
+ghost use Rattle.slicc_ast.specs.Kinds.{has, is_ahead};
 ghost use Rattle.slicc_ast.specs.Declarations.{pairs as pairs_of};
 ghost use Rattle.slicc_ast.specs.Machines.{parameter_list as parameter_parts, type_parts};
 ghost use Rattle.slicc_ast.specs.Names.{name as name_of, sign as sign_of};
 ghost use Rattle.slicc_ast.specs.Outline.{token};
 ghost use Rattle.slicc_ast.specs.declared.tree.token.Sign.TheVariants.{CloseParenthesis, Colon, Comma, OpenParenthesis};
 ghost use Rattle.slicc_ast.specs.declared.tree.token.TokenKind.TheVariants.{Quoted as QuotedKind};
-ghost use Rattle.slicc_grammar.specs.Form.Form.{machine_name as machine_name_form, parameter as parameter_form};
-ghost use Rattle.slicc_grammar.specs.Parts.{◌▸◌, colon, comma, name as name_part, of, pairs as pairs_part, parentheses, repeated, sign as sign_part, string as string_part};
-ghost use Rattle.slicc_grammar.specs.TokenKinds.{kind_of, machine_type};
+ghost use Rattle.slicc_ast.specs.Form.Form.{machine_name as machine_name_form, parameter as parameter_form};
+ghost use Rattle.slicc_ast.specs.Parts.{◌▸◌, colon, comma, name as name_part, of, pairs as pairs_part, parentheses, repeated, sign as sign_part, string as string_part};
+ghost use Rattle.slicc_ast.specs.TokenKinds.{kind_of, machine_type};
 ghost use Rattle.slicc_lex.specs.Syntax.{symbols};
 ghost use Rattle.slicc_reading.specs.Reading.{AreRead, Refuses};
 

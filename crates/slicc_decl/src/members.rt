@@ -3,8 +3,8 @@ ghost use Rattle.std.specs.Prelude.{◌<◌, length, IfOk, MatchResult};
 ghost use Rattle.slicc_ast.specs.Declarations.{enumeration as enumeration_of, pairs as pairs_of, state_list, states as states_of, symbol_list};
 ghost use Rattle.slicc_ast.specs.Names.{name as name_of, sign as sign_of};
 ghost use Rattle.slicc_ast.specs.declared.tree.token.Sign.TheVariants.{CloseBrace, Colon, Comma, OpenBrace, Semicolon};
-ghost use Rattle.slicc_grammar.specs.Form.Form.{enumeration as enumeration_form, states as states_form};
-ghost use Rattle.slicc_grammar.specs.Parts.{◌▸◌, braces, of, repeated, sign as sign_part};
+ghost use Rattle.slicc_ast.specs.Form.Form.{enumeration as enumeration_form, states as states_form};
+ghost use Rattle.slicc_ast.specs.Parts.{◌▸◌, braces, of, repeated, sign as sign_part};
 ghost use Rattle.slicc_reading.specs.Reading.{AreRead, IsRead, Refuses};
 ghost use Rattle.slicc_decl.specs.Members.{state_parts, state_row, symbol_row};
 

@@ -1,8 +1,8 @@
 //! The names that the grammar sets apart.
 ghost use Rattle.std.specs.Prelude.{◌≡◌, ◌||◌, ◌∷◌, [], codes};
 ghost use Rattle.std.specs.Str.{bytes_eq};
-ghost use Rattle.slicc_grammar.specs.Kinds.{has, is_ahead};
-ghost use Rattle.slicc_grammar.specs.TokenKinds.{functional_name, kind_of};
+ghost use Rattle.slicc_ast.specs.Kinds.{has, is_ahead};
+ghost use Rattle.slicc_ast.specs.TokenKinds.{functional_name, kind_of};
 ghost use Rattle.slicc_lex.specs.Syntax.{symbols};
 
 use slicc_ast::tree::TokenKind;

@@ -3,8 +3,8 @@ ghost use Rattle.std.specs.Prelude.{◌==◌, ◌<◌, IsTrue, length, not, IfOk
 ghost use Rattle.slicc_ast.specs.Machines.{name_list, names as names_of};
 ghost use Rattle.slicc_ast.specs.Names.{name as name_of, sign as sign_of};
 ghost use Rattle.slicc_ast.specs.declared.tree.token.Sign.TheVariants.{CloseBrace, Comma, OpenBrace};
-ghost use Rattle.slicc_grammar.specs.Form.Form.{names as names_form};
-ghost use Rattle.slicc_grammar.specs.Parts.{◌▸◌, braces, comma, name as name_part, of, repeated, sign as sign_part};
+ghost use Rattle.slicc_ast.specs.Form.Form.{names as names_form};
+ghost use Rattle.slicc_ast.specs.Parts.{◌▸◌, braces, comma, name as name_part, of, repeated, sign as sign_part};
 ghost use Rattle.slicc_reading.specs.Reading.{AreRead, Refuses};
 
 use slicc_ast::Seq;

@@ -3,7 +3,7 @@ ghost use Rattle.std.specs.Prelude.{MatchResult};
 ghost use Rattle.slicc_ast.specs.Machines.{object as object_of};
 ghost use Rattle.slicc_ast.specs.Outline.{node, none, token};
 ghost use Rattle.slicc_ast.specs.declared.tree.token.TokenKind.TheVariants.{Name as Named};
-ghost use Rattle.slicc_grammar.specs.Parts.{◌▸◌, name as name_part, pairs as pairs_part, semicolon, star};
+ghost use Rattle.slicc_ast.specs.Parts.{◌▸◌, name as name_part, pairs as pairs_part, semicolon, star};
 ghost use Rattle.slicc_reading.specs.Reading.{IsNode, IsRead, Refuses};
 
 use crate::heads::{ended_name, ended_pairs};

@@ -5,8 +5,8 @@ ghost use Rattle.slicc_ast.specs.Machines.{literal as literal_of, literal_parts,
 ghost use Rattle.slicc_ast.specs.Names.{name as name_of, sign as sign_of};
 ghost use Rattle.slicc_ast.specs.Outline.{part};
 ghost use Rattle.slicc_ast.specs.declared.tree.token.Sign.TheVariants.{Assign, Semicolon};
-ghost use Rattle.slicc_grammar.specs.Form.Form.{literal as literal_form, parameter as parameter_form};
-ghost use Rattle.slicc_grammar.specs.Parts.{◌▸◌, assign, name as name_part, of, optional, pairs as pairs_part, semicolon};
+ghost use Rattle.slicc_ast.specs.Form.Form.{literal as literal_form, parameter as parameter_form};
+ghost use Rattle.slicc_ast.specs.Parts.{◌▸◌, assign, name as name_part, of, optional, pairs as pairs_part, semicolon};
 ghost use Rattle.slicc_reading.specs.Reading.{AreRead, IsRead, Refuses};
 
 use crate::heads::ended_pairs;

@@ -4,8 +4,8 @@ ghost use Rattle.slicc_ast.specs.Declarations.{pairs as pairs_of};
 ghost use Rattle.slicc_ast.specs.Machines.{out_port};
 ghost use Rattle.slicc_ast.specs.Names.{name as name_of, sign as sign_of, type_name as type_of};
 ghost use Rattle.slicc_ast.specs.declared.tree.token.Sign.TheVariants.{CloseParenthesis, Comma, OpenParenthesis, Semicolon};
-ghost use Rattle.slicc_grammar.specs.Form.Form.{out_port as out_port_form};
-ghost use Rattle.slicc_grammar.specs.Parts.{◌▸◌, comma, name as name_part, of, pairs as pairs_part, parentheses, semicolon, sign as sign_part, type as type_part};
+ghost use Rattle.slicc_ast.specs.Form.Form.{out_port as out_port_form};
+ghost use Rattle.slicc_ast.specs.Parts.{◌▸◌, comma, name as name_part, of, pairs as pairs_part, parentheses, semicolon, sign as sign_part, type as type_part};
 ghost use Rattle.slicc_reading.specs.Reading.{AreRead, IsRead, Refuses};
 
 use crate::heads::{ended_by, ended_name};

@@ -4,8 +4,8 @@ ghost use Rattle.slicc_ast.specs.Declarations.{formal as formal_of, formal_list,
 ghost use Rattle.slicc_ast.specs.Names.{sign as sign_of, star as star_where, type_name as type_of};
 ghost use Rattle.slicc_ast.specs.Outline.{node, part};
 ghost use Rattle.slicc_ast.specs.declared.tree.token.Sign.TheVariants.{CloseParenthesis, Comma};
-ghost use Rattle.slicc_grammar.specs.Form.Form.{formal as formal_form, formals as formals_form};
-ghost use Rattle.slicc_grammar.specs.Parts.{◌▸◌, comma, name as name_part, of, optional, parentheses, repeated, sign as sign_part, star, type as type_part};
+ghost use Rattle.slicc_ast.specs.Form.Form.{formal as formal_form, formals as formals_form};
+ghost use Rattle.slicc_ast.specs.Parts.{◌▸◌, comma, name as name_part, of, optional, parentheses, repeated, sign as sign_part, star, type as type_part};
 ghost use Rattle.slicc_reading.specs.Reading.{AreRead, IsRead, Refuses};
 
 use slicc_ast::Seq;

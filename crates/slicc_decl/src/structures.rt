@@ -1,12 +1,12 @@
 //! Structures, and their members.
 ghost use Rattle.std.specs.Prelude.{◌≡◌, ◌∷◌, ◌<◌, [], IsTrue, true, length, IfOk, MatchResult};
-ghost use Rattle.slicc_grammar.specs.Kinds.{is_ahead};
+ghost use Rattle.slicc_ast.specs.Kinds.{is_ahead};
 ghost use Rattle.slicc_ast.specs.Declarations.{is_skipped, member as member_of, structure as structure_of};
 ghost use Rattle.slicc_ast.specs.Outline.{node, none, token};
 ghost use Rattle.slicc_ast.specs.declared.tree.token.TokenKind.TheVariants.{Name as Named};
-ghost use Rattle.slicc_grammar.specs.Form.Form.{functional_end as functional_end_form, member as member_form, member_end as member_end_form, structure as structure_form};
-ghost use Rattle.slicc_grammar.specs.Parts.{of};
-ghost use Rattle.slicc_grammar.specs.TokenKinds.{functional_name};
+ghost use Rattle.slicc_ast.specs.Form.Form.{functional_end as functional_end_form, member as member_form, member_end as member_end_form, structure as structure_form};
+ghost use Rattle.slicc_ast.specs.Parts.{of};
+ghost use Rattle.slicc_ast.specs.TokenKinds.{functional_name};
 ghost use Rattle.slicc_decl.specs.Members.{members_parts, members_row, skipped_member_row, structure_parts, structure_row};
 ghost use Rattle.slicc_lex.specs.Syntax.{symbols};
 ghost use Rattle.slicc_reading.specs.Reading.{AreRead, IsNode, IsRead, Refuses};

@@ -1,16 +1,16 @@
 //! Transitions. Behind the events a name is the next state where no `=` is behind it, and the key of an attribute else, so
 //! what is behind that comma is read before it is known whose comma it was.
 ghost use Rattle.std.specs.Prelude.{◌≡◌, ◌∷◌, ◌<◌, [], true, length, IfOk, MatchResult};
-ghost use Rattle.slicc_grammar.specs.Kinds.{is_ahead};
+ghost use Rattle.slicc_ast.specs.Kinds.{is_ahead};
 ghost use Rattle.slicc_ast.specs.Declarations.{pair as pair_of, pair_list, pairs as pairs_of};
 ghost use Rattle.slicc_ast.specs.Machines.{action_list, names as names_of, next_parts, transition as transition_of};
 ghost use Rattle.slicc_ast.specs.Names.{sign as sign_of};
 ghost use Rattle.slicc_ast.specs.Outline.{node, none, token};
 ghost use Rattle.slicc_ast.specs.declared.tree.token.TokenKind.TheVariants.{Name as Named};
 ghost use Rattle.slicc_ast.specs.declared.tree.token.Sign.TheVariants.{CloseBrace, CloseParenthesis, Comma, Equals, OpenBrace, OpenParenthesis};
-ghost use Rattle.slicc_grammar.specs.Form.Form.{names as names_form, transition as transition_form, transition_end as transition_end_form};
-ghost use Rattle.slicc_grammar.specs.Parts.{◌▸◌, braces, comma, name as name_part, of, optional, pairs as pairs_part, parentheses, repeated, sign as sign_part, string as string_part, value as value_part};
-ghost use Rattle.slicc_grammar.specs.TokenKinds.{sign_kind};
+ghost use Rattle.slicc_ast.specs.Form.Form.{names as names_form, transition as transition_form, transition_end as transition_end_form};
+ghost use Rattle.slicc_ast.specs.Parts.{◌▸◌, braces, comma, name as name_part, of, optional, pairs as pairs_part, parentheses, repeated, sign as sign_part, string as string_part, value as value_part};
+ghost use Rattle.slicc_ast.specs.TokenKinds.{sign_kind};
 ghost use Rattle.slicc_lex.specs.Syntax.{symbols};
 ghost use Rattle.slicc_reading.specs.Reading.{AreRead, IsRead, IsSpelledBefore, Refuses};
 ghost use Rattle.slicc_decl.specs.Members.{action_row, pair_parts, transition_inside as inside_part};

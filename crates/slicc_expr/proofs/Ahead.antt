@@ -7,14 +7,14 @@ use Rattle.slicc_ast.specs.declared.tree.token.Sign.TheVariants.{Colon, Dot, Min
 use Rattle.slicc_ast.specs.declared.tree.token.Word.TheVariants.{True, False, Ood, IsInvalid, IsValid}
 use Rattle.slicc_ast.specs.Expressions.{expr}
 use Rattle.slicc_ast.specs.Outline.{Outline, token}
-use Rattle.slicc_grammar.specs.Grammar.Row.{done, token as token_row}
-use Rattle.slicc_grammar.specs.Kinds.{has, is_ahead}
-use Rattle.slicc_grammar.specs.Reader.{refusal}
-use Rattle.slicc_grammar.specs.Ahead.{first_of_constant, first_of_expression, first_of_opening}
-use Rattle.slicc_grammar.specs.Form.Form.{constant, unary, product, sum, order, equality, conjunction, expression}
-use Rattle.slicc_grammar.specs.Parts.{of, names_of}
-use Rattle.slicc_grammar.specs.Table.{table}
-use Rattle.slicc_grammar.specs.TokenKinds.{kind_of, number, sign_kind, word_kind}
+use Rattle.slicc_ast.specs.Grammar.Row.{done, token as token_row}
+use Rattle.slicc_ast.specs.Kinds.{has, is_ahead}
+use Rattle.slicc_ast.specs.Reader.{refusal}
+use Rattle.slicc_ast.specs.Ahead.{first_of_constant, first_of_expression, first_of_opening}
+use Rattle.slicc_ast.specs.Form.Form.{constant, unary, product, sum, order, equality, conjunction, expression}
+use Rattle.slicc_ast.specs.Parts.{of, names_of}
+use Rattle.slicc_ast.specs.Table.{table}
+use Rattle.slicc_ast.specs.TokenKinds.{kind_of, number, sign_kind, word_kind}
 use Rattle.slicc_lex.specs.declared.token.Token.{Token}
 use Rattle.slicc_lex.specs.Syntax.{symbols}
 use Rattle.slicc_reading.specs.declared.fault.Fault.{Fault}

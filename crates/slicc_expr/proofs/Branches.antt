@@ -19,18 +19,18 @@ use Rattle.slicc_ast.specs.declared.tree.token.Word.TheVariants.{If as IfWord, E
 use Rattle.slicc_ast.specs.Names.{word as word_of}
 use Rattle.slicc_ast.specs.Outline.{Outline, node, none, Parts, part, token}
 use Rattle.slicc_ast.specs.Statements.{block, else_if_row, if_outline, stmt, stmt_list, stmt_row}
-use Rattle.slicc_grammar.specs.Faults.{Stop}
-use Rattle.slicc_grammar.specs.Grammar.{Row, Rows}
-use Rattle.slicc_grammar.specs.Grammar.Row.{done, form, token as token_row}
-use Rattle.slicc_grammar.specs.Grammar.Rows.{next}
-use Rattle.slicc_grammar.specs.Kinds.{has, is_ahead}
-use Rattle.slicc_grammar.specs.Reader.{Passes, Stops}
-use Rattle.slicc_grammar.specs.Reader.Stops.{chosen, on, present, refused, taken}
-use Rattle.slicc_grammar.specs.Ahead.{first_of_form, first_of_opening}
-use Rattle.slicc_grammar.specs.Form.{Form}
-use Rattle.slicc_grammar.specs.Parts.{Part, ◌▸◌, names_of, word}
-use Rattle.slicc_grammar.specs.Table.{table}
-use Rattle.slicc_grammar.specs.TokenKinds.{kind_of, sign_kind, word_kind}
+use Rattle.slicc_ast.specs.Faults.{Stop}
+use Rattle.slicc_ast.specs.Grammar.{Row, Rows}
+use Rattle.slicc_ast.specs.Grammar.Row.{done, form, token as token_row}
+use Rattle.slicc_ast.specs.Grammar.Rows.{next}
+use Rattle.slicc_ast.specs.Kinds.{has, is_ahead}
+use Rattle.slicc_ast.specs.Reader.{Passes, Stops}
+use Rattle.slicc_ast.specs.Reader.Stops.{chosen, on, present, refused, taken}
+use Rattle.slicc_ast.specs.Ahead.{first_of_form, first_of_opening}
+use Rattle.slicc_ast.specs.Form.{Form}
+use Rattle.slicc_ast.specs.Parts.{Part, ◌▸◌, names_of, word}
+use Rattle.slicc_ast.specs.Table.{table}
+use Rattle.slicc_ast.specs.TokenKinds.{kind_of, sign_kind, word_kind}
 use Rattle.slicc_lex.specs.declared.token.Token.{Token}
 use Rattle.slicc_lex.specs.Syntax.{symbols}
 use Rattle.slicc_reading.specs.declared.fault.Fault.{Fault}

@@ -15,18 +15,18 @@ use Rattle.slicc_ast.specs.declared.tree.expression.Args.{Args}
 use Rattle.slicc_ast.specs.declared.tree.name.TypeName.{TypeName}
 use Rattle.slicc_ast.specs.Names.{sign, type_name}
 use Rattle.slicc_ast.specs.Outline.{node, Parts, none, part}
-use Rattle.slicc_grammar.specs.Grammar.{Row}
-use Rattle.slicc_grammar.specs.Grammar.Row.{done, form, maybe, token as token_row}
-use Rattle.slicc_grammar.specs.Reader.{Passes, Stops}
-use Rattle.slicc_grammar.proofs.Steps.{passes_both, fails_first, fails_second}
-use Rattle.slicc_grammar.specs.Grammar.{first_of}
-use Rattle.slicc_grammar.specs.Ahead.{first_of_expression}
-use Rattle.slicc_grammar.specs.Form.{Form}
-use Rattle.slicc_grammar.specs.Kinds.{has, is_ahead}
-use Rattle.slicc_grammar.specs.Form.Form.{arguments, expression}
-use Rattle.slicc_grammar.specs.Parts.{Part, ◌▸◌, of, comma, repeated}
-use Rattle.slicc_grammar.specs.Table.{table}
-use Rattle.slicc_grammar.specs.TokenKinds.{kind_of, sign_kind}
+use Rattle.slicc_ast.specs.Grammar.{Row}
+use Rattle.slicc_ast.specs.Grammar.Row.{done, form, maybe, token as token_row}
+use Rattle.slicc_ast.specs.Reader.{Passes, Stops}
+use Rattle.slicc_ast.proofs.Steps.{passes_both, fails_first, fails_second}
+use Rattle.slicc_ast.specs.Grammar.{first_of}
+use Rattle.slicc_ast.specs.Ahead.{first_of_expression}
+use Rattle.slicc_ast.specs.Form.{Form}
+use Rattle.slicc_ast.specs.Kinds.{has, is_ahead}
+use Rattle.slicc_ast.specs.Form.Form.{arguments, expression}
+use Rattle.slicc_ast.specs.Parts.{Part, ◌▸◌, of, comma, repeated}
+use Rattle.slicc_ast.specs.Table.{table}
+use Rattle.slicc_ast.specs.TokenKinds.{kind_of, sign_kind}
 use Rattle.slicc_lex.specs.declared.token.Token.{Token}
 use Rattle.slicc_lex.specs.Syntax.{symbols}
 use Rattle.slicc_reading.specs.declared.fault.Fault.{Fault}

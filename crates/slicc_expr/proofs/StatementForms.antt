@@ -6,8 +6,8 @@ use Rattle.slicc_ast.specs.declared.tree.token.TokenKind.TheVariants.{Quoted, Wo
 use Rattle.slicc_ast.specs.Names.{word}
 use Rattle.slicc_ast.specs.Outline.{Parts, token}
 use Rattle.slicc_ast.specs.Statements.{print_word as print_word_of}
-use Rattle.slicc_grammar.specs.Kinds.{has, is_ahead}
-use Rattle.slicc_grammar.specs.TokenKinds.{kind_of, word_kind}
+use Rattle.slicc_ast.specs.Kinds.{has, is_ahead}
+use Rattle.slicc_ast.specs.TokenKinds.{kind_of, word_kind}
 use Rattle.slicc_ast.specs.declared.tree.token.Word.TheVariants.{StallAndWait, CheckAllocate, Error, Assert}
 use Rattle.slicc_lex.specs.declared.token.Token.{Token}
 use Rattle.slicc_lex.specs.Syntax.{symbols}

@@ -10,12 +10,12 @@ use Rattle.slicc_ast.specs.declared.tree.span.Span.{Span}
 use Rattle.slicc_ast.specs.declared.tree.expression.Expr.{Expr}
 use Rattle.slicc_ast.specs.Expressions.{expr, level_of, operator_level, operator_sign}
 use Rattle.slicc_ast.specs.Outline.{node, none, token}
-use Rattle.slicc_grammar.specs.Grammar.Row.{done, form, many, nested, token as token_row}
-use Rattle.slicc_grammar.specs.Kinds.{has}
-use Rattle.slicc_grammar.specs.Form.{Form}
-use Rattle.slicc_grammar.specs.Form.Form.{unary, product, sum, order, equality, conjunction, expression}
-use Rattle.slicc_grammar.specs.Parts.{Part, ◌▸◌, of, optional, comma, sign, string, type, word}
-use Rattle.slicc_grammar.specs.TokenKinds.{kind_of, number, sign_kind, word_kind}
+use Rattle.slicc_ast.specs.Grammar.Row.{done, form, many, nested, token as token_row}
+use Rattle.slicc_ast.specs.Kinds.{has}
+use Rattle.slicc_ast.specs.Form.{Form}
+use Rattle.slicc_ast.specs.Form.Form.{unary, product, sum, order, equality, conjunction, expression}
+use Rattle.slicc_ast.specs.Parts.{Part, ◌▸◌, of, optional, comma, sign, string, type, word}
+use Rattle.slicc_ast.specs.TokenKinds.{kind_of, number, sign_kind, word_kind}
 use Rattle.slicc_lex.specs.declared.token.Token.{Token}
 
 -- the form with operators of the levels below this height

@@ -18,12 +18,12 @@ use Rattle.slicc_ast.specs.Expressions.{expr}
 use Rattle.slicc_ast.specs.Names.{name as name_parts, sign as sign_of, type_name as type_parts, word as word_of}
 use Rattle.slicc_ast.specs.Outline.{Outline, node, none, Parts, part, token}
 use Rattle.slicc_ast.specs.Statements.{block as block_parts, latency_parts, print_word as print_word_of, stmt_list}
-use Rattle.slicc_grammar.specs.Kinds.{has, is_ahead}
-use Rattle.slicc_grammar.specs.Form.Form.{block, expression, name_end, opening, otherwise, statement, suffix}
-use Rattle.slicc_grammar.specs.Parts.{Part, ◌▸◌, balanced, comma, name, of, operators, optional, pairs, parentheses, repeated, semicolon, sign, string, type, word, words}
+use Rattle.slicc_ast.specs.Kinds.{has, is_ahead}
+use Rattle.slicc_ast.specs.Form.Form.{block, expression, name_end, opening, otherwise, statement, suffix}
+use Rattle.slicc_ast.specs.Parts.{Part, ◌▸◌, balanced, comma, name, of, operators, optional, pairs, parentheses, repeated, semicolon, sign, string, type, word, words}
 use Rattle.slicc_lex.specs.declared.token.Token.{Token}
 use Rattle.slicc_reading.specs.Reading.{IsSpelledBefore, Leads}
-use Rattle.slicc_grammar.specs.TokenKinds.{sign_kind, word_kind}
+use Rattle.slicc_ast.specs.TokenKinds.{sign_kind, word_kind}
 
 -- a name by itself
 abbrev pub name_outline : Name → Outline

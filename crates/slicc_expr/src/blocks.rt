@@ -1,13 +1,13 @@
 //! Blocks, and the statements that hold them. A block is read with one more nesting open, so that the cycle of functions goes
 //! no deeper than the nesting may. The statements of a block and the branches behind `else if` are loops.
 ghost use Rattle.std.specs.Prelude.{◌≡◌, ◌∷◌, ◌<◌, [], false, true, length, IfOk, MatchResult};
-ghost use Rattle.slicc_grammar.specs.Kinds.{is_ahead};
+ghost use Rattle.slicc_ast.specs.Kinds.{is_ahead};
 ghost use Rattle.slicc_ast.specs.Statements.{block_outline, if_outline, stmt};
 ghost use Rattle.slicc_ast.specs.declared.tree.token.Word.TheVariants.{Else, If as IfWord};
-ghost use Rattle.slicc_grammar.specs.Ahead.{first_of_form};
-ghost use Rattle.slicc_grammar.specs.Form.Form.{block as block_form, conditional as conditional_form, otherwise as otherwise_form, statement as statement_form};
-ghost use Rattle.slicc_grammar.specs.Parts.{◌▸◌, of, word as word_part};
-ghost use Rattle.slicc_grammar.specs.TokenKinds.{word_kind};
+ghost use Rattle.slicc_ast.specs.Ahead.{first_of_form};
+ghost use Rattle.slicc_ast.specs.Form.Form.{block as block_form, conditional as conditional_form, otherwise as otherwise_form, statement as statement_form};
+ghost use Rattle.slicc_ast.specs.Parts.{◌▸◌, of, word as word_part};
+ghost use Rattle.slicc_ast.specs.TokenKinds.{word_kind};
 ghost use Rattle.slicc_lex.specs.Syntax.{symbols};
 ghost use Rattle.slicc_reading.specs.Reading.{AreRead, IsRead, Refuses};
 ghost use Rattle.slicc_expr.specs.StatementParts.{AreElseIfs, branch as branch_form, branch_parts, branches_end, else_if_parts, enqueue_statement, is_else_if, nesting_words, other_branches_parts, last_parts, peek_statement, statements_end, statements_parts};

@@ -1,11 +1,11 @@
 //! Statements of a word with something in parentheses and `;`.
 ghost use Rattle.std.specs.Prelude.{◌≡◌, ◌<◌, true, false, length, IfOk, MatchOption, MatchResult};
-ghost use Rattle.slicc_grammar.specs.Kinds.{has, is_ahead};
+ghost use Rattle.slicc_ast.specs.Kinds.{has, is_ahead};
 ghost use Rattle.slicc_ast.specs.Names.{word as word_of};
 ghost use Rattle.slicc_ast.specs.Statements.{print_word as print_word_of, stmt};
-ghost use Rattle.slicc_grammar.specs.Form.Form.{statement as statement_form};
-ghost use Rattle.slicc_grammar.specs.Parts.{of};
-ghost use Rattle.slicc_grammar.specs.TokenKinds.{kind_of, word_kind};
+ghost use Rattle.slicc_ast.specs.Form.Form.{statement as statement_form};
+ghost use Rattle.slicc_ast.specs.Parts.{of};
+ghost use Rattle.slicc_ast.specs.TokenKinds.{kind_of, word_kind};
 ghost use Rattle.slicc_lex.specs.Syntax.{symbols};
 ghost use Rattle.slicc_reading.specs.Reading.{AreRead, IsRead, Refuses};
 ghost use Rattle.slicc_expr.specs.StatementParts.{IsPrintWord, assert as assert_form, calling_words, check_allocate as check_form, error as error_form, print_kinds, print_statement as print_form, print_word as print_word_form, stall_and_wait as stall_form};

@@ -2,17 +2,17 @@
 //! is read with one more nesting open, so that the cycle goes no deeper than the nesting may. Operands of one level, suffixes and
 //! arguments are read by loops.
 ghost use Rattle.std.specs.Prelude.{◌≡◌, ◌+◌, ◌-◌, ◌∷◌, ◌<◌, ◌≤◌, [], true, length, IfOk, MatchResult};
-ghost use Rattle.slicc_grammar.specs.Kinds.{is_ahead};
+ghost use Rattle.slicc_ast.specs.Kinds.{is_ahead};
 ghost use Rattle.slicc_ast.specs.Expressions.{args as args_of, expr, level_of, list_level, mode_parts, suffix as suffix_of};
 ghost use Rattle.slicc_ast.specs.Names.{name as name_of, sign as sign_of, type_name, word as word_of};
 ghost use Rattle.slicc_ast.specs.Outline.{node, none, part, token};
 ghost use Rattle.slicc_ast.specs.declared.tree.token.Sign.TheVariants.{CloseParenthesis, Comma, Dot, Minus as MinusSign, Not as NotSign, OpenBracket, OpenParenthesis};
 ghost use Rattle.slicc_ast.specs.declared.tree.token.TokenKind.TheVariants.{Name as Named};
 ghost use Rattle.slicc_ast.specs.declared.tree.token.Word.TheVariants.{IsInvalid as IsInvalidWord, IsValid as IsValidWord};
-ghost use Rattle.slicc_grammar.specs.Ahead.{first_of_constant, first_of_expression, first_of_opening};
-ghost use Rattle.slicc_grammar.specs.Form.Form.{arguments as arguments_form, constant as constant_form, expression as expression_form, name_end, opening as opening_form, suffix as suffix_form, unary as unary_form};
-ghost use Rattle.slicc_grammar.specs.Parts.{◌▸◌, colon, comma, name as name_part, of, optional, parentheses, prefixed as prefixed_part, repeated, sign as sign_part, word as word_part};
-ghost use Rattle.slicc_grammar.specs.TokenKinds.{sign_kind, word_kind};
+ghost use Rattle.slicc_ast.specs.Ahead.{first_of_constant, first_of_expression, first_of_opening};
+ghost use Rattle.slicc_ast.specs.Form.Form.{arguments as arguments_form, constant as constant_form, expression as expression_form, name_end, opening as opening_form, suffix as suffix_form, unary as unary_form};
+ghost use Rattle.slicc_ast.specs.Parts.{◌▸◌, colon, comma, name as name_part, of, optional, parentheses, prefixed as prefixed_part, repeated, sign as sign_part, word as word_part};
+ghost use Rattle.slicc_ast.specs.TokenKinds.{sign_kind, word_kind};
 ghost use Rattle.slicc_lex.specs.Syntax.{symbols};
 ghost use Rattle.slicc_expr.specs.Levels.{cast_inner, cast_part, chain, chains, enclosed as enclosed_part, form_at, kinds_at};
 ghost use Rattle.slicc_expr.specs.Nodes.{is_some, operands_before, suffixes_before};

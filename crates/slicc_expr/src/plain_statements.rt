@@ -1,12 +1,12 @@
 //! Statements that begin with an expression or with `return`, and declarations of variables.
 ghost use Rattle.std.specs.Prelude.{◌≡◌, ◌<◌, true, length, IfOk, MatchResult};
-ghost use Rattle.slicc_grammar.specs.Kinds.{is_ahead};
+ghost use Rattle.slicc_ast.specs.Kinds.{is_ahead};
 ghost use Rattle.slicc_ast.specs.Expressions.{expr};
 ghost use Rattle.slicc_ast.specs.Statements.{stmt};
 ghost use Rattle.slicc_ast.specs.declared.tree.token.Sign.TheVariants.{Assign};
-ghost use Rattle.slicc_grammar.specs.Ahead.{first_of_opening};
-ghost use Rattle.slicc_grammar.specs.Form.Form.{statement_end as end_form};
-ghost use Rattle.slicc_grammar.specs.Parts.{◌▸◌, name as name_part, of, semicolon};
+ghost use Rattle.slicc_ast.specs.Ahead.{first_of_opening};
+ghost use Rattle.slicc_ast.specs.Form.Form.{statement_end as end_form};
+ghost use Rattle.slicc_ast.specs.Parts.{◌▸◌, name as name_part, of, semicolon};
 ghost use Rattle.slicc_lex.specs.Syntax.{symbols};
 ghost use Rattle.slicc_reading.specs.Reading.{IsNode, IsRead, Refuses};
 ghost use Rattle.slicc_expr.specs.StatementParts.{expression_end, name_outline, named_value as named_form, opening_value as opening_form, return_form};

@@ -2,7 +2,7 @@
 ghost use Rattle.std.specs.Prelude.{◌<◌, ◌≤◌, length, MatchResult};
 ghost use Rattle.slicc_ast.specs.Expressions.{expr};
 ghost use Rattle.slicc_ast.specs.Statements.{block_outline};
-ghost use Rattle.slicc_grammar.specs.Form.Form.{block as block_form, expression as expression_form};
+ghost use Rattle.slicc_ast.specs.Form.Form.{block as block_form, expression as expression_form};
 ghost use Rattle.slicc_lex.specs.Syntax.{AreEnded, IsReadAs};
 ghost use Rattle.slicc_reading.specs.Answers.{IsFaultFrom};
 

@@ -1,10 +1,10 @@
 //! What statements begin with, and go on with behind a name.
 ghost use Rattle.std.specs.Prelude.{◌≡◌, ◌∷◌, [], true};
 ghost use Rattle.slicc_ast.specs.declared.tree.token.Word.TheVariants.{Else};
-ghost use Rattle.slicc_grammar.specs.Kinds.{has, is_ahead};
-ghost use Rattle.slicc_grammar.specs.Ahead.{first_of_form};
-ghost use Rattle.slicc_grammar.specs.Form.Form.{statement as statement_form};
-ghost use Rattle.slicc_grammar.specs.TokenKinds.{kind_of, sign_kind, word_kind};
+ghost use Rattle.slicc_ast.specs.Kinds.{has, is_ahead};
+ghost use Rattle.slicc_ast.specs.Ahead.{first_of_form};
+ghost use Rattle.slicc_ast.specs.Form.Form.{statement as statement_form};
+ghost use Rattle.slicc_ast.specs.TokenKinds.{kind_of, sign_kind, word_kind};
 ghost use Rattle.slicc_lex.specs.Syntax.{symbols};
 ghost use Rattle.slicc_expr.specs.StatementParts.{is_else_if, nesting_words, signs_behind_name, statement_words};
 

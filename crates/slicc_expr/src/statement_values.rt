@@ -1,12 +1,12 @@
 //! Expressions where they stand in statements.
 ghost use Rattle.std.specs.Prelude.{◌≡◌, ◌<◌, true, length, IfOk, MatchResult};
-ghost use Rattle.slicc_grammar.specs.Kinds.{is_ahead};
+ghost use Rattle.slicc_ast.specs.Kinds.{is_ahead};
 ghost use Rattle.slicc_ast.specs.Expressions.{expr};
 ghost use Rattle.slicc_ast.specs.Statements.{latency_parts, optional_expr};
 ghost use Rattle.slicc_ast.specs.declared.tree.token.Sign.TheVariants.{Comma};
-ghost use Rattle.slicc_grammar.specs.Ahead.{first_of_opening};
-ghost use Rattle.slicc_grammar.specs.Form.Form.{expression as expression_form};
-ghost use Rattle.slicc_grammar.specs.Parts.{of, optional};
+ghost use Rattle.slicc_ast.specs.Ahead.{first_of_opening};
+ghost use Rattle.slicc_ast.specs.Form.Form.{expression as expression_form};
+ghost use Rattle.slicc_ast.specs.Parts.{of, optional};
 ghost use Rattle.slicc_lex.specs.Syntax.{symbols};
 ghost use Rattle.slicc_reading.specs.Reading.{AreRead, IsNode, IsRead, Refuses};
 ghost use Rattle.slicc_expr.specs.StatementParts.{name_outline, named_value as named_value_form, named_value_parts, opening_value as opening_form, value_after as value_after_form, value_after_parts, value_end};

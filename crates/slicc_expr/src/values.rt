@@ -1,15 +1,15 @@
 //! Primary expressions of one or two tokens, and what expressions begin with.
 ghost use Rattle.std.specs.Prelude.{◌≡◌, ◌∷◌, ◌<◌, [], ◌≤◌, false, true, length, IfOk, MatchOption, MatchResult};
-ghost use Rattle.slicc_grammar.specs.Kinds.{has, is_ahead};
+ghost use Rattle.slicc_ast.specs.Kinds.{has, is_ahead};
 ghost use Rattle.slicc_ast.specs.Expressions.{expr, level_of};
 ghost use Rattle.slicc_ast.specs.Names.{word as word_of};
 ghost use Rattle.slicc_ast.specs.Outline.{node, none, token};
 ghost use Rattle.slicc_ast.specs.declared.tree.token.TokenKind.TheVariants.{Word as WordOf};
 ghost use Rattle.slicc_ast.specs.declared.tree.token.Word.TheVariants.{New as NewWord};
-ghost use Rattle.slicc_grammar.specs.Ahead.{first_of_constant, first_of_expression, first_of_opening};
-ghost use Rattle.slicc_grammar.specs.Parts.{◌▸◌, name as name_part, of, word as word_part};
-ghost use Rattle.slicc_grammar.specs.Form.Form.{constant as constant_form};
-ghost use Rattle.slicc_grammar.specs.TokenKinds.{kind_of, number, word_kind};
+ghost use Rattle.slicc_ast.specs.Ahead.{first_of_constant, first_of_expression, first_of_opening};
+ghost use Rattle.slicc_ast.specs.Parts.{◌▸◌, name as name_part, of, word as word_part};
+ghost use Rattle.slicc_ast.specs.Form.Form.{constant as constant_form};
+ghost use Rattle.slicc_ast.specs.TokenKinds.{kind_of, number, word_kind};
 ghost use Rattle.slicc_lex.specs.Syntax.{symbols};
 ghost use Rattle.slicc_reading.specs.Reading.{IsRead, Refuses};
 ghost use Rattle.slicc_expr.specs.Levels.{IsSimple, longer_kinds, simple_kinds};

@@ -3,15 +3,15 @@ use Rattle.std.proofs.Common.{◌≡◌, ◌+◌, ◌-◌, ◌++◌, ℕ, Some, 
 use Rattle.std.proofs.lemmas.List.{length-map}
 use Rattle.std.proofs.lemmas.Option.{same_Some}
 use Rattle.std.specs.List.{slice_get}
-use Rattle.slicc_grammar.specs.Faults.{IsFirstFault, Stop}
-use Rattle.slicc_grammar.specs.Faults.Stop.{Passed, Bad, Deep, Short}
-use Rattle.slicc_grammar.specs.Grammar.Row.{done, form}
-use Rattle.slicc_grammar.specs.Grammar.Rows.{end}
-use Rattle.slicc_grammar.proofs.Fronts.{one_stop}
+use Rattle.slicc_ast.specs.Faults.{IsFirstFault, Stop}
+use Rattle.slicc_ast.specs.Faults.Stop.{Passed, Bad, Deep, Short}
+use Rattle.slicc_ast.specs.Grammar.Row.{done, form}
+use Rattle.slicc_ast.specs.Grammar.Rows.{end}
+use Rattle.slicc_ast.proofs.Fronts.{one_stop}
 use Rattle.slicc_ast.specs.declared.tree.item.Tree.{Tree}
-use Rattle.slicc_grammar.specs.Form.{Form}
-use Rattle.slicc_grammar.specs.TokenKinds.{kind_of}
-use Rattle.slicc_grammar.specs.Written.{written}
+use Rattle.slicc_ast.specs.Form.{Form}
+use Rattle.slicc_ast.specs.TokenKinds.{kind_of}
+use Rattle.slicc_ast.specs.Written.{written}
 use Rattle.slicc_lex.specs.declared.token.Token.{Token}
 use Rattle.slicc_lex.specs.Spells.{Spells}
 use Rattle.slicc_lex.specs.Syntax.{IsStoppedAt, symbols}

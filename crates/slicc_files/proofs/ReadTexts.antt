@@ -3,12 +3,12 @@ use Rattle.std.proofs.Common.{◌≡◌, ◌<◌, ◌+◌, ◌++◌, ◌⊎◌, 
 use Rattle.std.proofs.lemmas.List.{length-map}
 use Rattle.std.specs.List.{slice_get}
 use Rattle.slicc_ast.specs.declared.tree.item.Tree.{Tree}
-use Rattle.slicc_grammar.specs.Faults.{IsFirstFault, Stop}
-use Rattle.slicc_grammar.specs.Faults.Stop.{Bad, Deep}
-use Rattle.slicc_grammar.specs.Faults.IsStop.{one_too_deep, whole, opener_too_deep, not_viable, too_short}
-use Rattle.slicc_grammar.specs.Form.{Form}
-use Rattle.slicc_grammar.specs.TokenKinds.{kind_of}
-use Rattle.slicc_grammar.specs.Written.{written}
+use Rattle.slicc_ast.specs.Faults.{IsFirstFault, Stop}
+use Rattle.slicc_ast.specs.Faults.Stop.{Bad, Deep}
+use Rattle.slicc_ast.specs.Faults.IsStop.{one_too_deep, whole, opener_too_deep, not_viable, too_short}
+use Rattle.slicc_ast.specs.Form.{Form}
+use Rattle.slicc_ast.specs.TokenKinds.{kind_of}
+use Rattle.slicc_ast.specs.Written.{written}
 use Rattle.slicc_lex.specs.declared.fault.LexFault.{LexFault}
 use Rattle.slicc_lex.specs.declared.fault.LexFault.TheVariants.{NoMemory}
 use Rattle.slicc_lex.specs.declared.token.Token.{Token}

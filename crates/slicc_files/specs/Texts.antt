@@ -4,10 +4,10 @@
 use Rattle.std.specs.Prelude.{◌≡◌, ℕ, Option, None, Some, Result, Ok, Err, List, [], codes}
 use Rattle.std.specs.List.{slice_get}
 use Rattle.slicc_ast.specs.declared.tree.item.Tree.{Tree}
-use Rattle.slicc_grammar.specs.Faults.{IsFirstFault}
-use Rattle.slicc_grammar.specs.Faults.Stop.{Passed}
-use Rattle.slicc_grammar.specs.Form.{Form}
-use Rattle.slicc_grammar.specs.Written.{written}
+use Rattle.slicc_ast.specs.Faults.{IsFirstFault}
+use Rattle.slicc_ast.specs.Faults.Stop.{Passed}
+use Rattle.slicc_ast.specs.Form.{Form}
+use Rattle.slicc_ast.specs.Written.{written}
 use Rattle.slicc_lex.specs.declared.fault.LexFault.{LexFault}
 use Rattle.slicc_lex.specs.declared.fault.LexFault.TheVariants as lexical
 use Rattle.slicc_lex.specs.declared.token.Token.{Token}

@@ -5,8 +5,7 @@ ghost use Rattle.slicc_plan.specs.Machines.{transitions_of};
 ghost use Rattle.slicc_plan.specs.TableNeeds.{checks_at};
 ghost use Rattle.slicc_flow.specs.Checks.{decl_checks, transition_checks};
 
-use name_index::NameIndex;
-use ruby_base::{NoMemory, Seq};
+use ruby_base::{NameIndex, NoMemory, Seq};
 use slicc_ast::tree::{Decl, Machine, Transition};
 use slicc_plan::Body;
 use std::alloc::Global;

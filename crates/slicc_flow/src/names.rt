@@ -2,7 +2,7 @@ ghost use Rattle.std.specs.Prelude.{◌≡◌};
 ghost use Rattle.std.specs.Option.{option_copied};
 ghost use Rattle.slicc_plan.specs.BodyParts.{is_directory, number_in};
 
-use name_index::NameIndex;
+use ruby_base::NameIndex;
 use std::marker::Model;
 
 /// What names stand for in the bodies of a machine.

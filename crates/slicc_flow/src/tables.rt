@@ -8,8 +8,7 @@ ghost use Rattle.declared_types.specs.Scopes.{scope_at};
 ghost use Rattle.slicc_flow.specs.Tables.{is_of_sort, is_sort_name};
 
 use declared_types::{Declared, KnownType, Scopes};
-use name_index::NameIndex;
-use ruby_base::NoMemory;
+use ruby_base::{NameIndex, NoMemory};
 use slicc_plan::BuiltInType;
 use std::alloc::Global;
 

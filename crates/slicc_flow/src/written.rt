@@ -3,8 +3,7 @@ ghost use Rattle.std.specs.Prelude.{◌≡◌, fold, IfOk, OnOk};
 ghost use Rattle.slicc_plan.specs.BodyParts.{action_in, function_in, names_of_written, port_in, with_written, written_actions, written_functions, written_ports};
 ghost use Rattle.slicc_flow.specs.Written.{written_list, written_of, written_or_none};
 
-use name_index::NameIndex;
-use ruby_base::{NoMemory, Seq};
+use ruby_base::{NameIndex, NoMemory, Seq};
 use slicc_ast::tree::{Block, Decl, Function, Machine, Span};
 use std::alloc::Global;
 

@@ -8,14 +8,14 @@ use Rattle.ruby_symbols.specs.declared.machine.MachineSymbols.{MachineSymbols}
 use Rattle.ruby_symbols.specs.declared.symbols.Symbols.{Symbols}
 use Rattle.slicc_plan.specs.Declarations.{machines_of}
 use Rattle.slicc_plan.specs.SymbolsOf.{symbols_of}
-use Rattle.symbol_laws.specs.Lawful.{HasNumbers}
+use Rattle.slicc_plan.specs.Lawful.{HasNumbers}
 use Rattle.ctl_face.specs.LocalView.{LocalView}
 use Rattle.built_in_acts.specs.declared.setting.CallSetting.{CallSetting}
 use Rattle.body_meaning.specs.declared.round.RoundEnd.TheVariants.{Idle}
 use Rattle.body_meaning.specs.declared.tried.Tried.TheVariants.{Waits}
 use Rattle.body_meaning.specs.Round.{IsRoundOf}
 use Rattle.body_meaning.specs.Scan.{by_try, scan}
-use Rattle.machine_bodies.specs.Few.{HasFew}
+use Rattle.statement_walk.specs.Few.{HasFew}
 use Rattle.protocol_meaning.specs.Meaning.{scan_of}
 use Rattle.protocol_meaning.specs.Readings.{call_setting}
 

@@ -2,7 +2,7 @@ ghost use Rattle.std.specs.Prelude.{◌≡◌, List, Some, slice_get};
 ghost use Rattle.slicc_ast.specs.declared.tree.item.Tree.{Tree as TreeRecord};
 ghost use Rattle.slicc_plan.specs.Declarations.{machines_of};
 ghost use Rattle.slicc_plan.specs.SymbolsOf.{symbols_of};
-ghost use Rattle.symbol_laws.specs.Lawful.{HasNumbers};
+ghost use Rattle.slicc_plan.specs.Lawful.{HasNumbers};
 ghost use Rattle.body_meaning.specs.Round.{IsRoundOf};
 ghost use Rattle.protocol_meaning.specs.Meaning.{scan_of};
 

@@ -1,6 +1,6 @@
 // What the built-in calls of a machine go by.
 ghost use Rattle.std.specs.Prelude.{◌≡◌, ◌≤◌, IfOk, length, map};
-ghost use Rattle.symbol_laws.specs.Lawful.{HasNumbers};
+ghost use Rattle.slicc_plan.specs.Lawful.{HasNumbers};
 ghost use Rattle.protocol_meaning.specs.Readings.{call_setting as call_setting_is, has_tbe_references as has_tbe_references_is, kept_machines as kept_machines_are};
 
 use built_in_acts::{CallSetting, KeptMachines};

@@ -2,11 +2,10 @@
 ghost use Rattle.std.specs.Prelude.{◌≡◌, ◌≤◌, All, IfSome, length, slice_get};
 ghost use Rattle.std.specs.Option.{option_copied};
 ghost use Rattle.slicc_plan.specs.SymbolsOf.{symbols_of};
-ghost use Rattle.symbol_laws.specs.Lawful.{HasNumbers};
+ghost use Rattle.slicc_plan.specs.Lawful.{HasNumbers};
 
 use ruby_symbols::MachineSymbols;
-use slicc_plan::Plan;
-use symbol_laws::{lists_have_numbers, machines_are_few};
+use slicc_plan::{Plan, lists_have_numbers, machines_are_few};
 
 // A plan is that of an accepted protocol. It does nothing.
 pub(crate) fn plans_are_small(plan: &Plan)

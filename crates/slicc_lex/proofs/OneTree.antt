@@ -9,7 +9,7 @@ use Rattle.slicc_ast.specs.Outline.{kinds_in, shape_of}
 use Rattle.slicc_ast.specs.Expressions.{expr}
 use Rattle.slicc_ast.specs.Statements.{block_outline}
 use Rattle.slicc_ast.specs.Trees.{tree, tree_parts}
-use Rattle.slicc_grammar.proofs.OneTree.{one_tree, one_block, one_expression}
+use Rattle.slicc_ast.proofs.OneTree.{one_tree, one_block, one_expression}
 use Rattle.slicc_lex.specs.declared.token.Token.{Token}
 use Rattle.slicc_lex.specs.Spells.{Spells, SpellsNode, token_kinds}
 

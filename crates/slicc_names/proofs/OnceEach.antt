@@ -9,7 +9,7 @@ use Rattle.std.specs.Cmp.Lexicographic.{nat_list_eq_equiv}
 use Rattle.std.specs.List.{IsDistinct, list_any}
 use Rattle.std.specs.Str.{bytes_eq}
 use Rattle.slicc_ast.specs.declared.tree.name.Name.{Name}
-use Rattle.name_index.specs.Numbering.{AreDistinct, is_name, number_among, with_name}
+use Rattle.ruby_base.specs.Numbering.{AreDistinct, is_name, number_among, with_name}
 use Rattle.slicc_plan.specs.Declarations.{Declaration, is_named, is_text, name_of}
 use Rattle.slicc_plan.specs.TwiceDeclared.{listed, names_of}
 use Rattle.declared_types.proofs.Index.{any_named, number_among-within}

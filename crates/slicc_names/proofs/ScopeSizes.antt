@@ -25,7 +25,7 @@ use Rattle.slicc_ast.specs.declared.tree.span.Span.{Span}
 use Rattle.slicc_ast.specs.Machines.{decl as decl_outline, decl_list, machine as machine_outline, parameter as parameter_outline, parameter_list, type_parts}
 use Rattle.slicc_ast.specs.Outline.{Parts, are_allowed, is_allowed}
 use Rattle.slicc_ast.specs.Trees.{item as item_outline, item_list, protocol_parts, tree}
-use Rattle.name_index.specs.Numbering.{is_name, number_among}
+use Rattle.ruby_base.specs.Numbering.{is_name, number_among}
 use Rattle.slicc_plan.specs.BrokenDeclarations.{broken_declarations}
 use Rattle.slicc_plan.specs.BuiltIn.{NamedType, built_in_types}
 use Rattle.slicc_plan.specs.Declarations.{Declaration, machine, enumeration, structure, parameter, function, Scope, everywhere, within, declared_in, global_declarations, is_external, is_named, item_declarations, machine_declarations, machine_in, machine_names, machines_of, named_declarations, first_named, wide_scopes}

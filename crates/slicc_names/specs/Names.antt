@@ -5,7 +5,7 @@ use Rattle.std.specs.List.{slice_get}
 use Rattle.slicc_ast.specs.declared.tree.item.Tree.{Tree}
 use Rattle.slicc_ast.specs.Outline.{is_allowed}
 use Rattle.slicc_ast.specs.Trees.{tree}
-use Rattle.name_index.specs.Numbering.{number_among, with_name}
+use Rattle.ruby_base.specs.Numbering.{number_among, with_name}
 use Rattle.slicc_ast.specs.declared.tree.name.Name.{Name}
 use Rattle.slicc_plan.specs.Declarations.{Declaration, Scope, declared_in, wide_scopes}
 use Rattle.slicc_plan.specs.TwiceDeclared.{names_of}

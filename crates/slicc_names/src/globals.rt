@@ -7,8 +7,7 @@ ghost use Rattle.slicc_plan.specs.Order.{first_after};
 ghost use Rattle.slicc_plan.specs.TwiceDeclared.{declaration_told, globally_repeated_after, listed, stands_for_built_in, takes_built_in_name};
 
 use crate::first_names::{FirstNames, twice};
-use built_ins::built_in_type;
-use declared_types::{Declared, is_external, name_of};
+use declared_types::{Declared, built_in_type, is_external, name_of};
 use slicc_ast::tree::Name;
 use slicc_plan::{Broken, NoMemory, earlier_broken};
 use std::alloc::Global;

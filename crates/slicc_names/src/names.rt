@@ -4,7 +4,7 @@ ghost use Rattle.declared_types.specs.Lent.{declarations_of};
 ghost use Rattle.slicc_names.specs.Names.{all_names, name_number, once_each, short_number, texts_declared};
 
 use declared_types::{Declared, Scopes, name_of};
-use name_index::NameIndex;
+use ruby_base::NameIndex;
 use slicc_ast::Text;
 use slicc_plan::{NoMemory, Seq};
 use std::alloc::Global;

@@ -7,15 +7,15 @@ use Rattle.slicc_ast.specs.declared.tree.token.TokenKind.{TokenKind}
 use Rattle.slicc_ast.specs.declared.tree.token.TokenKind.TheVariants.{End}
 use Rattle.slicc_ast.specs.Outline.{covering, none, token}
 use Rattle.slicc_ast.specs.Trees.{protocol_parts}
-use Rattle.slicc_grammar.specs.Faults.{IsFirstFault}
-use Rattle.slicc_grammar.specs.Faults.Stop.{Passed}
-use Rattle.slicc_grammar.specs.Kinds.{has, is_ahead}
-use Rattle.slicc_grammar.specs.Ahead.{first_of_form}
-use Rattle.slicc_grammar.specs.Form.Form.{file}
-use Rattle.slicc_grammar.specs.Parts.{◌▸◌, end_token, of, optional}
-use Rattle.slicc_grammar.specs.TokenKinds.{end_of_text, kind_of}
-use Rattle.slicc_grammar.specs.Written.{written}
-use Rattle.slicc_grammar.proofs.Readers.{passed}
+use Rattle.slicc_ast.specs.Faults.{IsFirstFault}
+use Rattle.slicc_ast.specs.Faults.Stop.{Passed}
+use Rattle.slicc_ast.specs.Kinds.{has, is_ahead}
+use Rattle.slicc_ast.specs.Ahead.{first_of_form}
+use Rattle.slicc_ast.specs.Form.Form.{file}
+use Rattle.slicc_ast.specs.Parts.{◌▸◌, end_token, of, optional}
+use Rattle.slicc_ast.specs.TokenKinds.{end_of_text, kind_of}
+use Rattle.slicc_ast.specs.Written.{written}
+use Rattle.slicc_ast.proofs.Readers.{passed}
 use Rattle.slicc_lex.specs.declared.token.Token.{Token}
 use Rattle.slicc_lex.specs.Spells.{token_spans}
 use Rattle.slicc_lex.specs.Syntax.{nesting_limit, symbols}

@@ -12,7 +12,7 @@ use Rattle.slicc_ast.specs.Declarations.{formals as formals_of, is_skipped, pair
 use Rattle.slicc_ast.specs.Machines.{function}
 use Rattle.slicc_ast.specs.Names.{name as name_of, type_name as type_of}
 use Rattle.slicc_ast.specs.Outline.{node, none, provided, token}
-use Rattle.slicc_grammar.specs.Parts.{Part}
+use Rattle.slicc_ast.specs.Parts.{Part}
 use Rattle.slicc_lex.specs.declared.token.Token.{Token}
 use Rattle.slicc_parse.specs.Rows.{body_parts}
 use Rattle.slicc_parse.proofs.Lists.{body_parts_none}

@@ -8,7 +8,7 @@ use Rattle.slicc_ast.specs.declared.tree.machine.Decl.TheVariants.{States, Enume
 use Rattle.slicc_ast.specs.Machines.{decl}
 use Rattle.slicc_ast.specs.Outline.{Outline, kinds_of}
 use Rattle.slicc_ast.specs.Trees.{item}
-use Rattle.slicc_grammar.specs.Parts.{Part}
+use Rattle.slicc_ast.specs.Parts.{Part}
 use Rattle.slicc_lex.specs.declared.token.Token.{Token}
 use Rattle.slicc_lex.specs.Spells.{token_kinds}
 use Rattle.slicc_reading.specs.Reading.{IsRead}

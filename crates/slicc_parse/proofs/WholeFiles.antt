@@ -4,25 +4,25 @@ use Rattle.std.specs.List.{slice_get}
 use Rattle.std.proofs.lemmas.Bool.{false≢true}
 use Rattle.slicc_ast.specs.declared.tree.token.TokenKind.TheVariants.{End}
 use Rattle.slicc_ast.specs.declared.tree.token.Word.TheVariants.{Protocol}
-use Rattle.slicc_grammar.specs.Faults.{IsFirstFault}
-use Rattle.slicc_grammar.specs.Faults.Stop.{Short}
-use Rattle.slicc_grammar.specs.Faults.IsStop.{too_short}
-use Rattle.slicc_grammar.specs.Grammar.{Row}
-use Rattle.slicc_grammar.specs.Grammar.Row.{done, form}
-use Rattle.slicc_grammar.specs.Grammar.Rows.{end, next}
-use Rattle.slicc_grammar.specs.Kinds.{has}
-use Rattle.slicc_grammar.specs.Matches.{Begins, Derives, Matches}
-use Rattle.slicc_grammar.specs.Matches.Extent.{Front}
-use Rattle.slicc_grammar.specs.Matches.Matches.{stopped, ended, one, alternative}
-use Rattle.slicc_grammar.specs.Same.{joined}
-use Rattle.slicc_grammar.proofs.InARow.{begins_in_a_row, derives_in_a_row}
-use Rattle.slicc_grammar.proofs.Joining.{merge, part}
-use Rattle.slicc_grammar.proofs.KindSets.{in_either}
-use Rattle.slicc_grammar.specs.Form.{Form}
-use Rattle.slicc_grammar.specs.Form.Form.{file, item}
-use Rattle.slicc_grammar.specs.Parts.{◌▸◌, end_token, of, optional, repeated, semicolon, string, word}
-use Rattle.slicc_grammar.specs.TokenKinds.{end_of_text}
-use Rattle.slicc_grammar.specs.Written.{written}
+use Rattle.slicc_ast.specs.Faults.{IsFirstFault}
+use Rattle.slicc_ast.specs.Faults.Stop.{Short}
+use Rattle.slicc_ast.specs.Faults.IsStop.{too_short}
+use Rattle.slicc_ast.specs.Grammar.{Row}
+use Rattle.slicc_ast.specs.Grammar.Row.{done, form}
+use Rattle.slicc_ast.specs.Grammar.Rows.{end, next}
+use Rattle.slicc_ast.specs.Kinds.{has}
+use Rattle.slicc_ast.specs.Matches.{Begins, Derives, Matches}
+use Rattle.slicc_ast.specs.Matches.Extent.{Front}
+use Rattle.slicc_ast.specs.Matches.Matches.{stopped, ended, one, alternative}
+use Rattle.slicc_ast.specs.Same.{joined}
+use Rattle.slicc_ast.proofs.InARow.{begins_in_a_row, derives_in_a_row}
+use Rattle.slicc_ast.proofs.Joining.{merge, part}
+use Rattle.slicc_ast.proofs.KindSets.{in_either}
+use Rattle.slicc_ast.specs.Form.{Form}
+use Rattle.slicc_ast.specs.Form.Form.{file, item}
+use Rattle.slicc_ast.specs.Parts.{◌▸◌, end_token, of, optional, repeated, semicolon, string, word}
+use Rattle.slicc_ast.specs.TokenKinds.{end_of_text}
+use Rattle.slicc_ast.specs.Written.{written}
 use Rattle.slicc_lex.specs.declared.token.Token.{Token}
 use Rattle.slicc_lex.specs.Syntax.{symbols}
 use Rattle.slicc_reading.proofs.Endless.{endless, has_last}

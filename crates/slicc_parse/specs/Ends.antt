@@ -4,10 +4,10 @@ use Rattle.slicc_ast.specs.declared.tree.item.Tree.{Tree}
 use Rattle.slicc_ast.specs.declared.tree.token.TokenKind.TheVariants.{End}
 use Rattle.slicc_ast.specs.Outline.{covering}
 use Rattle.slicc_ast.specs.Trees.{tree_parts}
-use Rattle.slicc_grammar.specs.Reader.{Passes}
-use Rattle.slicc_grammar.specs.Form.Form.{file}
-use Rattle.slicc_grammar.specs.Parts.{of}
-use Rattle.slicc_grammar.specs.Table.{table}
+use Rattle.slicc_ast.specs.Reader.{Passes}
+use Rattle.slicc_ast.specs.Form.Form.{file}
+use Rattle.slicc_ast.specs.Parts.{of}
+use Rattle.slicc_ast.specs.Table.{table}
 use Rattle.slicc_lex.specs.declared.token.Token.{Token}
 use Rattle.slicc_lex.specs.Spells.{token_spans}
 use Rattle.slicc_lex.specs.Syntax.{symbols}

@@ -4,12 +4,12 @@
 use Rattle.std.specs.Prelude.{◌≡◌, ◌≢◌, ◌++◌, All, List, [], ◌∷◌, Result, MatchResult}
 use Rattle.slicc_ast.specs.declared.tree.item.Tree.{Tree}
 use Rattle.slicc_ast.specs.declared.tree.token.TokenKind.TheVariants.{End}
-use Rattle.slicc_grammar.specs.Faults.{IsFirstFault, IsWithin}
-use Rattle.slicc_grammar.specs.Faults.Stop.{Passed}
-use Rattle.slicc_grammar.specs.Grammar.Row.{done, form}
-use Rattle.slicc_grammar.specs.Grammar.Rows.{end}
-use Rattle.slicc_grammar.specs.Form.Form.{file}
-use Rattle.slicc_grammar.specs.Written.{written}
+use Rattle.slicc_ast.specs.Faults.{IsFirstFault, IsWithin}
+use Rattle.slicc_ast.specs.Faults.Stop.{Passed}
+use Rattle.slicc_ast.specs.Grammar.Row.{done, form}
+use Rattle.slicc_ast.specs.Grammar.Rows.{end}
+use Rattle.slicc_ast.specs.Form.Form.{file}
+use Rattle.slicc_ast.specs.Written.{written}
 use Rattle.slicc_lex.specs.declared.token.Token.{Token}
 use Rattle.slicc_lex.specs.Spells.{Spells}
 use Rattle.slicc_lex.specs.Syntax.{nesting_limit, symbols}

@@ -14,9 +14,9 @@ use Rattle.slicc_ast.specs.Names.{sign as sign_of}
 use Rattle.slicc_ast.specs.Outline.{Parts, part}
 use Rattle.slicc_ast.specs.Statements.{block}
 use Rattle.slicc_ast.specs.Trees.{item as item_of, protocol_parts}
-use Rattle.slicc_grammar.specs.Form.Form.{body, declaration, declaration_end, formals, functional_end, item, machine_name, named_end, parameter}
-use Rattle.slicc_grammar.specs.Parts.{Part, ◌▸◌, braces, colon, comma, name, of, optional, pairs, parentheses, plain_name, repeated, semicolon, sign, skipped_name, star, string, type, word}
-use Rattle.slicc_grammar.specs.TokenKinds.{word_kind}
+use Rattle.slicc_ast.specs.Form.Form.{body, declaration, declaration_end, formals, functional_end, item, machine_name, named_end, parameter}
+use Rattle.slicc_ast.specs.Parts.{Part, ◌▸◌, braces, colon, comma, name, of, optional, pairs, parentheses, plain_name, repeated, semicolon, sign, skipped_name, star, string, type, word}
+use Rattle.slicc_ast.specs.TokenKinds.{word_kind}
 
 -- a function's body, or `;`
 abbrev pub body_parts : Option Block → Parts → Parts

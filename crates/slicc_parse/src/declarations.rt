@@ -1,10 +1,10 @@
 //! The declarations of a machine, each chosen by its first token.
 ghost use Rattle.std.specs.Prelude.{◌≡◌, MatchResult};
-ghost use Rattle.slicc_grammar.specs.Kinds.{is_ahead};
+ghost use Rattle.slicc_ast.specs.Kinds.{is_ahead};
 ghost use Rattle.slicc_ast.specs.Machines.{decl};
-ghost use Rattle.slicc_grammar.specs.Ahead.{first_of_form};
-ghost use Rattle.slicc_grammar.specs.Form.Form.{action as action_form, declaration as declaration_form, enumeration as enumeration_form, in_port as in_port_form, out_port as out_port_form, states as states_form, structure as structure_form, transition as transition_form};
-ghost use Rattle.slicc_grammar.specs.Parts.{of};
+ghost use Rattle.slicc_ast.specs.Ahead.{first_of_form};
+ghost use Rattle.slicc_ast.specs.Form.Form.{action as action_form, declaration as declaration_form, enumeration as enumeration_form, in_port as in_port_form, out_port as out_port_form, states as states_form, structure as structure_form, transition as transition_form};
+ghost use Rattle.slicc_ast.specs.Parts.{of};
 ghost use Rattle.slicc_lex.specs.Syntax.{symbols};
 ghost use Rattle.slicc_parse.specs.Rows.{braces_parts, braces_row, closed_parts, closed_row, words_of_kinds, words_of_rules};
 ghost use Rattle.slicc_reading.specs.Reading.{AreRead, IsRead, Refuses};

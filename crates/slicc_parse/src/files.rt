@@ -1,12 +1,12 @@
 //! Whole files.
 ghost use Rattle.std.specs.Prelude.{◌≡◌, ◌==◌, ◌∷◌, ◌≤◌, [], IsTrue, length, not, IfOk, MatchResult};
-ghost use Rattle.slicc_grammar.specs.Kinds.{has, is_ahead};
+ghost use Rattle.slicc_ast.specs.Kinds.{has, is_ahead};
 ghost use Rattle.slicc_ast.specs.Outline.{covering};
 ghost use Rattle.slicc_ast.specs.declared.tree.token.TokenKind.TheVariants.{End};
-ghost use Rattle.slicc_grammar.specs.Ahead.{first_of_form};
-ghost use Rattle.slicc_grammar.specs.Form.Form.{file as file_form};
-ghost use Rattle.slicc_grammar.specs.Parts.{end_token, of};
-ghost use Rattle.slicc_grammar.specs.TokenKinds.{end_of_text, kind_of};
+ghost use Rattle.slicc_ast.specs.Ahead.{first_of_form};
+ghost use Rattle.slicc_ast.specs.Form.Form.{file as file_form};
+ghost use Rattle.slicc_ast.specs.Parts.{end_token, of};
+ghost use Rattle.slicc_ast.specs.TokenKinds.{end_of_text, kind_of};
 ghost use Rattle.slicc_lex.specs.Spells.{token_spans};
 ghost use Rattle.slicc_lex.specs.Syntax.{symbols};
 ghost use Rattle.slicc_parse.specs.Ends.{IsEndAt, IsFileRead};

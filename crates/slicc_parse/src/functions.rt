@@ -4,8 +4,8 @@ ghost use Rattle.slicc_ast.specs.Declarations.{is_skipped};
 ghost use Rattle.slicc_ast.specs.Machines.{function as function_of};
 ghost use Rattle.slicc_ast.specs.Outline.{node, none, token};
 ghost use Rattle.slicc_ast.specs.declared.tree.token.TokenKind.TheVariants.{Name as Named};
-ghost use Rattle.slicc_grammar.specs.Form.Form.{body as body_form};
-ghost use Rattle.slicc_grammar.specs.Parts.{of};
+ghost use Rattle.slicc_ast.specs.Form.Form.{body as body_form};
+ghost use Rattle.slicc_ast.specs.Parts.{of};
 ghost use Rattle.slicc_parse.specs.Rows.{body_parts, ending_parts, ending_row, function_parts, function_row};
 ghost use Rattle.slicc_reading.specs.Reading.{AreRead, IsNode, IsRead, Refuses};
 

@@ -1,8 +1,8 @@
 //! The declarations that are a head and a block: ports that messages are received by, and actions.
 ghost use Rattle.std.specs.Prelude.{MatchResult};
 ghost use Rattle.slicc_ast.specs.Machines.{action as action_of, in_port as in_port_of};
-ghost use Rattle.slicc_grammar.specs.Form.Form.{action as action_form, in_port as in_port_form};
-ghost use Rattle.slicc_grammar.specs.Parts.{of};
+ghost use Rattle.slicc_ast.specs.Form.Form.{action as action_form, in_port as in_port_form};
+ghost use Rattle.slicc_ast.specs.Parts.{of};
 ghost use Rattle.slicc_reading.specs.Reading.{IsRead, Refuses};
 
 use slicc_ast::tree::{Action, InPort, Word};

@@ -1,10 +1,10 @@
 //! The items of a file.
 ghost use Rattle.std.specs.Prelude.{◌≡◌, ◌==◌, IsTrue, length, not, IfOk, MatchResult};
-ghost use Rattle.slicc_grammar.specs.Kinds.{is_ahead};
+ghost use Rattle.slicc_ast.specs.Kinds.{is_ahead};
 ghost use Rattle.slicc_ast.specs.Trees.{item as item_of};
-ghost use Rattle.slicc_grammar.specs.Ahead.{first_of_form};
-ghost use Rattle.slicc_grammar.specs.Form.Form.{enumeration as enumeration_form, item as item_form, machine as machine_form, structure as structure_form};
-ghost use Rattle.slicc_grammar.specs.Parts.{of};
+ghost use Rattle.slicc_ast.specs.Ahead.{first_of_form};
+ghost use Rattle.slicc_ast.specs.Form.Form.{enumeration as enumeration_form, item as item_form, machine as machine_form, structure as structure_form};
+ghost use Rattle.slicc_ast.specs.Parts.{of};
 ghost use Rattle.slicc_lex.specs.Syntax.{symbols};
 ghost use Rattle.slicc_parse.specs.Rows.{items_parts, items_row};
 ghost use Rattle.slicc_reading.specs.Reading.{AreRead, IsRead, Refuses};

@@ -1,8 +1,8 @@
 //! Machines.
 ghost use Rattle.std.specs.Prelude.{MatchResult};
 ghost use Rattle.slicc_ast.specs.Machines.{machine as machine_of};
-ghost use Rattle.slicc_grammar.specs.Form.Form.{machine as machine_form};
-ghost use Rattle.slicc_grammar.specs.Parts.{of};
+ghost use Rattle.slicc_ast.specs.Form.Form.{machine as machine_form};
+ghost use Rattle.slicc_ast.specs.Parts.{of};
 ghost use Rattle.slicc_parse.specs.Rows.{machine_parts, machine_row};
 ghost use Rattle.slicc_reading.specs.Reading.{AreRead, IsRead, Refuses};
 

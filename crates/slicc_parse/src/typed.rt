@@ -1,13 +1,13 @@
 //! The declarations that begin with a type: functions and objects.
 ghost use Rattle.std.specs.Prelude.{◌≡◌, ◌∷◌, [], IsTrue, true, MatchResult, not};
-ghost use Rattle.slicc_grammar.specs.Kinds.{is_ahead};
+ghost use Rattle.slicc_ast.specs.Kinds.{is_ahead};
 ghost use Rattle.slicc_ast.specs.Declarations.{is_skipped};
 ghost use Rattle.slicc_ast.specs.Machines.{decl};
 ghost use Rattle.slicc_ast.specs.Outline.{node, none, token};
 ghost use Rattle.slicc_ast.specs.declared.tree.token.TokenKind.TheVariants.{Name as Named};
-ghost use Rattle.slicc_grammar.specs.Form.Form.{declaration_end as declaration_end_form, functional_end as functional_end_form, named_end as named_end_form};
-ghost use Rattle.slicc_grammar.specs.Parts.{of};
-ghost use Rattle.slicc_grammar.specs.TokenKinds.{functional_name, machine_type, other_name};
+ghost use Rattle.slicc_ast.specs.Form.Form.{declaration_end as declaration_end_form, functional_end as functional_end_form, named_end as named_end_form};
+ghost use Rattle.slicc_ast.specs.Parts.{of};
+ghost use Rattle.slicc_ast.specs.TokenKinds.{functional_name, machine_type, other_name};
 ghost use Rattle.slicc_lex.specs.Syntax.{symbols};
 ghost use Rattle.slicc_parse.specs.Rows.{object_row, plain_row, skipped_row, starred_row, typed_row};
 ghost use Rattle.slicc_reading.specs.Reading.{IsNode, IsRead, Refuses};

@@ -45,3 +45,5 @@ pub mod TypeNumbers
 pub mod Types
 pub mod UnknownTypes
 pub mod Values
+pub mod Lawful
+pub mod Numbering

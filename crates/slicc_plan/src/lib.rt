@@ -1,5 +1,7 @@
-//! What a protocol means once its names are resolved: the rules that its declarations, bodies and machines keep, and which of
-//! the broken ones is told.
+//! What a protocol means once its names are resolved: the rules that its declarations, bodies and machines keep, and which of the broken
+//! ones is told. Laws of the symbols of every accepted protocol: its lists are short, its tables have room, its virtual networks are
+//! numbered, carry one type of messages each, and are received from once at most by a machine; and tables, functions, actions and
+//! transitions are counted in one way.
 #![tactic(auto)]
 
 mod answer;
@@ -12,6 +14,7 @@ mod plan;
 mod refusal;
 mod row;
 mod setup;
+mod symbol_laws;
 
 pub use answer::{answer_is_one, phases_answer, told_is_first_of_all};
 pub use broken::{Broken, Rule, Subject, earlier_broken, earlier_of_two, first_broken, refused};
@@ -29,3 +32,8 @@ pub use setup::{
     tables_have_room,
 };
 pub use slicc_ast::tree::Span;
+pub use symbol_laws::{
+    lists_have_numbers, machines_are_few, names_have_one_numbering, needs_are_of_symbols,
+    networks_are_received_once, networks_carry_one_message, networks_have_numbers,
+    rows_are_of_symbols, tables_have_entries,
+};

@@ -10,11 +10,11 @@ use Rattle.slicc_ast.specs.declared.tree.token.Sign.{Sign as SignKind}
 use Rattle.slicc_ast.specs.declared.tree.token.Sign.TheVariants.{OpenBrace, CloseBrace, OpenParenthesis, CloseParenthesis, OpenBracket, CloseBracket, Semicolon, Colon, Comma, Dot, Equals, Assign, Equal, Unequal, Less, Greater, LessOrEqual, GreaterOrEqual, Plus, Minus, Star, Not, And, Or}
 use Rattle.slicc_ast.specs.Names.{sign, balanced, balanced_list, balanced_part, balanced_row, is_loose}
 use Rattle.slicc_ast.specs.Outline.{none, Parts}
-use Rattle.slicc_grammar.specs.Kinds.{has, is_ahead}
-use Rattle.slicc_grammar.specs.Ahead.{first_of_form}
-use Rattle.slicc_grammar.specs.Form.{Form}
-use Rattle.slicc_grammar.specs.Parts.{Part as GrammarPart, of, unbracketed}
-use Rattle.slicc_grammar.specs.TokenKinds.{kind_of, sign_kind}
+use Rattle.slicc_ast.specs.Kinds.{has, is_ahead}
+use Rattle.slicc_ast.specs.Ahead.{first_of_form}
+use Rattle.slicc_ast.specs.Form.{Form}
+use Rattle.slicc_ast.specs.Parts.{Part as GrammarPart, of, unbracketed}
+use Rattle.slicc_ast.specs.TokenKinds.{kind_of, sign_kind}
 use Rattle.slicc_lex.specs.declared.token.Token.{Token as TokenOf}
 use Rattle.slicc_lex.specs.Syntax.{symbols}
 use Rattle.slicc_reading.specs.Reading.{AreRead}

@@ -6,9 +6,9 @@ use Rattle.slicc_ast.specs.declared.tree.token.Sign.TheVariants.{Comma}
 use Rattle.slicc_ast.specs.Declarations.{pair_list}
 use Rattle.slicc_ast.specs.Names.{sign}
 use Rattle.slicc_ast.specs.Outline.{Outline, node, none, Parts, part, provided}
-use Rattle.slicc_grammar.proofs.Steps.{passes_both}
-use Rattle.slicc_grammar.specs.Parts.{Part, ◌▸◌, comma}
-use Rattle.slicc_grammar.specs.Table.{table}
+use Rattle.slicc_ast.proofs.Steps.{passes_both}
+use Rattle.slicc_ast.specs.Parts.{Part, ◌▸◌, comma}
+use Rattle.slicc_ast.specs.Table.{table}
 use Rattle.slicc_lex.specs.declared.token.Token.{Token}
 use Rattle.slicc_lex.specs.Syntax.{symbols}
 use Rattle.slicc_reading.specs.Reading.{AreRead, Covers, IsNode, IsRead}

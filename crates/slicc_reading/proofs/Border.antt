@@ -3,13 +3,13 @@ use Rattle.std.proofs.Common.{◌≡◌, ℕ, ◌+◌, ◌-◌, ◌<◌, ◌≤�
 use Rattle.std.proofs.lemmas.List.{drop-append-le, length-drop}
 use Rattle.slicc_ast.specs.declared.tree.token.TokenKind.TheVariants.{End}
 use Rattle.slicc_ast.specs.Outline.{Outline}
-use Rattle.slicc_grammar.specs.Faults.{IsFirstFault, Stop}
-use Rattle.slicc_grammar.specs.Faults.Stop.{Passed, Bad, Deep, Short}
-use Rattle.slicc_grammar.specs.Faults.IsStop.{one_too_deep, opener_too_deep, not_viable, too_short}
-use Rattle.slicc_grammar.specs.Form.{Form}
-use Rattle.slicc_grammar.specs.Parts.{of}
-use Rattle.slicc_grammar.specs.Written.{written}
-use Rattle.slicc_grammar.proofs.Readers.{passed, failed}
+use Rattle.slicc_ast.specs.Faults.{IsFirstFault, Stop}
+use Rattle.slicc_ast.specs.Faults.Stop.{Passed, Bad, Deep, Short}
+use Rattle.slicc_ast.specs.Faults.IsStop.{one_too_deep, opener_too_deep, not_viable, too_short}
+use Rattle.slicc_ast.specs.Form.{Form}
+use Rattle.slicc_ast.specs.Parts.{of}
+use Rattle.slicc_ast.specs.Written.{written}
+use Rattle.slicc_ast.proofs.Readers.{passed, failed}
 use Rattle.slicc_lex.specs.declared.token.Token.{Token}
 use Rattle.slicc_lex.specs.Syntax.{symbols, nesting_limit, AreEnded, IsReadAs, IsStoppedAt}
 use Rattle.slicc_reading.specs.declared.fault.Fault.{Fault}

@@ -1,15 +1,15 @@
 -- How optional and repeated parts and nestings are read.
 use Rattle.std.proofs.Common.{◌≡◌, ℕ, zero, suc, ◌-◌, ◌≤◌, true, false, List, [], ◌∷◌, length, refl, sym, subst, arith}
 use Rattle.slicc_ast.specs.Outline.{Outline, Parts}
-use Rattle.slicc_grammar.specs.Grammar.{Row, first_of}
-use Rattle.slicc_grammar.specs.Grammar.Row.{done, maybe, many, nested}
-use Rattle.slicc_grammar.specs.Kinds.{has, is_ahead}
-use Rattle.slicc_grammar.specs.Reader.{Fails, Passes}
-use Rattle.slicc_grammar.proofs.Steps.{passes_both, passes_present, passes_absent, passes_nested, fails_second, fails_present, fails_nested}
-use Rattle.slicc_grammar.specs.Form.{Form}
-use Rattle.slicc_grammar.specs.Parts.{Part, ◌▸◌}
-use Rattle.slicc_grammar.specs.Table.{table}
-use Rattle.slicc_grammar.specs.TokenKinds.{kind_of}
+use Rattle.slicc_ast.specs.Grammar.{Row, first_of}
+use Rattle.slicc_ast.specs.Grammar.Row.{done, maybe, many, nested}
+use Rattle.slicc_ast.specs.Kinds.{has, is_ahead}
+use Rattle.slicc_ast.specs.Reader.{Fails, Passes}
+use Rattle.slicc_ast.proofs.Steps.{passes_both, passes_present, passes_absent, passes_nested, fails_second, fails_present, fails_nested}
+use Rattle.slicc_ast.specs.Form.{Form}
+use Rattle.slicc_ast.specs.Parts.{Part, ◌▸◌}
+use Rattle.slicc_ast.specs.Table.{table}
+use Rattle.slicc_ast.specs.TokenKinds.{kind_of}
 use Rattle.slicc_lex.specs.declared.token.Token.{Token}
 use Rattle.slicc_lex.specs.Syntax.{symbols}
 use Rattle.slicc_reading.specs.declared.fault.Fault.{Fault}
@@ -19,9 +19,9 @@ use Rattle.slicc_reading.specs.Reading.Refuses.{no_memory, stops}
 use Rattle.slicc_ast.specs.declared.tree.token.Sign.{Sign}
 use Rattle.slicc_ast.specs.declared.tree.token.Sign.TheVariants.{OpenBrace, CloseBrace, OpenParenthesis, CloseParenthesis, OpenBracket, CloseBracket, Semicolon, Colon, Comma, Dot, Equals, Assign, Equal, Unequal, Less, Greater, LessOrEqual, GreaterOrEqual, Plus, Minus, Star, Not, And, Or}
 use Rattle.slicc_ast.specs.Names.{sign}
-use Rattle.slicc_grammar.specs.Grammar.Rows.{next}
-use Rattle.slicc_grammar.specs.Reader.Stops.{on, again, enough}
-use Rattle.slicc_grammar.specs.TokenKinds.{sign_kind}
+use Rattle.slicc_ast.specs.Grammar.Rows.{next}
+use Rattle.slicc_ast.specs.Reader.Stops.{on, again, enough}
+use Rattle.slicc_ast.specs.TokenKinds.{sign_kind}
 use Rattle.slicc_reading.specs.Reading.{IsOpened, Leads}
 
 pub same_kind : (s : Sign) → has (sign_kind s ∷ []) (sign_kind s) ≡ true

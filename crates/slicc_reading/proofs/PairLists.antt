@@ -10,12 +10,12 @@ use Rattle.slicc_ast.specs.declared.tree.token.TokenKind.TheVariants.{Name as Na
 use Rattle.slicc_ast.specs.Declarations.{pair as pair_outline, pair_list, pair_value}
 use Rattle.slicc_ast.specs.Names.{sign}
 use Rattle.slicc_ast.specs.Outline.{node, Parts, none, part}
-use Rattle.slicc_grammar.specs.Grammar.Row.{done, token as token_row}
-use Rattle.slicc_grammar.specs.Kinds.{has, is_ahead}
-use Rattle.slicc_grammar.proofs.Leading.{name_is_one}
-use Rattle.slicc_grammar.specs.Form.Form.{pair}
-use Rattle.slicc_grammar.specs.Parts.{Part, ◌▸◌, comma, names_of, of, pairs}
-use Rattle.slicc_grammar.specs.TokenKinds.{kind_of, name_kind, number, quoted, sign_kind}
+use Rattle.slicc_ast.specs.Grammar.Row.{done, token as token_row}
+use Rattle.slicc_ast.specs.Kinds.{has, is_ahead}
+use Rattle.slicc_ast.proofs.Leading.{name_is_one}
+use Rattle.slicc_ast.specs.Form.Form.{pair}
+use Rattle.slicc_ast.specs.Parts.{Part, ◌▸◌, comma, names_of, of, pairs}
+use Rattle.slicc_ast.specs.TokenKinds.{kind_of, name_kind, number, quoted, sign_kind}
 use Rattle.slicc_lex.specs.declared.token.Token.{Token}
 use Rattle.slicc_lex.specs.Syntax.{symbols}
 use Rattle.slicc_reading.specs.declared.fault.Fault.{Fault}

@@ -1,11 +1,11 @@
 -- The fault at a token that isn't one that must come.
 use Rattle.std.proofs.Common.{◌≡◌, ℕ, zero, suc, ◌<◌, true, false, cond, List, [], ◌∷◌, length, refl, sym, subst, ap, arith}
 use Rattle.std.proofs.lemmas.Bool.{false≢true}
-use Rattle.slicc_grammar.specs.Faults.Stop.{Bad, Deep}
-use Rattle.slicc_grammar.specs.Kinds.{is_ahead}
-use Rattle.slicc_grammar.specs.Reader.{refusal}
-use Rattle.slicc_grammar.specs.Written.{openers}
-use Rattle.slicc_grammar.specs.Table.{table}
+use Rattle.slicc_ast.specs.Faults.Stop.{Bad, Deep}
+use Rattle.slicc_ast.specs.Kinds.{is_ahead}
+use Rattle.slicc_ast.specs.Reader.{refusal}
+use Rattle.slicc_ast.specs.Written.{openers}
+use Rattle.slicc_ast.specs.Table.{table}
 use Rattle.slicc_lex.specs.declared.token.Token.{Token}
 use Rattle.slicc_lex.specs.Syntax.{symbols}
 use Rattle.slicc_reading.specs.declared.fault.Fault.TheVariants.{Syntax, Deep as TooDeep}

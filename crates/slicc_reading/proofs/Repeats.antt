@@ -2,11 +2,11 @@
 use Rattle.std.proofs.Common.{◌≡◌, ◌==◌, ℕ, suc, rules, true, false, not, IsTrue, List, [], ◌∷◌, ◌++◌, length, refl, sym, subst, ap, ◌∙◌}
 use Rattle.slicc_ast.specs.declared.tree.span.Span.{Span}
 use Rattle.slicc_ast.specs.Outline.{node, none, Parts}
-use Rattle.slicc_grammar.specs.Grammar.{first_of}
-use Rattle.slicc_grammar.specs.Grammar.Row.{done}
-use Rattle.slicc_grammar.specs.Kinds.{is_ahead}
-use Rattle.slicc_grammar.specs.Parts.{Part, ◌▸◌, repeated}
-use Rattle.slicc_grammar.specs.Table.{table}
+use Rattle.slicc_ast.specs.Grammar.{first_of}
+use Rattle.slicc_ast.specs.Grammar.Row.{done}
+use Rattle.slicc_ast.specs.Kinds.{is_ahead}
+use Rattle.slicc_ast.specs.Parts.{Part, ◌▸◌, repeated}
+use Rattle.slicc_ast.specs.Table.{table}
 use Rattle.slicc_lex.specs.declared.token.Token.{Token}
 use Rattle.slicc_lex.specs.Syntax.{symbols}
 use Rattle.slicc_reading.specs.declared.fault.Fault.{Fault}

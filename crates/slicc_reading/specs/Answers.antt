@@ -1,6 +1,6 @@
 -- What a reading of tokens from a place on answers, fault by fault.
 use Rattle.std.specs.Prelude.{ℕ, ◌-◌, List}
-use Rattle.slicc_grammar.specs.Form.{Form}
+use Rattle.slicc_ast.specs.Form.{Form}
 use Rattle.slicc_lex.specs.declared.token.Token.{Token}
 use Rattle.slicc_lex.specs.Syntax.{IsBadAt, IsDeepAt}
 use Rattle.slicc_reading.specs.declared.fault.Fault.{Fault}

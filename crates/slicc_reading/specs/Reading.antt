@@ -9,11 +9,11 @@ use Rattle.slicc_ast.specs.declared.tree.token.Sign.TheVariants.{OpenParenthesis
 use Rattle.slicc_ast.specs.declared.tree.token.Word.{Word}
 use Rattle.slicc_ast.specs.Names.{sign as sign_parts, word as word_parts}
 use Rattle.slicc_ast.specs.Outline.{Outline, node, Parts, none, token, part, provided, covering}
-use Rattle.slicc_grammar.specs.Faults.{Stop}
-use Rattle.slicc_grammar.specs.Faults.Stop.{Bad, Deep, Short}
-use Rattle.slicc_grammar.specs.Reader.{Passes, Fails}
-use Rattle.slicc_grammar.specs.Parts.{Part, word}
-use Rattle.slicc_grammar.specs.Table.{table}
+use Rattle.slicc_ast.specs.Faults.{Stop}
+use Rattle.slicc_ast.specs.Faults.Stop.{Bad, Deep, Short}
+use Rattle.slicc_ast.specs.Reader.{Passes, Fails}
+use Rattle.slicc_ast.specs.Parts.{Part, word}
+use Rattle.slicc_ast.specs.Table.{table}
 use Rattle.slicc_lex.specs.declared.token.Token.{Token}
 use Rattle.slicc_lex.specs.Spells.{token_spans}
 use Rattle.slicc_lex.specs.Syntax.{symbols}

@@ -1,13 +1,13 @@
 //! Attributes.
 ghost use Rattle.std.specs.Prelude.{◌≡◌, ◌<◌, false, length, IfOk, MatchOption, MatchResult};
-ghost use Rattle.slicc_grammar.specs.Kinds.{has};
+ghost use Rattle.slicc_ast.specs.Kinds.{has};
 ghost use Rattle.slicc_ast.specs.Declarations.{pair as pair_of, pair_list, pair_value as value_parts};
 ghost use Rattle.slicc_ast.specs.Names.{name as name_of, sign as sign_of};
 ghost use Rattle.slicc_ast.specs.Outline.{node, part};
 ghost use Rattle.slicc_ast.specs.declared.tree.token.Sign.TheVariants.{Comma, Equals};
-ghost use Rattle.slicc_grammar.specs.Form.Form.{pair as pair_form};
-ghost use Rattle.slicc_grammar.specs.Parts.{◌▸◌, comma, name as name_part, of, pairs as pairs_part, sign as sign_part, value};
-ghost use Rattle.slicc_grammar.specs.TokenKinds.{kind_of};
+ghost use Rattle.slicc_ast.specs.Form.Form.{pair as pair_form};
+ghost use Rattle.slicc_ast.specs.Parts.{◌▸◌, comma, name as name_part, of, pairs as pairs_part, sign as sign_part, value};
+ghost use Rattle.slicc_ast.specs.TokenKinds.{kind_of};
 ghost use Rattle.slicc_reading.specs.Attributes.{IsValue, value_kinds};
 ghost use Rattle.slicc_reading.specs.Reading.{AreRead, IsRead, Refuses};
 

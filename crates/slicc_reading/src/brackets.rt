@@ -1,12 +1,12 @@
 //! Tokens of which no more is known than that brackets close in pairs.
 ghost use Rattle.std.specs.Prelude.{◌≡◌, ◌<◌, true, length, IfOk, MatchResult};
-ghost use Rattle.slicc_grammar.specs.Kinds.{has, is_ahead};
+ghost use Rattle.slicc_ast.specs.Kinds.{has, is_ahead};
 ghost use Rattle.slicc_ast.specs.Names.{balanced_part as part_parts};
 ghost use Rattle.slicc_ast.specs.declared.tree.token.Sign.TheVariants.{CloseBrace, CloseBracket, CloseParenthesis, OpenBrace, OpenBracket, OpenParenthesis};
-ghost use Rattle.slicc_grammar.specs.Ahead.{first_of_form};
-ghost use Rattle.slicc_grammar.specs.Form.Form.{balanced_part as part_form};
-ghost use Rattle.slicc_grammar.specs.Parts.{balanced as balanced_form, of, unbracketed};
-ghost use Rattle.slicc_grammar.specs.TokenKinds.{kind_of, sign_kind};
+ghost use Rattle.slicc_ast.specs.Ahead.{first_of_form};
+ghost use Rattle.slicc_ast.specs.Form.Form.{balanced_part as part_form};
+ghost use Rattle.slicc_ast.specs.Parts.{balanced as balanced_form, of, unbracketed};
+ghost use Rattle.slicc_ast.specs.TokenKinds.{kind_of, sign_kind};
 ghost use Rattle.slicc_lex.specs.Syntax.{symbols};
 ghost use Rattle.slicc_reading.specs.Brackets.{balanced_outline, bracketed as bracketed_form, bracketed_parts, opening_brackets};
 ghost use Rattle.slicc_reading.specs.Reading.{AreRead, IsRead, Refuses};

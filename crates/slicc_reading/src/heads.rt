@@ -1,12 +1,12 @@
 //! What many forms begin with or go on with: a sign and a name, and a reserved word with a parenthesis that opens behind it.
 ghost use Rattle.std.specs.Prelude.{◌∷◌, ◌<◌, [], IfErr, IfOk, MatchResult, length};
-ghost use Rattle.slicc_grammar.specs.Grammar.Row.{nested};
-ghost use Rattle.slicc_grammar.specs.Grammar.{Row};
+ghost use Rattle.slicc_ast.specs.Grammar.Row.{nested};
+ghost use Rattle.slicc_ast.specs.Grammar.{Row};
 ghost use Rattle.slicc_ast.specs.Names.{name as name_of, sign as sign_of};
 ghost use Rattle.slicc_ast.specs.declared.tree.token.Sign.TheVariants.{OpenParenthesis};
-ghost use Rattle.slicc_grammar.specs.Form.{Form};
-ghost use Rattle.slicc_grammar.specs.Parts.{◌▸◌, name as name_part, sign as sign_part, word as word_part};
-ghost use Rattle.slicc_grammar.specs.TokenKinds.{sign_kind};
+ghost use Rattle.slicc_ast.specs.Form.{Form};
+ghost use Rattle.slicc_ast.specs.Parts.{◌▸◌, name as name_part, sign as sign_part, word as word_part};
+ghost use Rattle.slicc_ast.specs.TokenKinds.{sign_kind};
 ghost use Rattle.slicc_reading.specs.Reading.{AreRead, IsCalled, Refuses};
 
 use crate::fault::Fault;

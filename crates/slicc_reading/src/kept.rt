@@ -4,7 +4,7 @@ ghost use Rattle.std.specs.Prelude.{◌≡◌, ◌∷◌, ◌++◌, ◌-◌, ◌
 ghost use Rattle.slicc_ast.specs.Names.{sign as sign_of};
 ghost use Rattle.slicc_ast.specs.declared.tree.token.Word.{Word as WordRecord};
 ghost use Rattle.slicc_ast.specs.Outline.{Parts};
-ghost use Rattle.slicc_grammar.specs.Parts.{◌▸◌, Part, parentheses, semicolon, sign as sign_part, word as word_part};
+ghost use Rattle.slicc_ast.specs.Parts.{◌▸◌, Part, parentheses, semicolon, sign as sign_part, word as word_part};
 ghost use Rattle.slicc_lex.specs.declared.token.Token.{Token as TokenRecord};
 ghost use Rattle.slicc_reading.specs.Reading.{AreRead, IsCalled, Refuses, call_parts};
 

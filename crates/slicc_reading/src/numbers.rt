@@ -1,10 +1,10 @@
 //! Numbers.
 ghost use Rattle.std.specs.Prelude.{◌≡◌, ◌∷◌, ◌<◌, [], false, length, IfOk, MatchOption, MatchResult};
-ghost use Rattle.slicc_grammar.specs.Kinds.{has, is_ahead};
+ghost use Rattle.slicc_ast.specs.Kinds.{has, is_ahead};
 ghost use Rattle.slicc_ast.specs.Outline.{token};
 ghost use Rattle.slicc_ast.specs.declared.tree.token.TokenKind.TheVariants.{Number as Numeral};
-ghost use Rattle.slicc_grammar.specs.Parts.{number_token};
-ghost use Rattle.slicc_grammar.specs.TokenKinds.{kind_of, number};
+ghost use Rattle.slicc_ast.specs.Parts.{number_token};
+ghost use Rattle.slicc_ast.specs.TokenKinds.{kind_of, number};
 ghost use Rattle.slicc_lex.specs.Syntax.{symbols};
 ghost use Rattle.slicc_reading.specs.Reading.{AreRead, Refuses};
 

@@ -5,10 +5,10 @@ ghost use Rattle.acts.specs.DoesAs.{DoesAs, itself};
 ghost use Rattle.body_meaning.specs.Names.{message_of, new_message};
 ghost use Rattle.body_meaning.specs.Reading.{reading};
 
+use crate::found;
 use acts::{Local, Trouble};
 use body_meaning::{Scope, Thing, message_of};
 use body_walk::new_message;
-use plain_statements::found;
 use std::alloc::Global;
 
 /// The structure of a buffer's messages.

@@ -1,7 +1,7 @@
 // What `enqueue` does after its block.
 ghost use Rattle.std.specs.Prelude.{◌≡◌, ◌+◌, [], ◌∷◌, IfOk};
 ghost use Rattle.acts.specs.DoesAs.{DoesAs, itself};
-ghost use Rattle.body_calls.specs.CallsDo.{CallsDo};
+ghost use Rattle.body_walk.specs.CallsDo.{CallsDo};
 ghost use Rattle.body_meaning.specs.Bodies.{calls_within};
 ghost use Rattle.body_meaning.specs.Frames.{ended, outermost};
 ghost use Rattle.body_meaning.specs.Reading.{reading};

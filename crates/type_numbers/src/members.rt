@@ -12,8 +12,7 @@ ghost use Rattle.type_numbers.specs.Numbered.{AreNumbered, trees_of};
 use crate::default_words::is_default_of;
 use crate::names::Named;
 use crate::numbering::TypeNumbers;
-use built_ins::fixed_members;
-use declared_types::{KnownType, Scope};
+use declared_types::{KnownType, Scope, fixed_members};
 use slicc_ast::tree::{Enumeration, PairValue, States};
 use slicc_plan::BuiltInType;
 

@@ -2,8 +2,8 @@
 use Rattle.std.proofs.Common.{◌≡◌, ℕ, List, Option, None, Some, IsSome, sym, ◌∙◌, subst}
 use Rattle.slicc_ast.specs.declared.tree.item.Tree.{Tree}
 use Rattle.run_journal.specs.declared.summary.Account.{Account}
-use Rattle.ruby_runs.specs.Account.{account}
-use Rattle.ruby_runs.specs.Run.{HasEnded, IsRun}
+use Rattle.protocol_runs.specs.Account.{account}
+use Rattle.protocol_runs.specs.Run.{HasEnded, IsRun}
 use Rattle.ruby_topology.specs.declared.topology.Topology.{Topology}
 use Rattle.ctl_face.specs.Ctl.{Ctl}
 use Rattle.protocol_meaning.specs.Meaning.{meaning_of}
@@ -12,7 +12,7 @@ use Rattle.protocol_runs.specs.Rules.{rules}
 use Rattle.protocol_runs.specs.Setting.{Setting}
 use Rattle.sequencer.specs.Drive.{Drive}
 use Rattle.sequencer.specs.Seats.{Seat}
-use Rattle.world_places.specs.Places.{made_in}
+use Rattle.world_state.specs.Places.{made_in}
 use Rattle.world_state.specs.declared.state.State.{State}
 use Rattle.world_state.specs.States.{IsNobody, world_of}
 use Rattle.world_state.proofs.Readings.{any-held, none-held}

@@ -15,8 +15,8 @@ use Rattle.slicc_plan.specs.Declarations.{machines_of}
 use Rattle.slicc_plan.specs.Setups.{AreSizesOf, setup_of as setup_in}
 use Rattle.slicc_plan.specs.SymbolsOf.{symbols_of}
 use Rattle.slicc_plan.specs.SymbolsOfMachines.{machine_symbols}
-use Rattle.ruby_runs.specs.World.{Place}
-use Rattle.ruby_runs.proofs.Places.{mapped-from}
+use Rattle.protocol_runs.specs.World.{Place}
+use Rattle.protocol_runs.proofs.Places.{mapped-from}
 use Rattle.ctl_face.specs.Ctl.{Ctl}
 use Rattle.ctl_face.specs.Fits.{Fits, last_cycle}
 use Rattle.ctl_face.specs.Opening.{opening_ctl}
@@ -34,23 +34,23 @@ use Rattle.protocol_runs.specs.Setting.{Setting}
 use Rattle.protocol_runs.proofs.Controllers.{and-some, one-of, opened, opened-count, some-and}
 use Rattle.protocol_runs.proofs.Ranges.{below-free, machine-is, machine-says, machine-there}
 use Rattle.protocol_meaning.specs.Setting.{setting_of}
-use Rattle.topology_fit.specs.FitsPlan.{AreSizesIn, AtSetup, FitsPlan, IsSeat}
-use Rattle.topology_fit.specs.Setups.{ranges_of, setups_of}
-use Rattle.symbol_laws.proofs.Machines.{symbols_counted}
-use Rattle.topology_fit.proofs.ByNumber.{setups_at, setups_counted, symbols_found}
-use Rattle.topology_fit.proofs.Numbers.{ranges_counted}
-use Rattle.topology_fit.proofs.Places.{all_at, all_from_gets}
-use Rattle.topology_fit.proofs.Sizes.{sizes_have_room}
-use Rattle.world_places.specs.declared.place.Kept.{Kept}
-use Rattle.world_places.specs.Places.{made_for}
-use Rattle.world_turns.specs.declared.seat.SeatAt.{SeatAt}
-use Rattle.world_turns.specs.Seated.{setups_in}
+use Rattle.protocol_meaning.specs.FitsPlan.{AreSizesIn, AtSetup, FitsPlan, IsSeat}
+use Rattle.protocol_meaning.specs.Setups.{ranges_of, setups_of}
+use Rattle.slicc_plan.proofs.Machines.{symbols_counted}
+use Rattle.protocol_meaning.proofs.ByNumber.{setups_at, setups_counted, symbols_found}
+use Rattle.protocol_meaning.proofs.Numbers.{ranges_counted}
+use Rattle.protocol_meaning.proofs.Places.{all_at, all_from_gets}
+use Rattle.protocol_meaning.proofs.Sizes.{sizes_have_room}
+use Rattle.world_state.specs.declared.place.Kept.{Kept}
+use Rattle.world_state.specs.Places.{made_for}
+use Rattle.world_state.specs.declared.seat.SeatAt.{SeatAt}
+use Rattle.world_state.specs.Seated.{setups_in}
 use Rattle.world_state.specs.declared.state.State.{State}
 use Rattle.world_state.specs.States.{IsKept, IsMadeFor}
 use Rattle.world_state.proofs.Openings.{opens-kept}
 use Rattle.run_journal.specs.declared.entry.Entry.{Entry}
 use Rattle.run_journal.specs.declared.event.Event.{Event}
-use Rattle.topology_fit.specs.Seats.{seat_setup, seat_setups}
+use Rattle.protocol_meaning.specs.Seats.{seat_setup, seat_setups}
 use Rattle.protocol_meaning.specs.Meaning.{meaning_of}
 use Rattle.sequencer.specs.Drive.{Drive}
 use Rattle.sequencer.specs.Seats.{Seat}

@@ -6,9 +6,9 @@ use Rattle.std.specs.Option.{option_map}
 use Rattle.run_journal.specs.declared.entry.Entry.{Entry}
 use Rattle.run_journal.specs.declared.event.Event.{Event}
 use Rattle.run_journal.specs.declared.verdict.Verdict.{Verdict}
-use Rattle.ruby_runs.specs.Run.{IsRun}
-use Rattle.ruby_runs.specs.World as runs
-use Rattle.ruby_runs.specs.World.{World}
+use Rattle.protocol_runs.specs.Run.{IsRun}
+use Rattle.protocol_runs.specs.World as runs
+use Rattle.protocol_runs.specs.World.{World}
 use Rattle.ruby_value.specs.declared.setup.MachineSetup.{MachineSetup}
 use Rattle.slicc_ast.specs.declared.tree.item.Tree.{Tree}
 use Rattle.ctl_face.specs.Ctl.{Ctl}
@@ -17,7 +17,7 @@ use Rattle.ctl_store.specs.declared.parts.Parts.{Parts}
 use Rattle.ctl_store.specs.Room.{IsSameStore}
 use Rattle.ctl_store.specs.Kept.{me_of, machine_of as store_machine}
 use Rattle.ruby_topology.specs.declared.topology.Topology.{Topology}
-use Rattle.topology_fit.specs.Setups.{ranges_of}
+use Rattle.protocol_meaning.specs.Setups.{ranges_of}
 use Rattle.protocol_runs.specs.Machines.{machine_of}
 use Rattle.protocol_runs.specs.Meaning.{Meaning}
 use Rattle.protocol_runs.specs.Rules.{rules}
@@ -26,11 +26,11 @@ use Rattle.protocol_meaning.specs.Meaning.{meaning_of}
 use Rattle.protocol_meaning.specs.Setting.{setting_of}
 use Rattle.sequencer.specs.Drive.{Drive}
 use Rattle.sequencer.specs.Seats.{Seat}
-use Rattle.world_places.specs.declared.place.Keeper.{Keeper}
-use Rattle.world_places.specs.declared.place.Keeper.TheVariants.{World as Home, Worker}
-use Rattle.world_places.specs.declared.place.Place.{Place}
-use Rattle.world_places.specs.Places.{Made, made_for, made_in, place_by, place_with, places_with}
-use Rattle.world_turns.specs.declared.seat.SeatAt.{SeatAt}
+use Rattle.world_state.specs.declared.place.Keeper.{Keeper}
+use Rattle.world_state.specs.declared.place.Keeper.TheVariants.{World as Home, Worker}
+use Rattle.world_state.specs.declared.place.Place.{Place}
+use Rattle.world_state.specs.Places.{Made, made_for, made_in, place_by, place_with, places_with}
+use Rattle.world_state.specs.declared.seat.SeatAt.{SeatAt}
 use Rattle.world_state.specs.declared.state.State.{State}
 use Rattle.world_state.specs.States.{AreMade, IsHeldBy, IsKept, IsLone, IsMadeFor, held_place, world_of}
 use Rattle.world_state.specs.Steps.{IsSame, SameCycle, Writes}

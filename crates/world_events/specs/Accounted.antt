@@ -1,13 +1,13 @@
 -- What the account of a run says of the messages in the inboxes of places that nobody holds: how many are queued, stalled and recycled.
 use Rattle.std.specs.Prelude.{◌≡◌, List, [], count_by, map}
 use Rattle.std.specs.List.{flat_map}
-use Rattle.ruby_runs.specs.Account.{is_queued, is_recycled, is_stalled}
-use Rattle.ruby_runs.specs.Rules.{Mailed}
+use Rattle.protocol_runs.specs.Account.{is_queued, is_recycled, is_stalled}
+use Rattle.protocol_runs.specs.RunRules.{Mailed}
 use Rattle.ctl_store.specs.Kept.{ctl_of}
 use Rattle.protocol_runs.specs.Rules.{mailed}
-use Rattle.world_places.specs.declared.place.Keeper.{Keeper}
-use Rattle.world_places.specs.declared.place.Keeper.TheVariants.{World, Worker}
-use Rattle.world_places.specs.declared.place.Place.{Place}
+use Rattle.world_state.specs.declared.place.Keeper.{Keeper}
+use Rattle.world_state.specs.declared.place.Keeper.TheVariants.{World, Worker}
+use Rattle.world_state.specs.declared.place.Place.{Place}
 use Rattle.world_events.specs.declared.accounting.Counts.{Counts}
 
 abbrev pub mail_by : Keeper → List Mailed

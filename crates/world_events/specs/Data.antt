@@ -6,15 +6,15 @@ use Rattle.ctl_face.specs.Ctl.{Ctl}
 use Rattle.ctl_face.specs.Fits.{last_cycle}
 use Rattle.ruby_topology.specs.declared.topology.Topology.{Topology}
 use Rattle.slicc_plan.specs.SymbolsOf.{symbols_of}
-use Rattle.topology_fit.specs.FitsPlan.{FitsPlan}
-use Rattle.topology_fit.specs.Seats.{seat_setups}
+use Rattle.protocol_meaning.specs.FitsPlan.{FitsPlan}
+use Rattle.protocol_meaning.specs.Seats.{seat_setups}
 use Rattle.protocol_meaning.specs.Meaning.{meaning_of}
 use Rattle.world_events.specs.declared.limits.RunLimits.{RunLimits}
 use Rattle.world_events.specs.Worlds.{WorldView, setting_in}
 use Rattle.sequencer.specs.Drive.{Drive}
 use Rattle.sequencer.specs.Seats.{Seat}
-use Rattle.world_turns.specs.declared.seat.SeatAt.{SeatAt}
-use Rattle.world_turns.specs.Seated.{setups_in}
+use Rattle.world_state.specs.declared.seat.SeatAt.{SeatAt}
+use Rattle.world_state.specs.Seated.{setups_in}
 use Rattle.world_state.specs.declared.state.State.{State}
 use Rattle.world_state.specs.States.{IsKept}
 

@@ -3,9 +3,9 @@
 -- ended its wake-up.
 use Rattle.std.specs.Prelude.{◌≡◌, ℕ, false, None, Some, List, slice_get}
 use Rattle.run_journal.specs.declared.entry.End.{End}
-use Rattle.ruby_runs.specs.Change.{Ends}
-use Rattle.ruby_runs.specs.Rules.{Fired}
-use Rattle.ruby_runs.specs.World.{World}
+use Rattle.protocol_runs.specs.Change.{Ends}
+use Rattle.protocol_runs.specs.RunRules.{Fired}
+use Rattle.protocol_runs.specs.World.{World}
 use Rattle.ctl_face.specs.Ctl.{Ctl}
 use Rattle.ctl_store.specs.declared.outcome.Outcome.{Outcome}
 use Rattle.ctl_store.specs.Kept.{ctl_of}
@@ -13,9 +13,9 @@ use Rattle.ctl_store.specs.Room.{IsSameStore}
 use Rattle.ctl_store.specs.Sealed.{IsOutcomeFor, note_of, outcome_acts, outcome_ctl}
 use Rattle.protocol_runs.specs.Machines.{machine_of}
 use Rattle.protocol_runs.specs.Meaning.{acts_told}
-use Rattle.topology_fit.specs.Setups.{ranges_of}
-use Rattle.world_places.specs.declared.place.Kept.{Kept}
-use Rattle.world_places.specs.Places.{made_for}
+use Rattle.protocol_meaning.specs.Setups.{ranges_of}
+use Rattle.world_state.specs.declared.place.Kept.{Kept}
+use Rattle.world_state.specs.Places.{made_for}
 use Rattle.world_state.specs.Ended.{ended}
 use Rattle.world_state.specs.States.{IsMadeFor}
 use Rattle.world_events.specs.declared.held.Held.{Held}

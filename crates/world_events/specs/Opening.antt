@@ -4,8 +4,8 @@ use Rattle.slicc_ast.specs.declared.tree.item.Tree.{Tree}
 use Rattle.ctl_face.specs.Opening.{opening_ctl}
 use Rattle.ctl_store.specs.Kept.{ctl_of, machine_of, me_of}
 use Rattle.ruby_topology.specs.declared.topology.Topology.{Topology}
-use Rattle.topology_fit.specs.FitsPlan.{AtSetup}
-use Rattle.world_places.specs.declared.place.Kept.{Kept}
+use Rattle.protocol_meaning.specs.FitsPlan.{AtSetup}
+use Rattle.world_state.specs.declared.place.Kept.{Kept}
 use Rattle.world_state.specs.declared.state.State.{State}
 use Rattle.world_state.specs.Opened.{IsOpening}
 

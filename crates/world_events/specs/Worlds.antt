@@ -11,9 +11,9 @@ use Rattle.run_journal.specs.contracts.entry.Entry as entry
 use Rattle.run_journal.specs.contracts.event.Event as event
 use Rattle.run_journal.specs.declared.entry.Entry.{Entry}
 use Rattle.run_journal.specs.declared.event.Event.{Event}
-use Rattle.ruby_runs.specs.Rules.{Rules}
-use Rattle.ruby_runs.specs.Run.{IsRun}
-use Rattle.ruby_runs.specs.World.{World, is_free, is_held}
+use Rattle.protocol_runs.specs.RunRules.{Rules}
+use Rattle.protocol_runs.specs.Run.{IsRun}
+use Rattle.protocol_runs.specs.World.{World, is_free, is_held}
 use Rattle.ctl_face.specs.Ctl.{Ctl}
 use Rattle.ruby_topology.specs.contracts.topology.Topology as topology
 use Rattle.ruby_topology.specs.declared.topology.Topology.{Topology}

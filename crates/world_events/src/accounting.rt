@@ -1,7 +1,7 @@
 //! Where the messages of a run have gone, read off a world's data.
 ghost use Rattle.std.specs.Prelude.{◌≡◌, ◌+◌, ◌++◌, ℕ, List, IfOk};
-ghost use Rattle.ruby_runs.specs.Account.{account as account_at};
-ghost use Rattle.ruby_runs.specs.Rules.{Mailed};
+ghost use Rattle.protocol_runs.specs.Account.{account as account_at};
+ghost use Rattle.protocol_runs.specs.RunRules.{Mailed};
 ghost use Rattle.ctl_face.specs.Ctl.{Ctl};
 ghost use Rattle.ctl_mail.specs.Census.{capped};
 ghost use Rattle.protocol_runs.specs.Meaning.{Meaning};
@@ -9,14 +9,13 @@ ghost use Rattle.protocol_runs.specs.Rules.{rules};
 ghost use Rattle.protocol_runs.specs.Setting.{Setting};
 ghost use Rattle.sequencer.specs.Drive.{Drive};
 ghost use Rattle.sequencer.specs.Seats.{Seat};
-ghost use Rattle.world_places.specs.Places.{made_in};
+ghost use Rattle.world_state.specs.Places.{made_in};
 ghost use Rattle.world_events.specs.Accounted.{AreCountsOf, mail_by, mail_in};
 ghost use Rattle.world_state.specs.States.{IsNobody, world_of};
 
 use ruby_value::NoMemory;
 use run_journal::Account;
-use world_places::{Keeper, Place};
-use world_state::State;
+use world_state::{Keeper, Place, State};
 
 /// How many messages are queued, stalled and recycled.
 #[derive(Clone, Copy)]

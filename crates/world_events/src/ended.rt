@@ -1,8 +1,8 @@
 //! What is read off a world, and taken from it, as its run has ended.
 ghost use Rattle.std.specs.Prelude.{◌≡◌, IfOk, Some};
 ghost use Rattle.run_journal.specs.Tally.{tally};
-ghost use Rattle.ruby_runs.specs.Account.{account};
-ghost use Rattle.ruby_runs.specs.Run.{HasEnded};
+ghost use Rattle.protocol_runs.specs.Account.{account};
+ghost use Rattle.protocol_runs.specs.Run.{HasEnded};
 ghost use Rattle.world_events.specs.Worlds.{InWorld, rules_in};
 
 use crate::accounting::account;

@@ -14,8 +14,7 @@ use ruby_value::NoMemory;
 use run_journal::{End, Verdict};
 use sequencer::Driver;
 use std::alloc::Global;
-use world_state::copies_can_arrive;
-use world_turns::turn;
+use world_state::{copies_can_arrive, turn};
 
 impl<D: Driver> World<D> {
     /// A worker takes a controller that is due, in a world in which nobody is held and no verdict stands. It makes room for one event

@@ -3,7 +3,7 @@ ghost use Rattle.world_events.specs.Held.{kept_in};
 
 use ctl_face::Routes;
 use ctl_store::Store;
-use world_places::Kept;
+use world_state::Kept;
 
 /// A controller that a worker holds: its store, and what a scan of it goes by.
 pub struct Held {

@@ -4,10 +4,10 @@ ghost use Rattle.slicc_plan.specs.SymbolsOf.{symbols_of};
 ghost use Rattle.ctl_face.specs.Fits.{last_cycle};
 ghost use Rattle.ruby_symbols.specs.Names.{mandatory as mandatory_in};
 ghost use Rattle.protocol_runs.specs.Machines.{machine_of as machine_in};
-ghost use Rattle.topology_fit.specs.FitsPlan.{FitsPlan};
-ghost use Rattle.topology_fit.specs.Seats.{seat_setup, seat_setups};
-ghost use Rattle.topology_fit.specs.Setups.{ranges_of};
-ghost use Rattle.world_turns.specs.Seated.{setup_of, setups_in};
+ghost use Rattle.protocol_meaning.specs.FitsPlan.{FitsPlan};
+ghost use Rattle.protocol_meaning.specs.Seats.{seat_setup, seat_setups};
+ghost use Rattle.protocol_meaning.specs.Setups.{ranges_of};
+ghost use Rattle.world_state.specs.Seated.{setup_of, setups_in};
 ghost use Rattle.world_events.specs.Opening.{AreOpened, IsOpened, IsOpenedFor};
 ghost use Rattle.world_events.specs.Worlds.{opened};
 
@@ -22,9 +22,7 @@ use ruby_topology::{Seat, Topology};
 use sequencer::Driver;
 use slicc_plan::Plan;
 use std::alloc::Global;
-use world_places::Kept;
-use world_state::State;
-use world_turns::SeatAt;
+use world_state::{Kept, SeatAt, State};
 
 // The number of the buffer `mandatoryQueue` of the machine of this number, or 0 where there is none.
 fn queue_in(plan: &Plan, machine: u16) -> u16

@@ -2,11 +2,11 @@
 ghost use Rattle.std.specs.Prelude.{◌≡◌, ◌≤◌, IfOk, length, position};
 ghost use Rattle.std.specs.List.{list_any};
 ghost use Rattle.std.specs.Option.{option_copied};
-ghost use Rattle.ruby_runs.specs.World.{World as WorldRecord, is_free, is_held};
+ghost use Rattle.protocol_runs.specs.World.{World as WorldRecord, is_free, is_held};
 ghost use Rattle.ctl_face.specs.Ctl.{Ctl};
 ghost use Rattle.ctl_face.specs.Fits.{last_cycle};
 ghost use Rattle.run_journal.specs.AreFinals.{AreFinals};
-ghost use Rattle.topology_fit.specs.FitsPlan.{FitsPlan};
+ghost use Rattle.protocol_meaning.specs.FitsPlan.{FitsPlan};
 ghost use Rattle.world_events.specs.Worlds.{InWorld, IsWorldOf, is_free_at as is_free_in, rules_in};
 
 use crate::limits::RunLimits;
@@ -20,9 +20,7 @@ use sequencer::Driver;
 use slicc_plan::Plan;
 use std::alloc::Global;
 use std::marker::Model;
-use world_places::{any_held, first_free, is_free_at};
-use world_state::State;
-use world_turns::SeatAt;
+use world_state::{SeatAt, State, any_held, first_free, is_free_at};
 
 /// All controllers of a protocol over a topology, with a driver, as a run has led them here. A contract sees what the run began with, and
 /// its history and journal: these lead to one world, which always is one of a run. One controller at most is held at a time.

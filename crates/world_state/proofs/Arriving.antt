@@ -12,11 +12,11 @@ use Rattle.ruby_value.specs.declared.message.Sent.{Sent}
 use Rattle.ruby_value.specs.declared.setup.BufferSetup.{BufferSetup}
 use Rattle.ruby_value.specs.declared.setup.MachineSetup.{MachineSetup}
 use Rattle.run_journal.specs.declared.entry.FireNote.{FireNote}
-use Rattle.ruby_runs.specs.Fresh.{HasFreshNumbers, given, given_at}
-use Rattle.ruby_runs.specs.Rules.{Acts, Fired, Rules}
-use Rattle.ruby_runs.specs.World as runs
-use Rattle.ruby_runs.specs.World.{World}
-use Rattle.ruby_runs.proofs.Fitting.{WorldFits, world-fits}
+use Rattle.protocol_runs.specs.Fresh.{HasFreshNumbers, given, given_at}
+use Rattle.protocol_runs.specs.RunRules.{Acts, Fired, Rules}
+use Rattle.protocol_runs.specs.World as runs
+use Rattle.protocol_runs.specs.World.{World}
+use Rattle.protocol_runs.proofs.Fitting.{WorldFits, world-fits}
 use Rattle.acts.specs.Mailed.{HasMailed, IsPosted}
 use Rattle.acts.specs.Left.{IsLeft}
 use Rattle.acts.proofs.Left.{left_lawful, left_mailed, left_scan}
@@ -41,11 +41,11 @@ use Rattle.protocol_runs.proofs.Premises.{sound}
 use Rattle.protocol_runs.proofs.Scans.{Fitting, begun, copies-suit, fitting, moves, scan-of}
 use Rattle.sequencer.specs.Drive.{Drive}
 use Rattle.sequencer.specs.Seats.{Seat}
-use Rattle.world_places.specs.Arrivals.{AreApart, CanArrive, Suits, SuitsBy, Takes, TakesAt}
-use Rattle.world_places.specs.declared.place.Keeper.{Keeper}
-use Rattle.world_places.specs.declared.place.Keeper.TheVariants.{World as Home, Worker}
-use Rattle.world_places.specs.declared.place.Place.{Place}
-use Rattle.world_places.specs.Places.{Made, made_by, made_in, place_with, places_with}
+use Rattle.world_state.specs.Arrivals.{AreApart, CanArrive, Suits, SuitsBy, Takes, TakesAt}
+use Rattle.world_state.specs.declared.place.Keeper.{Keeper}
+use Rattle.world_state.specs.declared.place.Keeper.TheVariants.{World as Home, Worker}
+use Rattle.world_state.specs.declared.place.Place.{Place}
+use Rattle.world_state.specs.Places.{Made, made_by, made_in, place_with, places_with}
 use Rattle.world_state.specs.declared.state.State.{State}
 use Rattle.world_state.specs.States.{held_place, AreMade, IsHeldIn, IsKept, IsLone, IsMadeFor, world_of}
 use Rattle.world_state.proofs.Copies.{IsNext, new-in, posted-apart, posted-fewer, posted-next}

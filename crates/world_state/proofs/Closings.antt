@@ -7,13 +7,13 @@ use Rattle.run_journal.specs.declared.verdict.Verdict.{Verdict}
 use Rattle.run_journal.specs.declared.verdict.Verdict.TheVariants.{Stop}
 use Rattle.ruby_value.specs.Ascending.{has_mark}
 use Rattle.ruby_value.specs.declared.message.Message.{Message}
-use Rattle.ruby_runs.specs.Change.{Closes, IsIdle}
-use Rattle.ruby_runs.specs.Rules.{Rules}
-use Rattle.ruby_runs.specs.Step.{Stepped, is_busy, stopped_by}
-use Rattle.ruby_runs.specs.Verdict.{least_stopped}
-use Rattle.ruby_runs.specs.World as runs
-use Rattle.ruby_runs.specs.World.{World}
-use Rattle.ruby_runs.proofs.Steps.{change-steps}
+use Rattle.protocol_runs.specs.Change.{Closes, IsIdle}
+use Rattle.protocol_runs.specs.RunRules.{Rules}
+use Rattle.protocol_runs.specs.Step.{Stepped, is_busy, stopped_by}
+use Rattle.protocol_runs.specs.Verdict.{least_stopped}
+use Rattle.protocol_runs.specs.World as runs
+use Rattle.protocol_runs.specs.World.{World}
+use Rattle.protocol_runs.proofs.Steps.{change-steps}
 use Rattle.ctl_face.specs.Ctl.{Ctl}
 use Rattle.ctl_store.specs.Kept.{ctl_of}
 use Rattle.protocol_runs.specs.Meaning.{Meaning}
@@ -21,11 +21,11 @@ use Rattle.protocol_runs.specs.Rules.{rules}
 use Rattle.protocol_runs.specs.Setting.{Setting}
 use Rattle.sequencer.specs.Drive.{Drive}
 use Rattle.sequencer.specs.Seats.{Seat}
-use Rattle.world_places.specs.Cycle.{has_stopped, stopped_by as stopped_at}
-use Rattle.world_places.specs.declared.place.Keeper.{Keeper}
-use Rattle.world_places.specs.declared.place.Keeper.TheVariants.{World as Home, Worker}
-use Rattle.world_places.specs.declared.place.Place.{Place}
-use Rattle.world_places.specs.Places.{IsHomeBy, is_free, made_in, marks_by, place_by, place_with, places_with}
+use Rattle.world_state.specs.Cycle.{has_stopped, stopped_by as stopped_at}
+use Rattle.world_state.specs.declared.place.Keeper.{Keeper}
+use Rattle.world_state.specs.declared.place.Keeper.TheVariants.{World as Home, Worker}
+use Rattle.world_state.specs.declared.place.Place.{Place}
+use Rattle.world_state.specs.Places.{IsHomeBy, is_free, made_in, marks_by, place_by, place_with, places_with}
 use Rattle.world_state.specs.declared.state.State.{State}
 use Rattle.world_state.specs.Closed.{IsClosed, IsRested}
 use Rattle.world_state.specs.States.{AreMade, IsHeldIn, IsKept, IsLone, IsNobody, world_of}

@@ -15,9 +15,9 @@ use Rattle.ruby_value.specs.declared.message.Sent.{Sent}
 use Rattle.ruby_value.specs.declared.setup.MachineSetup.{MachineSetup}
 use Rattle.ruby_value.specs.NumberBefore.{same_number}
 use Rattle.ruby_value.specs.NumbersFrom.{numbers_from}
-use Rattle.ruby_runs.specs.Account.{times}
-use Rattle.ruby_runs.specs.Rules as runs_rules
-use Rattle.ruby_runs.proofs.Tallies.{counted, one, tally}
+use Rattle.protocol_runs.specs.Account.{times}
+use Rattle.protocol_runs.specs.RunRules as runs_rules
+use Rattle.protocol_runs.proofs.Tallies.{counted, one, tally}
 use Rattle.ctl_face.specs.Acts.{sent_of}
 use Rattle.ctl_face.specs.Ctl.{Ctl, InboxMessage}
 use Rattle.ctl_face.specs.LocalView.{LocalView}

@@ -6,7 +6,7 @@ use Rattle.std.specs.List.{flat_map}
 use Rattle.std.specs.Option.{ForSome}
 use Rattle.run_journal.specs.declared.entry.Entry.{Entry}
 use Rattle.ruby_value.specs.declared.message.MsgNo.{MsgNo}
-use Rattle.ruby_runs.specs.Account.{consumed_in, consumed_numbers, sent_in, sent_numbers}
+use Rattle.protocol_runs.specs.Account.{consumed_in, consumed_numbers, sent_in, sent_numbers}
 use Rattle.world_state.specs.Booked.{AreCounted}
 
 one-more : (f : Entry → List MsgNo) (journal : List Entry) (e : Entry) → length (flat_map f (journal ++ e ∷ [])) ≡ length (flat_map f journal) + length (f e)

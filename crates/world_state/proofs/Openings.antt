@@ -4,10 +4,10 @@ use Rattle.ruby_value.specs.declared.message.Message.{Message}
 use Rattle.run_journal.specs.declared.entry.Entry.{Entry}
 use Rattle.run_journal.specs.declared.event.Event.{Event}
 use Rattle.run_journal.specs.declared.verdict.Verdict.{Verdict}
-use Rattle.ruby_runs.specs.Rules.{Rules}
-use Rattle.ruby_runs.specs.Run.{IsRun}
-use Rattle.ruby_runs.specs.World as runs
-use Rattle.ruby_runs.specs.World.{World, opening, opening_place}
+use Rattle.protocol_runs.specs.RunRules.{Rules}
+use Rattle.protocol_runs.specs.Run.{IsRun}
+use Rattle.protocol_runs.specs.World as runs
+use Rattle.protocol_runs.specs.World.{World, opening, opening_place}
 use Rattle.ctl_face.specs.Ctl.{Ctl}
 use Rattle.ctl_store.specs.Kept.{ctl_of}
 use Rattle.protocol_runs.specs.Meaning.{Meaning}
@@ -15,9 +15,9 @@ use Rattle.protocol_runs.specs.Rules.{opening_of, rules}
 use Rattle.protocol_runs.specs.Setting.{Setting}
 use Rattle.sequencer.specs.Drive.{Drive}
 use Rattle.sequencer.specs.Seats.{Seat}
-use Rattle.world_places.specs.declared.place.Kept.{Kept}
-use Rattle.world_places.specs.declared.place.Place.{Place}
-use Rattle.world_places.specs.Places.{Made, made_for, made_in, places_with}
+use Rattle.world_state.specs.declared.place.Kept.{Kept}
+use Rattle.world_state.specs.declared.place.Place.{Place}
+use Rattle.world_state.specs.Places.{Made, made_for, made_in, places_with}
 use Rattle.world_state.specs.declared.state.State.{State}
 use Rattle.world_state.specs.Opened.{IsOpening}
 use Rattle.world_state.specs.States.{AreMade, IsHeldIn, IsKept, IsLone, IsMadeFor, IsNobody, home_place, world_of}

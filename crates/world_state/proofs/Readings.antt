@@ -6,18 +6,18 @@ use Rattle.std.proofs.lemmas.List.Sums.{fails_before_first}
 use Rattle.std.proofs.lemmas.Option.{get_or_from_slice_get, slice_get_within}
 use Rattle.ruby_value.specs.Ascending.{has_mark}
 use Rattle.ruby_value.specs.declared.message.Message.{Message}
-use Rattle.ruby_runs.specs.Rules.{Rules}
-use Rattle.ruby_runs.specs.World as runs
+use Rattle.protocol_runs.specs.RunRules.{Rules}
+use Rattle.protocol_runs.specs.World as runs
 use Rattle.ctl_face.specs.Ctl.{Ctl}
 use Rattle.protocol_runs.specs.Meaning.{Meaning}
 use Rattle.protocol_runs.specs.Rules.{rules}
 use Rattle.protocol_runs.specs.Setting.{Setting}
 use Rattle.sequencer.specs.Drive.{Drive}
 use Rattle.sequencer.specs.Seats.{Seat}
-use Rattle.world_places.specs.declared.place.Keeper.{Keeper}
-use Rattle.world_places.specs.declared.place.Keeper.TheVariants.{World, Worker}
-use Rattle.world_places.specs.declared.place.Place.{Place}
-use Rattle.world_places.specs.Places.{is_free, is_held, made_by, made_in, marks_by, place_by, place_with, places_with}
+use Rattle.world_state.specs.declared.place.Keeper.{Keeper}
+use Rattle.world_state.specs.declared.place.Keeper.TheVariants.{World, Worker}
+use Rattle.world_state.specs.declared.place.Place.{Place}
+use Rattle.world_state.specs.Places.{is_free, is_held, made_by, made_in, marks_by, place_by, place_with, places_with}
 use Rattle.world_state.specs.States.{IsHeldIn, IsNobody}
 use Rattle.world_state.proofs.Closings.{position-mapped}
 

@@ -5,16 +5,16 @@ use Rattle.std.proofs.lemmas.Option.{same_Some}
 use Rattle.ruby_value.specs.declared.message.Delivery.{Delivery}
 use Rattle.ruby_value.specs.declared.message.Message.{Message}
 use Rattle.ruby_value.specs.declared.setup.MachineSetup.{MachineSetup}
-use Rattle.ruby_runs.specs.World as runs
-use Rattle.ruby_runs.proofs.Places.{mapped-from}
+use Rattle.protocol_runs.specs.World as runs
+use Rattle.protocol_runs.proofs.Places.{mapped-from}
 use Rattle.ctl_face.specs.Ctl.{Ctl}
 use Rattle.ctl_mail.specs.MailOf.{IsNewIn}
 use Rattle.ctl_store.specs.Kept.{ctl_of}
-use Rattle.world_places.specs.Arrivals.{CanArrive, SuitsBy, Takes, TakesAt}
-use Rattle.world_places.specs.declared.place.Keeper.{Keeper}
-use Rattle.world_places.specs.declared.place.Keeper.TheVariants.{World, Worker}
-use Rattle.world_places.specs.declared.place.Place.{Place}
-use Rattle.world_places.specs.Places.{Made, made_by, made_in, place_by, place_with, places_with}
+use Rattle.world_state.specs.Arrivals.{CanArrive, SuitsBy, Takes, TakesAt}
+use Rattle.world_state.specs.declared.place.Keeper.{Keeper}
+use Rattle.world_state.specs.declared.place.Keeper.TheVariants.{World, Worker}
+use Rattle.world_state.specs.declared.place.Place.{Place}
+use Rattle.world_state.specs.Places.{Made, made_by, made_in, place_by, place_with, places_with}
 use Rattle.protocol_runs.proofs.Controllers.{and-some, some-and}
 use Rattle.world_state.proofs.Worlds.{made-at, place-at}
 

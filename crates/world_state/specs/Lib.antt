@@ -4,3 +4,11 @@ pub mod Steps
 pub mod Ended
 pub mod Opened
 pub mod Closed
+pub mod Places
+pub mod Arrivals
+pub mod Cycle
+pub mod Driving
+pub mod Requests
+pub mod Turned
+pub mod Turning
+pub mod Seated

@@ -4,16 +4,16 @@ ghost use Rattle.run_journal.specs.declared.entry.Entry.TheVariants as entry;
 ghost use Rattle.run_journal.specs.declared.event.Event.TheVariants as event;
 ghost use Rattle.ctl_store.specs.Kept.{ctl_of};
 ghost use Rattle.ctl_store.specs.Room.{HasRoomForMark, IsSameStore};
-ghost use Rattle.world_places.specs.Places.{IsEndedAt, made_for};
+ghost use Rattle.world_state.specs.Places.{IsEndedAt, made_for};
 ghost use Rattle.world_state.specs.Ended.{ended};
 ghost use Rattle.world_state.specs.Steps.{IsSame, SameCycle, Writes};
 
 use crate::book::Book;
 use crate::state::State;
+use crate::{Kept, end_at};
 use ctl_store::Store;
 use ruby_value::NoMemory;
 use run_journal::{End, Entry, Event};
-use world_places::{Kept, end_at};
 
 // Makes room for the end of a wake-up, or answers that there is no memory for it.
 fn room_to_end(book: &mut Book, store: &mut Store) -> Result<(), NoMemory>

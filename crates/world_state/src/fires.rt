@@ -2,23 +2,23 @@
 ghost use Rattle.std.specs.Prelude.{◌≡◌, ◌≤◌, ◌<◌, ◌+◌, ◌^◌, ℕ, IfErr, IfOk, OnErr, OnOk, Some, length};
 ghost use Rattle.std.specs.List.{All};
 ghost use Rattle.run_journal.specs.declared.event.Event.TheVariants as event;
-ghost use Rattle.ruby_runs.specs.Step.{fired_entry as fired_entry_of};
+ghost use Rattle.protocol_runs.specs.Step.{fired_entry as fired_entry_of};
 ghost use Rattle.ctl_face.specs.Between.{with_one_fired};
 ghost use Rattle.ctl_face.specs.Ctl.{Ctl};
 ghost use Rattle.ctl_store.specs.Kept.{ctl_of};
 ghost use Rattle.ctl_store.specs.Room.{IsSameStore};
 ghost use Rattle.ctl_store.specs.Sealed.{HasRoomForOutcome, IsOutcomeFor, note_of, outcome_acts, outcome_ctl};
 ghost use Rattle.protocol_runs.specs.Meaning.{acts_told};
-ghost use Rattle.world_places.specs.Arrivals.{CanArrive, HasRoom, delivered};
-ghost use Rattle.world_places.specs.Places.{made_in, places_with};
+ghost use Rattle.world_state.specs.Arrivals.{CanArrive, HasRoom, delivered};
+ghost use Rattle.world_state.specs.Places.{made_in, places_with};
 ghost use Rattle.world_state.specs.Steps.{IsSame, SameCycle, Writes};
 
+use crate::deliver;
 use crate::state::State;
 use ctl_store::{Outcome, Store};
 use ruby_value::{NoMemory, Seq};
 use run_journal::{Entry, Event};
 use std::alloc::Global;
-use world_places::{deliver, room_for_all};
 
 // The entry of a transition of a controller that fired at a cycle.
 fn fired_entry(alloc: Global, cycle: u64, controller: u32, o: &Outcome) -> Result<Entry, NoMemory>
@@ -57,14 +57,12 @@ impl<D> State<D> {
         ensures events { OnOk result (2 ≤ self.new.book.event_room) }
         ensures entries { OnOk result (0 < self.new.book.entry_room) }
     {
-        let entry = fired_entry(alloc, self.now, c, o)?;
         let Ok(copies) = u32::try_from(o.sent().len()) else {
             return Err(NoMemory);
         };
         store.reserve(o)?;
-        room_for_all(&mut self.places, copies)?;
-        self.book.reserve(2)?;
-        Ok(entry)
+        self.reserve(2, copies)?;
+        fired_entry(alloc, self.now, c, o)
     }
 
     /// A scan of a controller that a worker holds has fired: its outcome is applied to the store, and its copies come to their

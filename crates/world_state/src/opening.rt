@@ -4,9 +4,9 @@ ghost use Rattle.world_state.specs.Opened.{IsOpening};
 
 use crate::book::Book;
 use crate::state::State;
+use crate::{Keeper, Kept, Place};
 use ruby_value::NoMemory;
 use std::alloc::Global;
-use world_places::{Keeper, Kept, Place};
 
 impl<D> State<D> {
     /// The data of a world as a run begins, with these controllers in the order of their numbers, and this driver.

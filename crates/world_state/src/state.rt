@@ -1,13 +1,15 @@
 //! A world's data, and how a worker takes a controller and gives it back.
-ghost use Rattle.std.specs.Prelude.{◌≡◌, ◌<◌, ◌∷◌, [], ◌++◌, IfOk, OnErr, OnOk, None, length};
+ghost use Rattle.std.specs.Prelude.{◌≡◌, ◌≤◌, ◌<◌, ◌∷◌, [], ◌++◌, IfOk, OnErr, OnOk, None, length};
+ghost use Rattle.std.specs.List.{All};
 ghost use Rattle.run_journal.specs.declared.event.Event.TheVariants as event;
-ghost use Rattle.world_places.specs.Places.{IsHomeAt, IsPutBack, IsTakenOut};
+ghost use Rattle.world_state.specs.Arrivals.{HasRoom};
+ghost use Rattle.world_state.specs.Places.{IsHomeAt, IsPutBack, IsTakenOut};
 ghost use Rattle.world_state.specs.Steps.{IsSame, SameCycle, Writes};
 
 use crate::book::Book;
+use crate::{Kept, Place, put_back, room_for_all, take_out};
 use ruby_value::NoMemory;
 use run_journal::{Event, Verdict};
-use world_places::{Kept, Place, put_back, take_out};
 
 /// The data of a world. The controllers stand by their numbers; one that a worker holds is out of its place. `issued` is how many
 /// requests the driver has issued, and `next` the next cycle at which it must act.
@@ -23,6 +25,19 @@ pub struct State<D> {
 }
 
 impl<D> State<D> {
+    /// Makes room for so many events, for one entry, and for so many messages at each controller that nobody holds, or answers that
+    /// there is no memory for them.
+    pub fn reserve(&mut self, events: usize, messages: u32) -> Result<(), NoMemory>
+        ensures same { IsSame self.old self.new }
+        ensures messages { OnOk result (All (HasRoom messages) self.new.places.items) }
+        ensures events { OnOk result (events ≤ self.new.book.event_room) }
+        ensures entry { OnOk result (0 < self.new.book.entry_room) }
+    {
+        room_for_all(&mut self.places, messages)?;
+        self.book.reserve(events)?;
+        Ok(())
+    }
+
     /// A worker takes a controller that nobody holds. It makes room for one event more, beside its own.
     pub fn take(&mut self, worker: u32, c: u32) -> Result<Kept, NoMemory>
         requires { IsHomeAt self.old.places.items c }

@@ -1,9 +1,9 @@
 // The machine whose controller the calls are made on, the routes, and what its calls need to know of it. There are three controllers:
 // two of the first machine, and this one, the only one of the second. The third machine has none.
 use built_in_acts::{CallSetting, KeptMachines};
+use controller_rows::{BufferRow, MachineRow, Network, TableRow};
 use ctl_face::{BufferPlace, MachineSetup, NoMemory, Routes, TableSize};
 use ruby_value::{Kind, Seq};
-use sample_controllers::{BufferRow, MachineRow, Network, TableRow};
 use std::alloc::Global;
 
 pub(crate) const ME: u32 = 2;
@@ -78,7 +78,7 @@ const MACHINE: MachineRow = MachineRow {
 
 /// What the machine is to its controller.
 pub(crate) fn machine(alloc: Global) -> Result<MachineSetup, NoMemory> {
-    sample_controllers::machine(alloc, &MACHINE)
+    controller_rows::machine(alloc, &MACHINE)
 }
 
 /// The fields of the parameters that say which controllers each machine has, and their values: a first one's number and a count for
@@ -104,5 +104,5 @@ pub(crate) fn routes(alloc: Global) -> Result<Routes, NoMemory> {
         jitter: 0,
         in_order: false,
     };
-    sample_controllers::routes(alloc, &network, &[&[None], &[None], &[None]])
+    controller_rows::routes(alloc, &network, &[&[None], &[None], &[None]])
 }

@@ -1,6 +1,6 @@
 // Makes the calls, and adds what each answers.
 ghost use Rattle.std.specs.Prelude.{IfOk, IfSome};
-ghost use Rattle.sample_stores.specs.Going.{GoesOn};
+ghost use Rattle.controller_rows.specs.Going.{GoesOn};
 
 use crate::calls::node::{DRIVER, KEPT_NUMBERS, ME, PARAMETERS, QUEUE, machine, routes, setting};
 use crate::calls::requests::{load, store};
@@ -8,13 +8,11 @@ use crate::calls::row::{Call, call_of, values};
 use crate::calls::shown::{add_answer, add_arguments};
 use acts::set;
 use built_in_acts::{CallSetting, built_in};
+use controller_rows::{is_delivered, is_issued, message, one_field, opened};
 use ctl_face::{Local, NoMemory, Routes};
 use ctl_store::{Draft, Store};
-use row_text::RowText;
-use ruby_outside::{Got, Library};
+use ruby_outside::{Got, Library, RowText};
 use ruby_value::{MsgNo, Ref, Value};
-use sample_controllers::{message, one_field};
-use sample_stores::{is_delivered, is_issued, opened};
 use std::alloc::Global;
 
 // The file with the calls, and the most bytes that it may have.

@@ -1,7 +1,7 @@
 // The machines of a protocol.
 use crate::lists::show_all;
 use crate::symbols::list::{Declared, add_list, add_named};
-use row_text::RowText;
+use ruby_outside::RowText;
 use ruby_symbols::{
     ActionSymbol, BufferSymbol, FormalSymbol, FunctionSymbol, MachineSymbols, PortSymbol,
     TableSort, TableSymbol, TransitionSymbol,

@@ -3,8 +3,8 @@ ghost use Rattle.std.specs.Prelude.{◌≡◌, ◌≤◌, ◌^◌, IfOk, length}
 
 use crate::tester::lines::add_requests;
 use random_tester::Tester;
-use row_text::RowText;
 use ruby_base::NoMemory;
+use ruby_outside::RowText;
 use sequencer::{Driver, DriverEnd, OwnedSeat, OwnedSeats, Sequencer};
 use std::alloc::Global;
 use std::mem;

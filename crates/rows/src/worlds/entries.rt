@@ -1,8 +1,7 @@
 // The lines of a journal: of each entry what a trace has of it, and below it what a trace leaves out, which is the lists of messages of a
 // transition. The end of a wake-up and a turn have a line of their own.
-use row_text::RowText;
 use ruby_base::{Seq, Text};
-use ruby_outside::{Sink, put};
+use ruby_outside::{RowText, Sink, put};
 use run_journal::{End, Entry, Finding, MsgNo, Sent, Verdict};
 use slicc_plan::Plan;
 use std::alloc::Global;

@@ -1,22 +1,22 @@
 // The run of a row.
 ghost use Rattle.std.specs.Prelude.{◌≡◌, ◌≤◌, IfOk, IfSome, length};
 ghost use Rattle.ctl_face.specs.Fits.{last_cycle};
-ghost use Rattle.sample_stores.specs.Script.{opening};
-ghost use Rattle.topology_fit.specs.FitsPlan.{FitsPlan};
+ghost use Rattle.controller_rows.specs.Script.{opening};
+ghost use Rattle.protocol_meaning.specs.FitsPlan.{FitsPlan};
 
 use crate::worlds::entries::write_entries;
 use crate::worlds::row::Row;
 use crate::worlds::script::requests_of;
+use controller_rows::{Script, plan_of};
+use protocol_meaning::topologies_fit;
 use ruby_base::{NoMemory, Text};
 use ruby_options::{Command, Options};
 use ruby_outside::{Got, Library, Sink};
 use ruby_topology::{TopoFault, Topology, read_topology};
 use ruby_world::{RunLimits, RunRecord, run_whole};
-use sample_stores::{Script, plan_of};
 use slicc_interpreter::Interpreted;
 use slicc_plan::{Plan, copy_plan};
 use std::alloc::Global;
-use topology_fit::topologies_fit;
 use trace_print::{RunText, write_rest};
 
 // The most bytes that the file of a topology may have, and that of a script.

@@ -1,4 +1,4 @@
-use Rattle.built_ins.specs.Calls.{call_of}
+use Rattle.declared_types.specs.Calls.{call_of}
 use Rattle.body_types.specs.Environments.{environment_of}
 use Rattle.body_types.specs.Found.{all_given_of, typed_of}
 use Rattle.call_types.proofs.Steps.{first_of_call, found_plain}

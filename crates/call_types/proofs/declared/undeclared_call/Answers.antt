@@ -4,7 +4,7 @@ use Rattle.slicc_plan.specs.Meanings.{nothing}
 use Rattle.body_types.specs.declared.typed.Typed.{Typed}
 use Rattle.body_types.specs.Environments.{environment_of}
 use Rattle.body_types.specs.Found.{all_given_of, found_of, typed_of}
-use Rattle.built_in_calls.specs.Called.{call_for}
+use Rattle.call_types.specs.Called.{call_for}
 use Rattle.call_types.proofs.declared.undeclared_call.Goals as goal
 
 pub returns-in-BuiltIn : goal.returns-in-BuiltIn

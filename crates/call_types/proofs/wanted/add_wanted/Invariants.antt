@@ -1,6 +1,6 @@
 use Rattle.std.proofs.Common.{◌≡◌, ◌++◌, take, map}
 use Rattle.slicc_plan.specs.CallTypes.{wanted_by}
-use Rattle.built_ins.specs.Calls.{argument_of, receiver_of}
+use Rattle.declared_types.specs.Calls.{argument_of, receiver_of}
 use Rattle.body_types.specs.Views.{wanted_of}
 use Rattle.call_types.proofs.wanted.add_wanted.Given as goal
 

@@ -1,6 +1,6 @@
 use Rattle.std.proofs.Common.{◌≡◌, drop}
 use Rattle.slicc_plan.specs.BuiltIn.{is_among}
-use Rattle.built_ins.specs.Types.{texts_of}
+use Rattle.declared_types.specs.Types.{texts_of}
 use Rattle.declaration_rules.proofs.members.has_text.Given as goal
 
 abbrev pub invariant-loop-n : goal.invariant-loop-n

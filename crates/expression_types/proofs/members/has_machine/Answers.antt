@@ -1,7 +1,7 @@
 use Rattle.std.proofs.Common.{◌+◌, ◌<◌, ◌||◌, ◌∙◌, ap, arith, drop, length, sym}
 use Rattle.std.specs.List.{flat_map, list_any}
 use Rattle.slicc_plan.specs.Declarations.{everywhere, wide_scopes}
-use Rattle.built_in_calls.specs.Called.{machines_in}
+use Rattle.call_types.specs.Called.{machines_in}
 use Rattle.expression_types.specs.Known.{is_called}
 use Rattle.expression_types.proofs.Machines.{among_machines, not_here}
 use Rattle.expression_types.proofs.members.has_machine.Goals as goal

@@ -1,4 +1,4 @@
-use Rattle.run_record.specs.declared.record.RunRecord.{RunRecord}
+use Rattle.protocol_meaning.specs.declared.record.RunRecord.{RunRecord}
 use Rattle.one_worker.proofs.Records.{is-alone, is-record}
 use Rattle.one_worker.proofs.recording.into_record.Goals as goal
 

@@ -1,5 +1,5 @@
 use Rattle.std.proofs.Common.{false, Some}
-use Rattle.ruby_runs.specs.World.{Place}
+use Rattle.protocol_runs.specs.World.{Place}
 use Rattle.ctl_face.specs.Ctl.{Ctl}
 use Rattle.protocol_meaning.specs.Meaning.{meaning_of}
 use Rattle.world_events.specs.Held.{ctl_in}

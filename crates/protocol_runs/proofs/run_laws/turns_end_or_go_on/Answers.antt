@@ -1,4 +1,4 @@
-use Rattle.ruby_runs.proofs.Outcomes.{turn-outcome, turn-wakes}
+use Rattle.protocol_runs.proofs.Outcomes.{turn-outcome, turn-wakes}
 use Rattle.protocol_runs.proofs.Driver.{IsDriver}
 use Rattle.protocol_runs.proofs.Premises.{keeps_marks}
 use Rattle.protocol_runs.specs.Rules.{rules}

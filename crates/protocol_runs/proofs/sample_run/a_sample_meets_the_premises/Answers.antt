@@ -1,6 +1,6 @@
 use Rattle.std.proofs.Common.{ℕ, Option, None, Some, refl}
-use Rattle.ruby_runs.specs.Run.{Ran, run as run_of, start}
-use Rattle.ruby_runs.specs.Step.{step}
+use Rattle.protocol_runs.specs.Run.{Ran, run as run_of, start}
+use Rattle.protocol_runs.specs.Step.{step}
 use Rattle.ctl_face.specs.Ctl.{Ctl}
 use Rattle.acts.specs.Acting.{act, either, run, ◌>>=◌, ◌>>◌}
 use Rattle.acts.specs.Done.{does}

@@ -1,4 +1,4 @@
-use Rattle.slicc_grammar.specs.Parts.{◌▸◌, semicolon, string}
+use Rattle.slicc_ast.specs.Parts.{◌▸◌, semicolon, string}
 use Rattle.slicc_reading.proofs.Parts.{◌then◌, at_first, behind, match_map}
 use Rattle.slicc_decl.proofs.clauses.clause.Goals as goal
 

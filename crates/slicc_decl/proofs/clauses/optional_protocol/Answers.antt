@@ -1,7 +1,7 @@
 use Rattle.std.proofs.Common.{sym}
-use Rattle.slicc_grammar.specs.Grammar.Row.{done}
+use Rattle.slicc_ast.specs.Grammar.Row.{done}
 use Rattle.slicc_ast.specs.declared.tree.token.Word.TheVariants.{Protocol}
-use Rattle.slicc_grammar.specs.Parts.{◌▸◌, semicolon, string, word}
+use Rattle.slicc_ast.specs.Parts.{◌▸◌, semicolon, string, word}
 use Rattle.slicc_reading.proofs.Choices.{absent, present, fault_in_present}
 use Rattle.slicc_decl.proofs.clauses.optional_protocol.Goals as goal
 

@@ -1,4 +1,4 @@
-use Rattle.slicc_grammar.specs.Parts.{◌▸◌, pairs, semicolon}
+use Rattle.slicc_ast.specs.Parts.{◌▸◌, pairs, semicolon}
 use Rattle.slicc_reading.proofs.Choices.{present, fault_in_present}
 use Rattle.slicc_reading.proofs.Parts.{◌then◌, at_first, behind}
 use Rattle.slicc_decl.proofs.fields.method_end.Goals as goal

@@ -1,8 +1,8 @@
 use Rattle.std.proofs.Common.{◌∷◌, [], sym}
-use Rattle.slicc_grammar.specs.Grammar.Row.{done}
-use Rattle.slicc_grammar.specs.Form.Form.{formals}
-use Rattle.slicc_grammar.specs.Parts.{◌▸◌, of, optional, pairs, parentheses, plain_name, semicolon}
-use Rattle.slicc_grammar.specs.TokenKinds.{machine_type, other_name}
+use Rattle.slicc_ast.specs.Grammar.Row.{done}
+use Rattle.slicc_ast.specs.Form.Form.{formals}
+use Rattle.slicc_ast.specs.Parts.{◌▸◌, of, optional, pairs, parentheses, plain_name, semicolon}
+use Rattle.slicc_ast.specs.TokenKinds.{machine_type, other_name}
 use Rattle.slicc_reading.proofs.Choices.{absent}
 use Rattle.slicc_reading.proofs.Parts.{◌then◌, as_allowed_behind, as_node_behind, as_part, behind}
 use Rattle.slicc_decl.proofs.NameKinds.{narrowed, not_skipped, only_memory, plain_is_name}

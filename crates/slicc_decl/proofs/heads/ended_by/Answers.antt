@@ -1,5 +1,5 @@
 use Rattle.slicc_ast.specs.Names.{name as name_of}
-use Rattle.slicc_grammar.specs.Parts.{name}
+use Rattle.slicc_ast.specs.Parts.{name}
 use Rattle.slicc_reading.proofs.GoingOn.{weaker}
 use Rattle.slicc_reading.proofs.Parts.{as_part, match_map}
 use Rattle.slicc_decl.proofs.heads.ended_by.Goals as goal

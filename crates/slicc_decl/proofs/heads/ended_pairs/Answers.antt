@@ -1,5 +1,5 @@
 use Rattle.slicc_ast.specs.Declarations.{pairs as pairs_of}
-use Rattle.slicc_grammar.specs.Parts.{pairs}
+use Rattle.slicc_ast.specs.Parts.{pairs}
 use Rattle.slicc_reading.proofs.GoingOn.{at_most}
 use Rattle.slicc_reading.proofs.Parts.{as_part, match_map}
 use Rattle.slicc_decl.proofs.heads.ended_pairs.Goals as goal

@@ -1,5 +1,5 @@
 use Rattle.std.proofs.Common.{rules, refl, sym}
-use Rattle.slicc_grammar.specs.Form.Form.{literal}
+use Rattle.slicc_ast.specs.Form.Form.{literal}
 use Rattle.slicc_reading.proofs.Parts.{as_node, at_no_alternative, in_alternative, match_map, of_alternative}
 use Rattle.slicc_decl.proofs.FirstTokens.{no_literal}
 use Rattle.slicc_decl.proofs.literals.literal.Goals as goal

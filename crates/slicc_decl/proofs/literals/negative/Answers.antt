@@ -1,5 +1,5 @@
 use Rattle.std.proofs.Common.{rules}
-use Rattle.slicc_grammar.specs.Parts.{number_token}
+use Rattle.slicc_ast.specs.Parts.{number_token}
 use Rattle.slicc_reading.proofs.Parts.{◌then◌, as_node, at_first, behind}
 use Rattle.slicc_decl.proofs.literals.negative.Goals as goal
 

@@ -1,7 +1,7 @@
 use Rattle.std.proofs.Common.{sym}
 use Rattle.slicc_ast.specs.Machines.{parameter_list}
-use Rattle.slicc_grammar.specs.Form.Form.{parameter}
-use Rattle.slicc_grammar.specs.Parts.{of}
+use Rattle.slicc_ast.specs.Form.Form.{parameter}
+use Rattle.slicc_ast.specs.Parts.{of}
 use Rattle.slicc_reading.specs.Reading.Refuses.{no_memory}
 use Rattle.slicc_reading.proofs.Parts.{as_part}
 use Rattle.slicc_decl.proofs.Lists.{each_parameter, parameter_parts}

@@ -1,4 +1,4 @@
-use Rattle.slicc_grammar.specs.Parts.{◌▸◌, colon, name, pairs, semicolon}
+use Rattle.slicc_ast.specs.Parts.{◌▸◌, colon, name, pairs, semicolon}
 use Rattle.slicc_reading.proofs.Parts.{◌then◌, at_first, behind}
 use Rattle.slicc_decl.proofs.members.state.Goals as goal
 

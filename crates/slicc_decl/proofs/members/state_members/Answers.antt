@@ -1,7 +1,7 @@
 use Rattle.std.proofs.Common.{sym}
 use Rattle.slicc_ast.specs.Declarations.{state_list}
 use Rattle.slicc_ast.specs.declared.tree.token.Sign.TheVariants.{CloseBrace}
-use Rattle.slicc_grammar.specs.Parts.{repeated, sign}
+use Rattle.slicc_ast.specs.Parts.{repeated, sign}
 use Rattle.slicc_reading.proofs.GoingOn.{of_read, of_value, on_fault}
 use Rattle.slicc_reading.proofs.Parts.{at_first}
 use Rattle.slicc_decl.specs.Members.{state_parts, state_row}

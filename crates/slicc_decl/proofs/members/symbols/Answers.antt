@@ -1,7 +1,7 @@
 use Rattle.std.proofs.Common.{sym}
 use Rattle.slicc_ast.specs.Declarations.{symbol_list}
 use Rattle.slicc_ast.specs.declared.tree.token.Sign.TheVariants.{CloseBrace}
-use Rattle.slicc_grammar.specs.Parts.{repeated, sign}
+use Rattle.slicc_ast.specs.Parts.{repeated, sign}
 use Rattle.slicc_reading.specs.Reading.Refuses.{no_memory}
 use Rattle.slicc_reading.proofs.Parts.{at_first}
 use Rattle.slicc_decl.specs.Members.{symbol_parts, symbol_row}

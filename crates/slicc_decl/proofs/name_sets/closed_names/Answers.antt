@@ -3,7 +3,7 @@ use Rattle.slicc_ast.specs.Machines.{name_list}
 use Rattle.slicc_ast.specs.Names.{sign as sign_of}
 use Rattle.slicc_ast.specs.Outline.{provided}
 use Rattle.slicc_ast.specs.declared.tree.token.Sign.TheVariants.{CloseBrace}
-use Rattle.slicc_grammar.specs.Parts.{◌▸◌, comma, name, repeated, sign}
+use Rattle.slicc_ast.specs.Parts.{◌▸◌, comma, name, repeated, sign}
 use Rattle.slicc_reading.specs.Reading.Refuses.{no_memory}
 use Rattle.slicc_reading.proofs.GoingOn.{of_read, of_value, on_fault}
 use Rattle.slicc_reading.proofs.Parts.{allow, as_part, at_first}

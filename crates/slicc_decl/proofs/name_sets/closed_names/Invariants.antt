@@ -1,6 +1,6 @@
 use Rattle.std.proofs.Common.{length}
 use Rattle.slicc_ast.specs.Names.{name as name_of}
-use Rattle.slicc_grammar.specs.Parts.{◌▸◌, comma, name}
+use Rattle.slicc_ast.specs.Parts.{◌▸◌, comma, name}
 use Rattle.slicc_decl.proofs.Lists.{further_name}
 use Rattle.slicc_reading.proofs.Repeats.{AreSeparated}
 use Rattle.slicc_decl.proofs.name_sets.closed_names.Given as goal

@@ -1,8 +1,8 @@
 use Rattle.std.proofs.Common.{◌∷◌, [], refl, sym}
 use Rattle.slicc_ast.specs.declared.tree.token.Sign.TheVariants.{OpenBrace}
-use Rattle.slicc_grammar.specs.Form.Form.{names}
-use Rattle.slicc_grammar.specs.Parts.{names_of}
-use Rattle.slicc_grammar.specs.TokenKinds.{sign_kind}
+use Rattle.slicc_ast.specs.Form.Form.{names}
+use Rattle.slicc_ast.specs.Parts.{names_of}
+use Rattle.slicc_ast.specs.TokenKinds.{sign_kind}
 use Rattle.slicc_reading.proofs.Parts.{allow, as_node, as_part, at_no_alternative, by_alternative, in_alternative}
 use Rattle.slicc_decl.proofs.FirstTokens.{neither_ahead}
 use Rattle.slicc_decl.proofs.name_sets.names.Goals as goal

@@ -1,4 +1,4 @@
-use Rattle.slicc_grammar.specs.Parts.{◌▸◌, name, pairs, semicolon}
+use Rattle.slicc_ast.specs.Parts.{◌▸◌, name, pairs, semicolon}
 use Rattle.slicc_reading.proofs.Parts.{◌then◌, as_node_behind, at_first, behind}
 use Rattle.slicc_decl.proofs.objects.starred_object.Goals as goal
 

@@ -1,6 +1,6 @@
 use Rattle.std.proofs.Common.{◌≤◌, ◌<◌, length, arith, refl, sym}
-use Rattle.slicc_grammar.specs.Form.Form.{literal, parameter}
-use Rattle.slicc_grammar.specs.Parts.{◌▸◌, assign, name, of, optional, pairs, semicolon}
+use Rattle.slicc_ast.specs.Form.Form.{literal, parameter}
+use Rattle.slicc_ast.specs.Parts.{◌▸◌, assign, name, of, optional, pairs, semicolon}
 use Rattle.slicc_reading.proofs.Parts.{◌then◌, as_node, at_first, at_no_alternative, behind, in_alternative, of_alternative}
 use Rattle.slicc_decl.proofs.parameters.parameter.Goals as goal
 

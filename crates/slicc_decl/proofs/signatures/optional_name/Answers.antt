@@ -1,6 +1,6 @@
 use Rattle.std.proofs.Common.{sym}
-use Rattle.slicc_grammar.specs.Grammar.Row.{done}
-use Rattle.slicc_grammar.specs.Parts.{name}
+use Rattle.slicc_ast.specs.Grammar.Row.{done}
+use Rattle.slicc_ast.specs.Parts.{name}
 use Rattle.slicc_reading.proofs.Choices.{absent, present, fault_in_present}
 use Rattle.slicc_reading.proofs.Parts.{as_part}
 use Rattle.slicc_decl.proofs.signatures.optional_name.Goals as goal

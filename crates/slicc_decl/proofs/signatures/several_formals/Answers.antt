@@ -1,8 +1,8 @@
 use Rattle.std.proofs.Common.{ap, sym}
 use Rattle.slicc_ast.specs.Declarations.{formal_list}
 use Rattle.slicc_ast.specs.Outline.{node}
-use Rattle.slicc_grammar.specs.Form.Form.{formal}
-use Rattle.slicc_grammar.specs.Parts.{◌▸◌, comma, of, repeated}
+use Rattle.slicc_ast.specs.Form.Form.{formal}
+use Rattle.slicc_ast.specs.Parts.{◌▸◌, comma, of, repeated}
 use Rattle.slicc_reading.specs.Reading.Refuses.{no_memory}
 use Rattle.slicc_reading.proofs.GoingOn.{of_read, of_value, on_fault}
 use Rattle.slicc_reading.proofs.Parts.{as_node, as_part, as_tree, at_first}

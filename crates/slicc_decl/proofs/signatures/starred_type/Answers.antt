@@ -1,5 +1,5 @@
 use Rattle.std.proofs.Common.{◌≤◌, ◌<◌, length, arith}
-use Rattle.slicc_grammar.specs.Parts.{optional, star}
+use Rattle.slicc_ast.specs.Parts.{optional, star}
 use Rattle.slicc_reading.proofs.Parts.{◌then◌, as_part, at_first, behind}
 use Rattle.slicc_decl.proofs.signatures.starred_type.Goals as goal
 

@@ -1,4 +1,4 @@
-use Rattle.slicc_grammar.specs.Parts.{balanced, braces}
+use Rattle.slicc_ast.specs.Parts.{balanced, braces}
 use Rattle.slicc_reading.proofs.Parts.{◌then◌, as_part, at_first, behind}
 use Rattle.slicc_decl.proofs.skipped_functions.pairs_and_body.Goals as goal
 

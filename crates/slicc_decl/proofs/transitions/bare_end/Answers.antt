@@ -1,4 +1,4 @@
-use Rattle.slicc_grammar.specs.Parts.{pairs}
+use Rattle.slicc_ast.specs.Parts.{pairs}
 use Rattle.slicc_reading.proofs.Parts.{as_node, at_first, behind, match_map}
 use Rattle.slicc_reading.proofs.Behind.{comma_before, goes_on}
 use Rattle.slicc_decl.proofs.transitions.bare_end.Goals as goal

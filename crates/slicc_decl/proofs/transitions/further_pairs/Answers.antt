@@ -1,7 +1,7 @@
 use Rattle.std.proofs.Common.{sym}
 use Rattle.slicc_ast.specs.Declarations.{pair_list}
-use Rattle.slicc_grammar.specs.Form.Form.{pair}
-use Rattle.slicc_grammar.specs.Parts.{◌▸◌, comma, of}
+use Rattle.slicc_ast.specs.Form.Form.{pair}
+use Rattle.slicc_ast.specs.Parts.{◌▸◌, comma, of}
 use Rattle.slicc_reading.specs.Reading.Refuses.{no_memory}
 use Rattle.slicc_reading.proofs.GoingOn.{of_read, of_value, on_fault}
 use Rattle.slicc_decl.specs.Members.{pair_parts}

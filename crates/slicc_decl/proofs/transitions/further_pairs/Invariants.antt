@@ -1,6 +1,6 @@
 use Rattle.std.proofs.Common.{length}
-use Rattle.slicc_grammar.specs.Form.Form.{pair}
-use Rattle.slicc_grammar.specs.Parts.{◌▸◌, comma, of}
+use Rattle.slicc_ast.specs.Form.Form.{pair}
+use Rattle.slicc_ast.specs.Parts.{◌▸◌, comma, of}
 use Rattle.slicc_decl.specs.Members.{pair_parts}
 use Rattle.slicc_reading.proofs.Repeats.{AreRepeated}
 use Rattle.slicc_decl.proofs.transitions.further_pairs.Given as goal

@@ -3,7 +3,7 @@ use Rattle.slicc_ast.specs.Machines.{names as names_of, next_parts}
 use Rattle.slicc_ast.specs.Names.{sign as sign_of}
 use Rattle.slicc_ast.specs.Outline.{Parts}
 use Rattle.slicc_ast.specs.declared.tree.token.Sign.TheVariants.{CloseParenthesis, Comma}
-use Rattle.slicc_grammar.specs.Parts.{◌▸◌, sign}
+use Rattle.slicc_ast.specs.Parts.{◌▸◌, sign}
 use Rattle.slicc_reading.proofs.GoingOn.{nests}
 use Rattle.slicc_decl.specs.Members.{transition_inside}
 use Rattle.slicc_decl.specs.declared.transitions.TransitionHead.{TransitionHead}

@@ -1,5 +1,5 @@
 use Rattle.slicc_reading.proofs.Choices.{present, fault_in_present}
-use Rattle.slicc_grammar.specs.Parts.{pairs}
+use Rattle.slicc_ast.specs.Parts.{pairs}
 use Rattle.slicc_reading.proofs.Parts.{◌then◌, as_node, as_part, at_first, behind, match_map}
 use Rattle.slicc_reading.proofs.Behind.{comma_before, goes_on}
 use Rattle.slicc_decl.proofs.transitions.valued_end.Goals as goal

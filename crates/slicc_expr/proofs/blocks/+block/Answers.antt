@@ -1,10 +1,10 @@
 use Rattle.std.proofs.Common.{refl, sym, ◌<◌, length, arith, rules}
-use Rattle.slicc_grammar.specs.Grammar.Row.{done}
+use Rattle.slicc_ast.specs.Grammar.Row.{done}
 use Rattle.slicc_ast.specs.declared.tree.token.Sign.TheVariants.{CloseBrace}
 use Rattle.slicc_ast.specs.Names.{word as word_of}
 use Rattle.slicc_ast.specs.Statements.{block, stmt_list}
-use Rattle.slicc_grammar.specs.Form.{Form}
-use Rattle.slicc_grammar.specs.Parts.{◌▸◌, of, repeated, sign, word}
+use Rattle.slicc_ast.specs.Form.{Form}
+use Rattle.slicc_ast.specs.Parts.{◌▸◌, of, repeated, sign, word}
 use Rattle.slicc_reading.specs.Reading.Refuses.{no_memory}
 use Rattle.slicc_reading.proofs.Parts.{◌then◌, as_node, as_part, as_tree, at_first, at_no_alternative, behind, in_alternative, match_map, of_alternative}
 use Rattle.slicc_reading.proofs.Choices.{absent, fault_in_nesting, fault_in_present, in_nesting, present}

@@ -1,7 +1,7 @@
 use Rattle.std.proofs.Common.{◌-◌, ◌<◌, length, arith}
 use Rattle.slicc_ast.specs.declared.tree.token.Sign.TheVariants.{Comma}
 use Rattle.slicc_ast.specs.declared.tree.token.Word.TheVariants.{StallAndWait}
-use Rattle.slicc_grammar.specs.Parts.{semicolon}
+use Rattle.slicc_ast.specs.Parts.{semicolon}
 use Rattle.slicc_expr.specs.StatementParts.{named_value, named_value_parts}
 use Rattle.slicc_reading.proofs.GoingOn.{at_most}
 use Rattle.slicc_reading.proofs.Parts.{as_node, at_first}

@@ -1,7 +1,7 @@
 use Rattle.slicc_ast.specs.Expressions.{mode_parts}
 use Rattle.slicc_ast.specs.Names.{sign, type_name}
 use Rattle.slicc_ast.specs.declared.tree.token.Sign.TheVariants.{Comma}
-use Rattle.slicc_grammar.specs.Parts.{type}
+use Rattle.slicc_ast.specs.Parts.{type}
 use Rattle.slicc_reading.proofs.GoingOn.{fewer, weaker}
 use Rattle.slicc_reading.proofs.Parts.{as_part, at_first, match_map}
 use Rattle.slicc_expr.specs.Levels.{mode_part}

@@ -1,6 +1,6 @@
 use Rattle.std.proofs.Common.{sym}
-use Rattle.slicc_grammar.specs.Grammar.Row.{done}
-use Rattle.slicc_grammar.specs.Parts.{◌▸◌, comma, string}
+use Rattle.slicc_ast.specs.Grammar.Row.{done}
+use Rattle.slicc_ast.specs.Parts.{◌▸◌, comma, string}
 use Rattle.slicc_reading.proofs.Choices.{absent, fault_in_present, present}
 use Rattle.slicc_expr.proofs.StatementForms.{text_parts}
 use Rattle.slicc_expr.proofs.cast.optional_mode.Goals as goal

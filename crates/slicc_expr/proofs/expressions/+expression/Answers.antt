@@ -1,10 +1,10 @@
 use Rattle.std.proofs.Common.{◌-◌, refl, sym, arith, ◌∷◌, []}
-use Rattle.slicc_grammar.specs.Grammar.Row.{done, form}
+use Rattle.slicc_ast.specs.Grammar.Row.{done, form}
 use Rattle.slicc_ast.specs.Names.{sign}
 use Rattle.slicc_ast.specs.declared.tree.token.Sign.TheVariants.{CloseParenthesis, Dot, OpenBracket}
-use Rattle.slicc_grammar.specs.TokenKinds.{sign_kind}
-use Rattle.slicc_grammar.specs.Form.Form.{arguments, constant, expression, name_end, opening, suffix, unary}
-use Rattle.slicc_grammar.specs.Parts.{◌▸◌, of, optional, parentheses, repeated, sign as sign_part}
+use Rattle.slicc_ast.specs.TokenKinds.{sign_kind}
+use Rattle.slicc_ast.specs.Form.Form.{arguments, constant, expression, name_end, opening, suffix, unary}
+use Rattle.slicc_ast.specs.Parts.{◌▸◌, of, optional, parentheses, repeated, sign as sign_part}
 use Rattle.slicc_reading.specs.Reading.Refuses.{no_memory}
 use Rattle.slicc_reading.proofs.Parts.{◌then◌, allow, as_node, as_node_behind, as_part, as_tree, at_first, behind, behind_read, in_alternative, match_map, of_alternative, read_behind}
 use Rattle.slicc_reading.proofs.Choices.{absent, absent_read, present, present_read, fault_in_present, fault_in_more, in_nesting, fault_in_nesting}

@@ -1,6 +1,6 @@
 use Rattle.std.proofs.Common.{sym}
-use Rattle.slicc_grammar.specs.Grammar.Row.{done}
-use Rattle.slicc_grammar.specs.Parts.{semicolon}
+use Rattle.slicc_ast.specs.Grammar.Row.{done}
+use Rattle.slicc_ast.specs.Parts.{semicolon}
 use Rattle.slicc_reading.proofs.Parts.{◌then◌, as_node_behind, at_first, behind}
 use Rattle.slicc_reading.proofs.Choices.{absent, fault_in_present, present}
 use Rattle.slicc_ast.specs.declared.tree.token.Sign.TheVariants.{Assign}

@@ -1,6 +1,6 @@
 use Rattle.std.proofs.Common.{refl, sym}
-use Rattle.slicc_grammar.specs.Form.{Form}
-use Rattle.slicc_grammar.specs.Parts.{names_of}
+use Rattle.slicc_ast.specs.Form.{Form}
+use Rattle.slicc_ast.specs.Parts.{names_of}
 use Rattle.slicc_lex.specs.Syntax.{symbols}
 use Rattle.slicc_reading.proofs.Parts.{at_first, at_no_alternative, behind_read, in_alternative, match_map, of_alternative, read_behind}
 use Rattle.slicc_reading.proofs.FirstTokens.{neither_kind}

@@ -1,7 +1,7 @@
 use Rattle.std.proofs.Common.{◌-◌}
 use Rattle.slicc_ast.specs.Statements.{latency_parts}
 use Rattle.slicc_ast.specs.declared.tree.token.Sign.TheVariants.{Comma}
-use Rattle.slicc_grammar.specs.Parts.{◌▸◌, optional, sign}
+use Rattle.slicc_ast.specs.Parts.{◌▸◌, optional, sign}
 use Rattle.slicc_reading.proofs.Parts.{at_first, behind}
 use Rattle.slicc_expr.specs.StatementParts.{port_and_message, port_and_message_parts, value_after}
 use Rattle.slicc_ast.specs.Names.{sign as sign_of}

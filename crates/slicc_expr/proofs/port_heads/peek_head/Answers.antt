@@ -1,6 +1,6 @@
 use Rattle.std.proofs.Common.{◌-◌}
 use Rattle.slicc_ast.specs.Declarations.{pairs as pairs_parts}
-use Rattle.slicc_grammar.specs.Parts.{◌▸◌, pairs, sign}
+use Rattle.slicc_ast.specs.Parts.{◌▸◌, pairs, sign}
 use Rattle.slicc_reading.proofs.Parts.{as_part, at_first, behind, match_map}
 use Rattle.slicc_expr.specs.StatementParts.{port_and_message, port_and_message_parts}
 use Rattle.slicc_ast.specs.Names.{sign as sign_of}

@@ -1,6 +1,6 @@
 use Rattle.slicc_ast.specs.Names.{name as name_parts, sign as sign_of, type_name}
 use Rattle.slicc_ast.specs.declared.tree.token.Sign.TheVariants.{Comma}
-use Rattle.slicc_grammar.specs.Parts.{name, type}
+use Rattle.slicc_ast.specs.Parts.{name, type}
 use Rattle.slicc_reading.proofs.Parts.{as_part, at_first, match_map}
 use Rattle.slicc_expr.proofs.port_heads.port_and_message.Goals as goal
 

@@ -1,5 +1,5 @@
 use Rattle.std.proofs.Common.{sym}
-use Rattle.slicc_grammar.specs.Grammar.Row.{done}
+use Rattle.slicc_ast.specs.Grammar.Row.{done}
 use Rattle.slicc_reading.proofs.Choices.{absent, fault_in_present, present}
 use Rattle.slicc_ast.specs.declared.tree.token.Sign.TheVariants.{Comma}
 use Rattle.slicc_expr.specs.StatementParts.{value_after}

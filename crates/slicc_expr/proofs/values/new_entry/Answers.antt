@@ -1,4 +1,4 @@
-use Rattle.slicc_grammar.specs.Parts.{name}
+use Rattle.slicc_ast.specs.Parts.{name}
 use Rattle.slicc_reading.proofs.Parts.{◌then◌, as_node, as_part, at_first, behind}
 use Rattle.slicc_expr.proofs.values.new_entry.Goals as goal
 

@@ -1,8 +1,8 @@
 use Rattle.std.proofs.Common.{◌∷◌, [], refl, sym}
 use Rattle.slicc_ast.specs.declared.tree.token.Word.TheVariants.{Action, Enumeration, InPort, OutPort, StateDeclaration, Structure, Transition}
-use Rattle.slicc_grammar.specs.Form.Form.{declaration}
-use Rattle.slicc_grammar.specs.Parts.{names_of}
-use Rattle.slicc_grammar.specs.TokenKinds.{word_kind}
+use Rattle.slicc_ast.specs.Form.Form.{declaration}
+use Rattle.slicc_ast.specs.Parts.{names_of}
+use Rattle.slicc_ast.specs.TokenKinds.{word_kind}
 use Rattle.slicc_reading.proofs.Parts.{at_no_alternative, in_alternative, match_map, of_alternative}
 use Rattle.slicc_decl.proofs.FirstTokens.{neither_ahead}
 use Rattle.slicc_parse.proofs.declarations.declaration.Goals as goal

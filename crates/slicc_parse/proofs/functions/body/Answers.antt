@@ -1,7 +1,7 @@
 use Rattle.std.proofs.Common.{◌∷◌, [], refl, sym}
 use Rattle.slicc_ast.specs.declared.tree.token.Sign.TheVariants.{OpenBrace, Semicolon}
-use Rattle.slicc_grammar.specs.Form.Form.{body}
-use Rattle.slicc_grammar.specs.TokenKinds.{sign_kind}
+use Rattle.slicc_ast.specs.Form.Form.{body}
+use Rattle.slicc_ast.specs.TokenKinds.{sign_kind}
 use Rattle.slicc_reading.proofs.Parts.{as_part, at_no_alternative, by_alternative, in_alternative}
 use Rattle.slicc_decl.proofs.FirstTokens.{neither_ahead}
 use Rattle.slicc_parse.proofs.functions.body.Goals as goal

@@ -1,5 +1,5 @@
-use Rattle.slicc_grammar.specs.Form.Form.{body}
-use Rattle.slicc_grammar.specs.Parts.{◌▸◌, of, pairs}
+use Rattle.slicc_ast.specs.Form.Form.{body}
+use Rattle.slicc_ast.specs.Parts.{◌▸◌, of, pairs}
 use Rattle.slicc_reading.proofs.Parts.{◌then◌, at_first, behind}
 use Rattle.slicc_parse.proofs.functions.function_end.Goals as goal
 

@@ -1,5 +1,5 @@
-use Rattle.slicc_grammar.specs.Form.Form.{body}
-use Rattle.slicc_grammar.specs.Parts.{of}
+use Rattle.slicc_ast.specs.Form.Form.{body}
+use Rattle.slicc_ast.specs.Parts.{of}
 use Rattle.slicc_reading.proofs.Parts.{◌then◌, as_part, at_first, behind}
 use Rattle.slicc_parse.proofs.functions.pairs_and_body.Goals as goal
 

@@ -1,6 +1,6 @@
 use Rattle.std.proofs.Common.{refl, sym}
-use Rattle.slicc_grammar.specs.Form.Form.{action, block}
-use Rattle.slicc_grammar.specs.Parts.{◌▸◌, name, of, pairs, parentheses}
+use Rattle.slicc_ast.specs.Form.Form.{action, block}
+use Rattle.slicc_ast.specs.Parts.{◌▸◌, name, of, pairs, parentheses}
 use Rattle.slicc_reading.proofs.Parts.{◌then◌, as_node, as_part, at_first, at_no_alternative, behind, in_alternative, of_alternative}
 use Rattle.slicc_parse.proofs.handlers.action.Goals as goal
 

@@ -1,6 +1,6 @@
 use Rattle.std.proofs.Common.{refl, sym}
-use Rattle.slicc_grammar.specs.Form.Form.{block, in_port}
-use Rattle.slicc_grammar.specs.Parts.{◌▸◌, comma, name, of, pairs, parentheses, type}
+use Rattle.slicc_ast.specs.Form.Form.{block, in_port}
+use Rattle.slicc_ast.specs.Parts.{◌▸◌, comma, name, of, pairs, parentheses, type}
 use Rattle.slicc_reading.proofs.Parts.{◌then◌, as_node, as_part, at_first, at_no_alternative, behind, in_alternative, of_alternative}
 use Rattle.slicc_parse.proofs.handlers.in_port.Goals as goal
 

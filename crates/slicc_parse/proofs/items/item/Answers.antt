@@ -1,7 +1,7 @@
 use Rattle.std.proofs.Common.{◌∷◌, [], refl, sym}
 use Rattle.slicc_ast.specs.declared.tree.token.Word.TheVariants.{Enumeration, Include, Machine, Structure}
-use Rattle.slicc_grammar.specs.Form.Form.{item}
-use Rattle.slicc_grammar.specs.TokenKinds.{word_kind}
+use Rattle.slicc_ast.specs.Form.Form.{item}
+use Rattle.slicc_ast.specs.TokenKinds.{word_kind}
 use Rattle.slicc_reading.proofs.Parts.{at_no_alternative, in_alternative, match_map, of_alternative}
 use Rattle.slicc_decl.proofs.FirstTokens.{neither_ahead}
 use Rattle.slicc_parse.proofs.items.item.Goals as goal

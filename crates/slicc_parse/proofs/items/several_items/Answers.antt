@@ -1,6 +1,6 @@
 use Rattle.std.proofs.Common.{sym}
-use Rattle.slicc_grammar.specs.Form.Form.{item}
-use Rattle.slicc_grammar.specs.Parts.{of, repeated}
+use Rattle.slicc_ast.specs.Form.Form.{item}
+use Rattle.slicc_ast.specs.Parts.{of, repeated}
 use Rattle.slicc_parse.specs.Rows.{items_parts}
 use Rattle.slicc_parse.proofs.Lists.{each_item, item_parts}
 use Rattle.slicc_parse.proofs.Starts.{behind_item}

@@ -1,6 +1,6 @@
 use Rattle.std.proofs.Common.{refl, sym}
-use Rattle.slicc_grammar.specs.Form.Form.{machine}
-use Rattle.slicc_grammar.specs.Parts.{◌▸◌, parentheses}
+use Rattle.slicc_ast.specs.Form.Form.{machine}
+use Rattle.slicc_ast.specs.Parts.{◌▸◌, parentheses}
 use Rattle.slicc_reading.proofs.Parts.{◌then◌, as_node, at_first, at_no_alternative, behind, in_alternative, of_alternative}
 use Rattle.slicc_parse.specs.Rows.{head_row, machine_row}
 use Rattle.slicc_parse.proofs.machines.machine.Goals as goal

@@ -1,5 +1,5 @@
-use Rattle.slicc_grammar.specs.Form.Form.{declaration, parameter}
-use Rattle.slicc_grammar.specs.Parts.{◌▸◌, braces, of, repeated}
+use Rattle.slicc_ast.specs.Form.Form.{declaration, parameter}
+use Rattle.slicc_ast.specs.Parts.{◌▸◌, braces, of, repeated}
 use Rattle.slicc_reading.proofs.Parts.{◌then◌, at_first, behind}
 use Rattle.slicc_parse.proofs.machines.machine_end.Goals as goal
 

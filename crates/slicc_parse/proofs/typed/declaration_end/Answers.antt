@@ -1,8 +1,8 @@
 use Rattle.std.proofs.Common.{◌∷◌, [], refl, sym}
 use Rattle.slicc_ast.specs.declared.tree.token.Sign.TheVariants.{Star}
-use Rattle.slicc_grammar.specs.Form.Form.{declaration_end}
-use Rattle.slicc_grammar.specs.Parts.{names_of}
-use Rattle.slicc_grammar.specs.TokenKinds.{sign_kind}
+use Rattle.slicc_ast.specs.Form.Form.{declaration_end}
+use Rattle.slicc_ast.specs.Parts.{names_of}
+use Rattle.slicc_ast.specs.TokenKinds.{sign_kind}
 use Rattle.slicc_reading.proofs.Parts.{at_no_alternative, in_alternative, match_map, of_alternative}
 use Rattle.slicc_decl.proofs.FirstTokens.{neither_ahead}
 use Rattle.slicc_decl.proofs.NameKinds.{plain_ahead}

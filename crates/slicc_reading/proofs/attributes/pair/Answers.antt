@@ -1,5 +1,5 @@
 use Rattle.std.proofs.Common.{refl, sym}
-use Rattle.slicc_grammar.specs.Form.Form.{pair}
+use Rattle.slicc_ast.specs.Form.Form.{pair}
 use Rattle.slicc_reading.proofs.PairLists.{no_pair}
 use Rattle.slicc_reading.proofs.Parts.{as_node, at_no_alternative, in_alternative, match_map, of_alternative}
 use Rattle.slicc_reading.proofs.attributes.pair.Goals as goal

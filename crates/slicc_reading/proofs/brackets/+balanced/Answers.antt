@@ -1,8 +1,8 @@
 use Rattle.std.proofs.Common.{◌-◌, refl, sym}
-use Rattle.slicc_grammar.specs.Form.{Form}
+use Rattle.slicc_ast.specs.Form.{Form}
 use Rattle.slicc_ast.specs.Names.{balanced, sign as sign_of}
 use Rattle.slicc_reading.proofs.BalancedParts.{braces_read, bracket_ahead, brackets_read, each_part, parentheses_read}
-use Rattle.slicc_grammar.specs.Parts.{◌▸◌, balanced as balanced_form, sign}
+use Rattle.slicc_ast.specs.Parts.{◌▸◌, balanced as balanced_form, sign}
 use Rattle.slicc_reading.proofs.GoingOn.{fewer, nests, of_read, of_value, on_fault}
 use Rattle.slicc_reading.proofs.Parts.{as_part, by_alternative, in_alternative, match_map}
 use Rattle.slicc_reading.proofs.Repeats.{all_from, fault_in_one, one_more}

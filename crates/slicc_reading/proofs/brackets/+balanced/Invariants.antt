@@ -1,8 +1,8 @@
 -- How deep the cycle of functions goes: each call has fewer tokens left, or comes later in this order.
 use Rattle.std.proofs.Common.{◌+◌, ◌*◌, length}
 use Rattle.slicc_ast.specs.Names.{balanced_part}
-use Rattle.slicc_grammar.specs.Form.{Form}
-use Rattle.slicc_grammar.specs.Parts.{of}
+use Rattle.slicc_ast.specs.Form.{Form}
+use Rattle.slicc_ast.specs.Parts.{of}
 use Rattle.slicc_reading.proofs.Repeats.{AreRepeated}
 use Rattle.slicc_reading.proofs.brackets.+balanced.Given as goal
 

@@ -1,8 +1,8 @@
 use Rattle.std.proofs.lemmas.Result.{IfErr-weaker, IfOk-weaker}
 use Rattle.std.proofs.Common.{◌∷◌, []}
-use Rattle.slicc_grammar.specs.Grammar.Row.{nested}
+use Rattle.slicc_ast.specs.Grammar.Row.{nested}
 use Rattle.slicc_ast.specs.declared.tree.token.Sign.TheVariants.{OpenParenthesis}
-use Rattle.slicc_grammar.specs.TokenKinds.{sign_kind}
+use Rattle.slicc_ast.specs.TokenKinds.{sign_kind}
 use Rattle.slicc_reading.proofs.Parts.{at_first, behind}
 use Rattle.slicc_reading.proofs.heads.called.Goals as goal
 

@@ -1,4 +1,4 @@
-use Rattle.slicc_grammar.specs.Parts.{name}
+use Rattle.slicc_ast.specs.Parts.{name}
 use Rattle.slicc_reading.proofs.Parts.{◌then◌, as_part, at_first, behind, match_map}
 use Rattle.slicc_reading.proofs.heads.name_after.Goals as goal
 

@@ -1,5 +1,5 @@
 use Rattle.std.proofs.Common.{◌<◌, arith, length}
-use Rattle.slicc_grammar.specs.Parts.{sign as sign_part}
+use Rattle.slicc_ast.specs.Parts.{sign as sign_part}
 use Rattle.slicc_reading.proofs.Parts.{◌then◌, at_first, behind}
 use Rattle.slicc_reading.proofs.kept.ended.Goals as goal
 

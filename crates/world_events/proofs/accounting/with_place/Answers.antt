@@ -3,7 +3,7 @@ use Rattle.std.specs.Prelude.{count_by}
 use Rattle.ctl_face.specs.Ctl.{InboxMessage}
 use Rattle.ctl_mail.specs.Census.{is_queued, is_recycled}
 use Rattle.ctl_store.specs.Kept.{ctl_of}
-use Rattle.world_places.specs.declared.place.Keeper.{Keeper}
+use Rattle.world_state.specs.declared.place.Keeper.{Keeper}
 use Rattle.world_events.specs.Accounted.{AreCountsOf, mail_by}
 use Rattle.world_events.specs.declared.accounting.Counts.{Counts}
 use Rattle.world_events.proofs.Counted.{counts-more, counts-still}

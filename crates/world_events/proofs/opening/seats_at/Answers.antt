@@ -2,7 +2,7 @@ use Rattle.std.proofs.Common.{◌<◌, All, IsSome, List, arith, false, length, 
 use Rattle.std.proofs.lemmas.List.Elements.{All-get_or}
 use Rattle.protocol_runs.specs.Machines.{machine_of}
 use Rattle.ruby_topology.specs.declared.topology.Seat.{Seat}
-use Rattle.topology_fit.specs.Setups.{ranges_of}
+use Rattle.protocol_meaning.specs.Setups.{ranges_of}
 use Rattle.world_events.proofs.Openings.{seats-there}
 use Rattle.world_events.proofs.opening.seats_at.Goals as goal
 

@@ -1,8 +1,8 @@
 use Rattle.std.proofs.Common.{◌≡◌, map, take}
 use Rattle.slicc_plan.specs.SymbolsOf.{symbols_of}
-use Rattle.topology_fit.specs.Seats.{seat_setup}
-use Rattle.topology_fit.specs.Setups.{ranges_of}
-use Rattle.world_turns.specs.Seated.{setups_in}
+use Rattle.protocol_meaning.specs.Seats.{seat_setup}
+use Rattle.protocol_meaning.specs.Setups.{ranges_of}
+use Rattle.world_state.specs.Seated.{setups_in}
 use Rattle.world_events.proofs.opening.seats_at.Given as goal
 
 abbrev pub invariant-loop-seat : goal.invariant-loop-seat

@@ -1,7 +1,7 @@
 use Rattle.std.proofs.Common.{List, ap, arith, ◌∙◌}
 use Rattle.std.specs.List.{position}
-use Rattle.world_places.specs.declared.place.Place.{Place}
-use Rattle.world_places.specs.Places.{is_free}
+use Rattle.world_state.specs.declared.place.Place.{Place}
+use Rattle.world_state.specs.Places.{is_free}
 use Rattle.protocol_meaning.specs.Meaning.{meaning_of}
 use Rattle.protocol_meaning.specs.Setting.{setting_of}
 use Rattle.world_events.specs.Data.{view_of}

@@ -1,7 +1,7 @@
 use Rattle.std.proofs.Common.{List, ap, false, slice_get, ◌∙◌}
 use Rattle.std.specs.Option.{option_map_or}
-use Rattle.world_places.specs.declared.place.Place.{Place}
-use Rattle.world_places.specs.Places.{is_free}
+use Rattle.world_state.specs.declared.place.Place.{Place}
+use Rattle.world_state.specs.Places.{is_free}
 use Rattle.world_events.specs.Data.{view_of}
 use Rattle.world_events.proofs.ReadOff.{free-is}
 use Rattle.world_events.proofs.world.World.is_due.Goals as goal

@@ -1,8 +1,8 @@
 use Rattle.std.proofs.Common.{◌∙◌, ap}
 use Rattle.ctl_face.specs.Ctl.{Ctl}
-use Rattle.world_places.specs.declared.place.Kept.{Kept}
+use Rattle.world_state.specs.declared.place.Kept.{Kept}
 use Rattle.world_state.specs.Ended.{ended}
-use Rattle.world_state.proofs.Kept.{same-made}
+use Rattle.world_state.proofs.SameMade.{same-made}
 use Rattle.world_state.proofs.state.State.finish.Goals as goal
 
 pub returns-clause-places : goal.returns-clause-places

@@ -1,5 +1,5 @@
 use Rattle.std.proofs.Common.{◌≡◌, false, map}
-use Rattle.world_places.specs.declared.place.Kept.{Kept}
+use Rattle.world_state.specs.declared.place.Kept.{Kept}
 use Rattle.world_state.specs.States.{home_place}
 use Rattle.world_state.proofs.state.State.open.Given as goal
 

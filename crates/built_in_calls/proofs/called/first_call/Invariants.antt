@@ -1,8 +1,0 @@
-use Rattle.std.proofs.Common.{◌≡◌, drop, map, find}
-use Rattle.slicc_plan.specs.CallTypes.{is_call_on}
-use Rattle.built_ins.specs.Calls.{call_of, receiver_of}
-use Rattle.built_in_calls.proofs.called.first_call.Given as goal
-
-abbrev pub invariant-loop-c : goal.invariant-loop-c
-invariant-loop-c l =
-    find (is_call_on (receiver_of l.on) l.text) (map call_of l.calls) ≡ find (is_call_on (receiver_of l.on) l.text) (map call_of (drop l.c-index l.calls))

@@ -1,6 +1,0 @@
-use Rattle.std.proofs.Common.{◌≡◌, ◌++◌}
-use Rattle.call_meaning.specs.Generated.{states_text}
-use Rattle.call_meaning.proofs.generated.add_states.Given as goal
-
-abbrev pub invariant-loop-i : goal.invariant-loop-i
-invariant-loop-i l = l.out ≡ l.initial.out ++ states_text l.i

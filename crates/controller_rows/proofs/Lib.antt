@@ -1,0 +1,6 @@
+pub mod Arriving
+pub mod Going
+pub mod Counting
+pub mod Issuing
+pub mod Taking
+mod Ranges

@@ -1,0 +1,4 @@
+pub mod Going
+pub mod Law
+pub mod Script
+pub mod Samples

@@ -1,6 +1,0 @@
-use Rattle.body_calls.specs.CallsDo.{CallsDo}
-use Rattle.machine_bodies.proofs.functions.body_done.Goals as goal
-
-pub all_done-requires-clause-does : goal.all_done-requires-clause-does
-unfolding CallsDo
-all_done-requires-clause-does g c = λ k arguments p q r post. post.1

@@ -1,7 +1,0 @@
-use Rattle.std.proofs.Common.{◌≡◌, ◌++◌, List}
-use Rattle.ruby_value.specs.declared.value.Value.{Value}
-use Rattle.body_meaning.specs.Bodies.{bound_formals}
-use Rattle.machine_bodies.proofs.functions.bound_formals.Given as goal
-
-abbrev pub invariant-loop-v : goal.invariant-loop-v
-invariant-loop-v l = (later : List Value) → l.names ++ bound_formals l.rest later ≡ bound_formals l.formals (l.yielded ++ later)

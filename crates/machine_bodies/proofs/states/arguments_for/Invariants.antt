@@ -1,6 +1,0 @@
-use Rattle.std.proofs.Common.{◌≡◌, map, take}
-use Rattle.body_meaning.specs.Transition.{state_argument}
-use Rattle.machine_bodies.proofs.states.arguments_for.Given as goal
-
-abbrev pub invariant-loop-argument : goal.invariant-loop-argument
-invariant-loop-argument l = l.values ≡ map (state_argument l.m l.a l.state) (take l.argument-index l.arguments)

@@ -1,0 +1,150 @@
+// The runs that options ask for, on one thread.
+ghost use Rattle.std.specs.Prelude.{◌≡◌, ◌≤◌, IfErr, IfOk, false, length, true};
+ghost use Rattle.ruby_answers.specs.Find.{IsRunIn};
+ghost use Rattle.ruby_answers.specs.Headline.{IsByOneWorker};
+ghost use Rattle.ruby_answers.specs.Record.{is_tested};
+ghost use Rattle.ruby_answers.specs.Right.{IsRunOf, plain_topologies, topologies_said};
+ghost use Rattle.ruby_options.specs.Within.{IsWithin};
+ghost use Rattle.protocol_runs.specs.Alone.{IsAlone};
+ghost use Rattle.ruby_topology.specs.Faults.{ForLine};
+ghost use Rattle.ruby_topology.specs.Topology.{IsRefused, IsRefusedPlain};
+ghost use Rattle.ruby_world.specs.Records.{IsWholeRunBy, rules_in};
+ghost use Rattle.slicc_plan.specs.SymbolsOf.{symbols_of};
+ghost use Rattle.protocol_meaning.specs.FitsPlan.{FitsPlan};
+
+use protocol_meaning::{plain_topologies_fit, topologies_fit};
+use random_tester::Tester;
+use ruby_base::NoMemory;
+use ruby_options::{Command, Options};
+use ruby_topology::{TopoFault, Topology, plain, read_topology};
+use ruby_world::{RunRecord, run_whole};
+use sequencer::{Driver, PlainDriver};
+use slicc_interpreter::Interpreted;
+use slicc_plan::{Plan, copy_plan};
+use std::alloc::Global;
+
+// A whole run by a driver that is as its constructor made it and needs one seat at most, of a protocol over a topology that fits it.
+fn run_by<D: Driver>(
+    alloc: Global,
+    plan: Plan,
+    topology: Topology,
+    options: Options,
+    driver: D,
+) -> Result<RunRecord, NoMemory>
+    requires fits { FitsPlan plan topology }
+    requires within { IsWithin options }
+    requires opening { D.opening driver ≡ driver }
+    requires least { D.least driver ≤ 1 }
+    ensures plan { IfOk result (λ r. r.plan ≡ plan) }
+    ensures topology { IfOk result (λ r. r.topology ≡ topology) }
+    ensures options { IfOk result (λ r. r.options ≡ options) }
+    ensures whole { IfOk result (IsWholeRunBy D.drive driver) }
+    ensures alone { IfOk result (λ r. IsAlone (rules_in D.drive driver r) r.history) }
+{
+    let protocol = Interpreted::new(copy_plan(&plan)?);
+    run_whole(alloc, &protocol, plan, topology, options, driver)
+}
+
+fn is_tested(command: Command) -> bool
+    ensures { result ≡ is_tested command }
+{
+    match command {
+        Command::Run => true,
+        _ => false,
+    }
+}
+
+// A run by the random tester, which is the actor after the last controller.
+fn tested_run(
+    alloc: Global,
+    plan: Plan,
+    topology: Topology,
+    options: Options,
+) -> Result<RunRecord, NoMemory>
+    requires fits { FitsPlan plan topology }
+    requires within { IsWithin options }
+    requires command { is_tested options.command ≡ true }
+    ensures run { IfOk result (IsRunIn plan topology options) }
+    ensures by_one_worker { IfOk result IsByOneWorker }
+{
+    let stream = topology.names().len() as u64;
+    let tester = Tester::new(
+        alloc,
+        options.seed,
+        stream,
+        options.lines,
+        options.checks,
+        options.deadlock,
+    )?;
+    run_by(alloc, plan, topology, options, tester)
+}
+
+// A run by the plain driver.
+fn untested_run(
+    alloc: Global,
+    plan: Plan,
+    topology: Topology,
+    options: Options,
+) -> Result<RunRecord, NoMemory>
+    requires fits { FitsPlan plan topology }
+    requires within { IsWithin options }
+    requires command { is_tested options.command ≡ false }
+    ensures run { IfOk result (IsRunIn plan topology options) }
+    ensures by_one_worker { IfOk result IsByOneWorker }
+{
+    let driver = PlainDriver::new(options.count);
+    run_by(alloc, plan, topology, options, driver)
+}
+
+// A run by the driver that the options ask for.
+fn run(
+    alloc: Global,
+    plan: Plan,
+    topology: Topology,
+    options: Options,
+) -> Result<RunRecord, NoMemory>
+    requires fits { FitsPlan plan topology }
+    requires within { IsWithin options }
+    ensures run { IfOk result (IsRunIn plan topology options) }
+    ensures by_one_worker { IfOk result IsByOneWorker }
+{
+    if is_tested(options.command) {
+        tested_run(alloc, plan, topology, options)
+    } else {
+        untested_run(alloc, plan, topology, options)
+    }
+}
+
+/// A plain run of a protocol, or why there is none.
+pub(crate) fn plain_run(alloc: Global, plan: Plan, options: Options) -> Result<RunRecord, TopoFault>
+    requires within { IsWithin options }
+    ensures ok { IfOk result (IsRunOf (plain_topologies plan) options plan) }
+    ensures err { IfErr result (λ fault. ForLine fault (IsRefusedPlain (symbols_of plan))) }
+    ensures by_one_worker { IfOk result IsByOneWorker }
+{
+    plain_topologies_fit();
+    let _trees = plan.trees();
+    let topology = plain(alloc, &plan)?;
+    let record = run(alloc, plan, topology, options)?;
+    Ok(record)
+}
+
+/// A run of a protocol over the topology that these bytes say, or why there is none.
+pub(crate) fn said_run(
+    alloc: Global,
+    plan: Plan,
+    bytes: &[u8],
+    options: Options,
+) -> Result<RunRecord, TopoFault>
+    requires within { IsWithin options }
+    requires length { length bytes.now ≤ 1048576 }
+    ensures ok { IfOk result (IsRunOf (topologies_said plan bytes.now) options plan) }
+    ensures err { IfErr result (λ fault. ForLine fault (IsRefused (symbols_of plan) bytes.now)) }
+    ensures by_one_worker { IfOk result IsByOneWorker }
+{
+    topologies_fit();
+    let _trees = plan.trees();
+    let topology = read_topology(alloc, bytes, &plan)?;
+    let record = run(alloc, plan, topology, options)?;
+    Ok(record)
+}

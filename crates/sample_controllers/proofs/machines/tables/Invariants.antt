@@ -1,6 +1,0 @@
-use Rattle.std.proofs.Common.{◌≡◌, map, take}
-use Rattle.sample_controllers.specs.Samples.{table_setup}
-use Rattle.sample_controllers.proofs.machines.tables.Given as goal
-
-abbrev pub invariant-loop-row : goal.invariant-loop-row
-invariant-loop-row l = l.tables.items ≡ map table_setup (take l.row-index l.rows)

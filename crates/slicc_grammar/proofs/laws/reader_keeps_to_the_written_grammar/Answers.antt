@@ -1,8 +1,0 @@
-use Rattle.slicc_grammar.proofs.OneChoice.{one_choice_of_form}
-use Rattle.slicc_grammar.specs.Table.{table}
-use Rattle.slicc_grammar.proofs.Decided.{one_token_decides}
-use Rattle.slicc_grammar.proofs.Readers.{passed, failed}
-use Rattle.slicc_grammar.proofs.laws.reader_keeps_to_the_written_grammar.Goals as goal
-
-pub returns : goal.returns
-returns c = record { passes = passed; fails = failed; one = one_choice_of_form table one_token_decides }

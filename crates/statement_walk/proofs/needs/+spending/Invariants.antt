@@ -1,0 +1,13 @@
+use Rattle.std.proofs.Common.{◌≡◌, take}
+use Rattle.std.specs.List.{flat_map}
+use Rattle.body_meaning.specs.Actions.{checked, names_table}
+use Rattle.statement_walk.specs.Spending.{else_if_checked, spent}
+use Rattle.statement_walk.proofs.needs.+spending.Given as goal
+
+abbrev pub invariant-spend_block-loop-statement : goal.invariant-spend_block-loop-statement
+invariant-spend_block-loop-statement l =
+    l.left ≡ spent (names_table l.m l.table) l.initial.left (flat_map checked (take l.statement-index l.b.statements))
+
+abbrev pub invariant-spend_others-loop-other : goal.invariant-spend_others-loop-other
+invariant-spend_others-loop-other l =
+    l.left ≡ spent (names_table l.m l.table) l.initial.left (flat_map else_if_checked (take l.other-index l.others))

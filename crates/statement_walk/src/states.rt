@@ -1,0 +1,108 @@
+// The state of a line, which the machine's own functions read and set, or else the built-in map does.
+ghost use Rattle.std.specs.Prelude.{◌≡◌, IfOk};
+ghost use Rattle.acts.specs.DoesAs.{DoesAs, itself};
+ghost use Rattle.body_meaning.specs.Transition.{arguments_for as arguments_for_is, permission_set as permission_set_is, state_argument as state_argument_is, state_by as state_by_is, state_set as state_set_is};
+ghost use Rattle.statement_walk.specs.Few.{HasFew};
+ghost use Rattle.body_meaning.specs.Reading.{reading};
+
+use crate::functions::called;
+use acts::{Local, NoMemory, Trouble, Value, set_state, state};
+use body_meaning::{About, Scope, as_member, value_in};
+use ruby_base::Seq;
+use ruby_symbols::{
+    MachineSymbols, StateArgument, get_state_arguments, set_permission_arguments,
+    set_state_arguments,
+};
+use std::alloc::Global;
+
+fn state_argument(m: &MachineSymbols, a: About, state: u16, argument: StateArgument) -> Value
+    ensures { result ≡ state_argument_is m.now a state argument }
+{
+    match argument {
+        StateArgument::Tbe => Value::Tbe(a.tbe),
+        StateArgument::Entry => Value::Entry(a.entry),
+        StateArgument::Address => Value::Addr(a.address),
+        StateArgument::State => Value::Enum(m.states, state),
+    }
+}
+
+fn arguments_for(
+    alloc: Global,
+    m: &MachineSymbols,
+    a: About,
+    state: u16,
+    arguments: &[StateArgument],
+) -> Result<Seq<Value>, NoMemory>
+    ensures { IfOk result (λ values. values ≡ arguments_for_is m.now a state arguments.now) }
+{
+    let mut values = Seq::new(alloc);
+    for argument in arguments {
+        values.push(state_argument(m, a, state, *argument))?;
+    }
+    Ok(values)
+}
+
+/// The number of the state of the line that a transition is about, by `getState`, if the machine has it.
+pub fn state_by<T: Local>(
+    alloc: Global,
+    s: Scope<'_>,
+    a: About,
+    function: Option<u16>,
+    local: &mut T,
+) -> Result<u16, Trouble>
+    requires few { HasFew s.machine.now }
+    ensures { DoesAs itself (state_by_is (reading s.entry) a function) result (T.view local.old)
+        (T.view local.new) }
+{
+    let Some(function) = function else {
+        return state(local, a.address / 64);
+    };
+    let list = get_state_arguments(alloc, s.machine)?;
+    let arguments = arguments_for(alloc, s.machine, a, 0, &list)?;
+    let t = called(alloc, s, function, arguments, local)?;
+    Ok(as_member(s, s.machine.states, &value_in(t)))
+}
+
+/// Sets the state of the line that a transition is about, by `setState`, if the machine has it.
+pub fn state_set<T: Local>(
+    alloc: Global,
+    s: Scope<'_>,
+    a: About,
+    next: u16,
+    function: Option<u16>,
+    local: &mut T,
+) -> Result<(), Trouble>
+    requires few { HasFew s.machine.now }
+    ensures { DoesAs itself (state_set_is (reading s.entry) a next function) result (T.view local.old)
+        (T.view local.new) }
+{
+    let Some(function) = function else {
+        return set_state(local, a.address / 64, next);
+    };
+    let list = set_state_arguments(alloc, s.machine)?;
+    let arguments = arguments_for(alloc, s.machine, a, next, &list)?;
+    called(alloc, s, function, arguments, local)?;
+    Ok(())
+}
+
+/// Sets the access permission of the line that a transition is about, where the machine has `setAccessPermission`.
+pub fn permission_set<T: Local>(
+    alloc: Global,
+    s: Scope<'_>,
+    a: About,
+    next: u16,
+    function: Option<u16>,
+    local: &mut T,
+) -> Result<(), Trouble>
+    requires few { HasFew s.machine.now }
+    ensures { DoesAs itself (permission_set_is (reading s.entry) a next function) result (T.view local.old)
+        (T.view local.new) }
+{
+    let Some(function) = function else {
+        return Ok(());
+    };
+    let list = set_permission_arguments(alloc, s.machine)?;
+    let arguments = arguments_for(alloc, s.machine, a, next, &list)?;
+    called(alloc, s, function, arguments, local)?;
+    Ok(())
+}

@@ -1,3 +1,0 @@
-pub mod FitsPlan
-pub mod Seats
-pub mod Setups

@@ -1,0 +1,148 @@
+-- The messages of a driver's requests can come to their receivers, once the sequencers are back in their stores: they have the driver's
+-- next numbers, which are in no inbox, and what the driver does changes no inbox.
+use Rattle.std.proofs.Common.{◌≡◌, ◌<◌, ◌≤◌, ◌==◌, ℕ, Bool, true, List, [], ◌∷◌, Option, None, Some, All, cond, filter, length, map, refl, sym, ◌∙◌, ap, subst, slice_get, arith}
+use Rattle.std.proofs.lemmas.Bool.{eq-eqb}
+use Rattle.std.proofs.lemmas.List.{length-map}
+use Rattle.std.specs.List.{AllPairs}
+use Rattle.ruby_value.specs.declared.message.Delivery.{Delivery}
+use Rattle.ruby_value.specs.declared.message.Message.{Message}
+use Rattle.ruby_value.specs.declared.message.Sent.{Sent}
+use Rattle.ruby_value.specs.NumbersFrom.{numbers_from}
+use Rattle.protocol_runs.specs.Fresh.{given, given_at}
+use Rattle.protocol_runs.specs.RunRules.{Rules}
+use Rattle.protocol_runs.specs.Step.{changed_from, driver_turn_in}
+use Rattle.protocol_runs.specs.World as runs
+use Rattle.protocol_runs.specs.World.{World}
+use Rattle.protocol_runs.proofs.Places.{changed, paired-back}
+use Rattle.ctl_face.specs.Acts.{sent_of}
+use Rattle.ctl_face.specs.Ctl.{Ctl, Mail}
+use Rattle.ctl_face.proofs.Betweens.{driver_mail}
+use Rattle.ctl_mail.specs.MailOf.{IsNewIn}
+use Rattle.protocol_runs.specs.Kept.{SuitsReceiver}
+use Rattle.protocol_runs.specs.Meaning.{Meaning}
+use Rattle.protocol_runs.specs.Rules.{rules}
+use Rattle.protocol_runs.specs.Setting.{Setting}
+use Rattle.protocol_runs.specs.Turn.{acts_at, served}
+use Rattle.protocol_runs.proofs.Driver.{IsDriver}
+use Rattle.protocol_runs.proofs.Lawful.{fresh}
+use Rattle.protocol_runs.proofs.Scans.{maps-join}
+use Rattle.sequencer.specs.Drive.{Drive}
+use Rattle.sequencer.specs.Seats.{Seat}
+use Rattle.world_state.specs.Arrivals as arrivals
+use Rattle.world_state.specs.Arrivals.{CanArrive}
+use Rattle.world_state.specs.declared.place.Place.{Place}
+use Rattle.world_state.specs.Places.{Made, made_by, made_in, places_with}
+use Rattle.world_state.specs.declared.seat.SeatAt.{SeatAt}
+use Rattle.world_state.specs.Seated.{controllers_in, setups_in}
+use Rattle.world_state.proofs.Served.{served-places}
+use Rattle.world_state.specs.declared.state.State.{State}
+use Rattle.world_state.specs.States.{AreMade, IsHeldIn, IsNobody, world_of}
+use Rattle.world_state.proofs.Arriving.{Comes, can-arrive}
+use Rattle.world_state.proofs.Copies.{IsNext, new-in, posted-apart, posted-next}
+use Rattle.world_state.specs.Turned.{IsActIn, requests_in, seated_in}
+use Rattle.world_state.specs.Turning.{IsOfRun}
+use Rattle.world_state.proofs.Acting.{asked, count, fits, lawful-rules, mail-rules, requests-are, seats-apart}
+
+all-pass : {X : Type 0} (xs : List X) → filter (λ (x : X). true) xs ≡ xs
+all-pass [] = refl
+all-pass (x ∷ xs) = ap (λ (ys : List _). x ∷ ys) (all-pass xs)
+
+past : {X : Type 0} (xs : List X) → slice_get xs (length xs) ≡ None
+past [] = refl
+past (x ∷ xs) = past xs
+
+module _ {D : Type 0} (drive : D → List Seat → ℕ → Drive D) (needs : D → ℕ → ℕ) (least : D → ℕ) (driver : IsDriver drive needs least)
+    (cycles : ℕ) (seats : List SeatAt) (p : Meaning) (s : Setting D) (held : Ctl) (st : State D)
+    (of_run : IsOfRun least drive cycles seats p s held st) (running : st.verdict ≡ None) (nobody : IsNobody (made_in st.places.items))
+    (d : Drive D) (act : IsActIn drive seats st d) where
+  abbrev R : Rules Ctl Message D
+  R = rules p drive s
+
+  abbrev W : World Ctl D
+  W = world_of held st
+
+  abbrev n : ℕ
+  n = length R.controllers
+
+  abbrev asks : List (Delivery Message)
+  asks = (driver_turn_in R W).requests
+
+  -- an inbox stays as the driver acts
+  served-mail : (c : ℕ) (q : runs.Place Ctl) → slice_get (seated_in seats held st d) c ≡ Some q
+      → (o : runs.Place Ctl) × (slice_get W.places c ≡ Some o) × (q.controller.mail ≡ o.controller.mail)
+  served-mail c q there =
+      let change : ℕ → Ctl → Ctl = λ i x. served (setups_in seats) i d x in
+      let apart = seats-apart drive needs least driver cycles seats p s held st of_run running nobody in
+      let same : seated_in seats held st d ≡ changed_from 0 change W.places = served-places seats apart W.places d in
+      let (o, at, is) =
+      paired-back (λ (x y : runs.Place Ctl). y ≡ record x { controller = change c x.controller }) (slice_get W.places c) (slice_get (changed_from 0 change W.places) c) q (changed change W.places c)
+      (ap (λ (ps : List (runs.Place Ctl)). slice_get ps c) (sym same) ∙ there) in
+      (o, at, ap (λ (x : runs.Place Ctl). x.controller.mail) is ∙ driver_mail (acts_at (setups_in seats) c d) o.controller)
+
+  -- the numbers of the messages
+  numbered : map (λ (e : Delivery Message). e.message.number) asks ≡ numbers_from n st.issued (length asks)
+  numbered =
+      let mail = mail-rules drive needs least driver cycles seats p s held st of_run running nobody in
+      mail.asks st.driver (controllers_in W.places) st.now st.issued (asked drive needs least driver cycles seats p s held st of_run running nobody)
+
+  -- as they are told of sent messages
+  told-numbers : map (λ (n : Sent). n.number) (map sent_of asks) ≡ numbers_from n st.issued (length (map sent_of asks))
+  told-numbers =
+      maps-join (λ (n : Sent). n.number) sent_of asks ∙ numbered
+      ∙ ap (λ (k : ℕ). numbers_from n st.issued k) (sym (length-map asks sent_of))
+
+  next-ones : All (λ (e : Delivery Message). IsNext n st.issued e.message.number) asks
+  next-ones = posted-next n st.issued (map sent_of asks) (λ x. true) asks told-numbers (sym (all-pass (map sent_of asks)))
+
+  apart-ones : AllPairs arrivals.AreApart asks
+  apart-ones = posted-apart n st.issued (map sent_of asks) (λ x. true) asks told-numbers (sym (all-pass (map sent_of asks)))
+
+  -- the driver has given as many as it has issued
+  given-issued : given R W n ≡ st.issued
+  given-issued =
+      let is = fits drive needs least driver cycles seats p s held st of_run running nobody in
+      ap (λ (o : Option (runs.Place Ctl)). given_at R st.issued (n == length W.places) o) (ap (λ (k : ℕ). slice_get W.places k) (sym is.count) ∙ past W.places)
+      ∙ ap (λ (b : Bool). cond b st.issued 0) (eq-eqb n (length W.places) (sym is.count))
+
+  module _ (places : List Place) (are : (other : Ctl) → places_with other places ≡ seated_in seats other st d) (made : made_in places ≡ made_in st.places.items) where
+    same-length : length places ≡ length st.places.items
+    same-length =
+        sym (length-map places (λ (k : Place). made_by k.keeper)) ∙ ap (λ (ms : List (Option Made)). length ms) made
+        ∙ length-map st.places.items (λ (k : Place). made_by k.keeper)
+
+    -- the data with these places
+    abbrev mid : State D
+    mid = record st { places = record st.places { items = places; ok = (st.places.ok.0 ∙ sym same-length, st.places.ok.1) } }
+
+    places-count : length places ≡ n
+    places-count = same-length ∙ count drive needs least driver cycles seats p s held st of_run running nobody
+
+    comes : (e : Delivery Message) → SuitsReceiver s e.receiver e.message st.now → e.receiver < n → IsNext n st.issued e.message.number
+        → Comes drive needs least driver p s of_run.meaning of_run.setting held mid e
+    comes e suits within next = record {
+      within = omega (arith, within, places-count);
+      free = λ there. nobody e.receiver (subst (λ (ms : List (Option Made)). IsHeldIn ms e.receiver) made there);
+      suits = suits;
+      fresh = λ place there.
+          let (o, at, same) = served-mail e.receiver place (ap (λ (ps : List (runs.Place Ctl)). slice_get ps e.receiver) (sym (are held)) ∙ there) in
+          subst (λ (m : Mail). IsNewIn m e.message.number) (sym same)
+          (new-in o.controller e.message.number
+          (fresh drive needs least driver p s of_run.meaning of_run.setting st.book.history W st.book.journal of_run.kept.run e.message.number
+          (subst (λ (k : ℕ). given R W k ≤ e.message.number.count) (sym next.sender_is)
+          (subst (λ (k : ℕ). k ≤ e.message.number.count) (sym given-issued) next.later)) e.receiver o at));
+    }
+
+    all-come : All (Comes drive needs least driver p s of_run.meaning of_run.setting held mid) asks
+    all-come =
+        let lawful = lawful-rules drive needs least driver cycles seats p s held st of_run running nobody in
+        let mail = mail-rules drive needs least driver cycles seats p s held st of_run running nobody in
+        let is = asked drive needs least driver cycles seats p s held st of_run running nobody in
+        let suit = lawful.asks st.driver (controllers_in W.places) st.now st.issued is in
+        let within = mail.receivers st.driver (controllers_in W.places) st.now st.issued is in
+        λ i e inside. comes _ (suit i e inside) (within i e inside) (next-ones i e inside)
+
+    pub arrive : CanArrive places (requests_in seats st d)
+    arrive =
+        subst (CanArrive places) (sym (requests-are drive needs least driver cycles seats p s held st of_run running nobody d act))
+        (can-arrive drive needs least driver p s of_run.meaning of_run.setting held mid asks
+        (subst (AreMade s) (sym made) of_run.kept.made) all-come apart-ones)

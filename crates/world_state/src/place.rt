@@ -1,0 +1,132 @@
+//! A controller's place in a world.
+ghost use Rattle.std.specs.Prelude.{◌≡◌, ◌≢◌, ◌<◌, ◌+◌, ◌^◌, ℕ, OnOk};
+ghost use Rattle.ruby_value.specs.Ascending.{has_mark as has_mark_of};
+ghost use Rattle.ruby_value.specs.declared.message.Message.{Message as MessageRecord};
+ghost use Rattle.protocol_runs.specs.Verdict.{least_above};
+ghost use Rattle.ctl_face.specs.Between.{with_arrival};
+ghost use Rattle.ctl_face.specs.Ctl.{Ctl};
+ghost use Rattle.ctl_store.specs.Kept.{ctl_of};
+ghost use Rattle.world_state.specs.Arrivals.{HasRoom, Takes};
+ghost use Rattle.world_state.specs.Cycle.{begun_at, has_stopped as has_stopped_at};
+ghost use Rattle.world_state.specs.Places.{IsHome, is_free as is_free_by, made_by, marks_by, place_with};
+
+use ctl_face::Routes;
+use ctl_store::Store;
+use ruby_value::{Message, NoMemory};
+
+/// A controller that nobody holds: its store, and the routes that it goes by.
+#[derive(Drop)]
+pub struct Kept {
+    pub store: Store,
+    pub routes: Routes,
+}
+
+/// Who has a controller: the world, or the worker of this number, who holds it.
+#[derive(Drop)]
+pub enum Keeper {
+    World(Kept),
+    Worker(u32),
+}
+
+/// A controller's place in a world.
+#[derive(Drop)]
+pub struct Place {
+    pub keeper: Keeper,
+    /// Whether the controller's wake-up of this cycle has ended.
+    pub finished: bool,
+}
+
+// Whether the controller of a store must wake at a cycle.
+fn has_mark(store: &Store, cycle: u64) -> bool
+    ensures { result ≡ has_mark_of (ctl_of store.now).mail.marks cycle }
+{
+    match store.next_mark(cycle) {
+        Some(mark) => mark == cycle,
+        None => false,
+    }
+}
+
+// The least cycle above one at which the controller of a store must wake.
+fn next_above(store: &Store, now: u64) -> Option<u64>
+    requires { now < 2 ^ 63 }
+    ensures { result ≡ least_above now (ctl_of store.now).mail.marks }
+{
+    store.next_mark(now + 1)
+}
+
+impl Place {
+    /// Whether the controller is due at a cycle, and nobody holds it.
+    pub(crate) fn is_free(&self, now: u64) -> bool
+        ensures { result ≡ is_free_by now self.now }
+    {
+        match &self.keeper {
+            Keeper::World(kept) => has_mark(&kept.store, now) && !self.finished,
+            Keeper::Worker(_) => false,
+        }
+    }
+
+    /// The least cycle above one at which the controller must wake, where nobody holds it.
+    pub(crate) fn next_above(&self, now: u64) -> Option<u64>
+        requires { now < 2 ^ 63 }
+        ensures { result ≡ least_above now (marks_by self.now.keeper) }
+    {
+        match &self.keeper {
+            Keeper::World(kept) => next_above(&kept.store, now),
+            Keeper::Worker(_) => None,
+        }
+    }
+
+    /// Whether the controller has stopped, where nobody holds it.
+    pub(crate) fn has_stopped(&self) -> bool
+        ensures { result ≡ has_stopped_at self.now }
+    {
+        match &self.keeper {
+            Keeper::World(kept) => kept.store.stopped(),
+            Keeper::Worker(_) => false,
+        }
+    }
+
+    /// Makes room for so many messages, or answers that there is no memory for them. Of a held controller nothing is made room for.
+    pub(crate) fn room(&mut self, messages: u32) -> Result<(), NoMemory>
+        ensures same { (held : Ctl) → place_with held self.new ≡ place_with held self.old }
+        ensures made { made_by self.new.keeper ≡ made_by self.old.keeper }
+        ensures ok { OnOk result (HasRoom messages self.new) }
+    {
+        match &mut self.keeper {
+            Keeper::World(kept) => kept.store.room(messages),
+            Keeper::Worker(_) => Ok(()),
+        }
+    }
+
+    /// A message comes to the controller, which nobody holds. It takes no memory.
+    pub(crate) fn arrive(&mut self, m: Message)
+        requires takes { Takes m self.old }
+        requires room { HasRoom 1 self.old }
+        ensures after { (held : Ctl) → place_with held self.new
+            ≡ (let p = place_with held self.old in record p { controller = with_arrival p.controller m }) }
+        ensures made { made_by self.new.keeper ≡ made_by self.old.keeper }
+        ensures room { (more : ℕ) → HasRoom (more + 1) self.old → HasRoom more self.new }
+        ensures others { (n : MessageRecord) → n.number ≢ m.number → Takes n self.old
+            → Takes n self.new }
+    {
+        match &mut self.keeper {
+            Keeper::World(kept) => kept.store.arrive(m),
+            Keeper::Worker(_) => unreachable!(),
+        }
+    }
+
+    /// A cycle begins for the controller, which nobody holds. It takes no memory.
+    pub(crate) fn begin(&mut self, now: u64)
+        requires { IsHome self.old }
+        ensures after { (held : Ctl) → place_with held self.new
+            ≡ begun_at now (place_with held self.old) }
+        ensures made { made_by self.new.keeper ≡ made_by self.old.keeper }
+        ensures home { IsHome self.new }
+    {
+        match &mut self.keeper {
+            Keeper::World(kept) => kept.store.begin(now),
+            Keeper::Worker(_) => unreachable!(),
+        }
+        self.finished = false;
+    }
+}

@@ -1,5 +1,0 @@
-use Rattle.world_turns.proofs.Acting.{still-home}
-use Rattle.world_turns.proofs.laws.places_stay_home.Goals as goal
-
-pub returns : goal.returns
-returns c = λ old new made home. still-home old new made home

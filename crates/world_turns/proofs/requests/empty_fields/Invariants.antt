@@ -1,7 +1,0 @@
-use Rattle.std.proofs.Common.{◌≡◌, length}
-use Rattle.std.specs.List.{All}
-use Rattle.world_turns.specs.Requests.{IsFieldRoom}
-use Rattle.world_turns.proofs.requests.empty_fields.Given as goal
-
-abbrev pub invariant-loop : goal.invariant-loop
-invariant-loop l = (length l.made.items ≡ l.counter) × All IsFieldRoom l.made.items

@@ -1,5 +1,0 @@
-use Rattle.world_turns.proofs.Served.{served-places}
-use Rattle.world_turns.proofs.seat_laws.turns_serve_the_places.Goals as goal
-
-pub returns : goal.returns
-returns g c = λ seats places d apart. served-places seats apart places d

@@ -1,5 +1,0 @@
-pub mod Driving
-pub mod Requests
-pub mod Turned
-pub mod Turning
-pub mod Seated
