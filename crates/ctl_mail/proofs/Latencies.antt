@@ -17,3 +17,15 @@ judged latency answer later fits value is =
     let told : answer ≡ cond (is_latency latency) (Some (nat_abs latency)) None =
     subst (λ (z : ℤ). answer ≡ cond (is_latency z) (Some (nat_abs z)) None) (to_z-of_z w64 latency fits) value in
     judged-some (is_latency latency) (nat_abs latency) later (sym told ∙ is)
+
+judged-none : (b : Bool) (n : ℕ) → cond b (Some n) None ≡ None → b ≡ false
+judged-none true n is = absurd (cc is)
+judged-none false n is = refl
+
+pub refused : (latency : ℤ) (answer : Option ℕ) → SFits w64 latency
+    → answer ≡ cond (is_latency (to_z w64 (of_z w64 latency))) (Some (nat_abs (to_z w64 (of_z w64 latency)))) None
+    → answer ≡ None → is_latency latency ≡ false
+refused latency answer fits value is =
+    let told : answer ≡ cond (is_latency latency) (Some (nat_abs latency)) None =
+    subst (λ (z : ℤ). answer ≡ cond (is_latency z) (Some (nat_abs z)) None) (to_z-of_z w64 latency fits) value in
+    judged-none (is_latency latency) (nat_abs latency) (sym told ∙ is)

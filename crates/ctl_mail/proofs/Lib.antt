@@ -28,3 +28,5 @@ mod Members
 mod Places
 mod Sending
 mod SentActs
+mod Untold
+mod ToAll

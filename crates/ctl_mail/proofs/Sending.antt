@@ -8,7 +8,6 @@ use Rattle.ruby_value.specs.declared.message.Message.{Message}
 use Rattle.ruby_value.specs.declared.message.MsgNo.{MsgNo}
 use Rattle.ruby_value.specs.declared.fault.Fault.TheVariants.{Latency}
 use Rattle.ruby_value.specs.declared.setup.BufferPlace.{BufferPlace}
-use Rattle.ruby_value.specs.declared.setup.BufferPlace.TheVariants as place
 use Rattle.ruby_value.specs.declared.setup.BufferSetup.{BufferSetup}
 use Rattle.ruby_value.specs.declared.setup.MachineSetup.{MachineSetup}
 use Rattle.ruby_value.specs.declared.value.Value.{Value}
@@ -299,11 +298,11 @@ module _ (actor : Actor) (network latency : ℕ) (fields : List Value) (now : �
   all-done mail first t members left none before =
       before.view ∙ ap (view_with_copies actor.me (changed_view mail first)) (ap (λ (xs : List ℕ). fold step before.done xs) (sym none) ∙ before.leads)
 
--- a send in a buffer of the controller's own
-pub sends-local : (machine : MachineSetup) (actor : Actor) (mail : Mail) (buffer : ℕ) (latency : ℤ) (fields : List Value) (now later : ℕ) (s : BufferSetup)
-    → (is_latency latency ≡ true) × (nat_abs latency ≡ later) → slice_get machine.buffers buffer ≡ Some s → s.place ≡ place.Local
-    → send machine actor mail buffer latency fields now ≡ sending_on place.Local s.ordered actor mail buffer later fields now
-sends-local machine actor mail buffer latency fields now later s judged there is =
+-- a send on a buffer, once its latency is judged
+pub sends-on : (machine : MachineSetup) (actor : Actor) (mail : Mail) (buffer : ℕ) (latency : ℤ) (fields : List Value) (now later : ℕ) (s : BufferSetup) (at : BufferPlace)
+    → (is_latency latency ≡ true) × (nat_abs latency ≡ later) → slice_get machine.buffers buffer ≡ Some s → s.place ≡ at
+    → send machine actor mail buffer latency fields now ≡ sending_on at s.ordered actor mail buffer later fields now
+sends-on machine actor mail buffer latency fields now later s at judged there is =
     ap (λ (b : Bool). cond b (sending_from (slice_get machine.buffers buffer) actor mail buffer (nat_abs latency) fields now) (Err Latency)) judged.0
     ∙ (ap (λ (o : Option BufferSetup). sending_from o actor mail buffer (nat_abs latency) fields now) there
     ∙ (ap (λ n. sending_on s.place s.ordered actor mail buffer n fields now) judged.1

@@ -40,5 +40,3 @@ Operation_is e others span = refl
 pub Postfix_is : (e : Expr) (suffixes : List Suffix) (span : Span) → views.Postfix e suffixes span ≡ Postfix' e (block.shape-the_row-Suffix-2 suffixes) (block.hidden-the_row-Suffix-2 suffixes) span
 unfolding block.hidden-the_row-Expr-0 denote.Hole.Carrier.hidden
 Postfix_is e suffixes span = refl
-
-pub ruleset boxes = (Operation_is, Postfix_is, Not_is, Negate_is, IsValid_is, IsInvalid_is, Cast_is, Group_is)

@@ -58,6 +58,10 @@ added_after old before more one new all p same q = added_both old before more on
 pub added_last : {X : Type 0} (old before more one new all : List X) → one ≡ old ++ before → all ≡ before ++ (more ++ []) → new ≡ one ++ more → new ≡ old ++ all
 added_last old before more one new all p same = added_after old before more one new all p (same ∙ ap (λ xs. before ++ xs) (append-nil more))
 
+-- the same where what was added is known as one
+pub added_closed : {X : Type 0} (old before more new all : List X) → all ≡ before ++ (more ++ []) → new ≡ old ++ (before ++ more) → new ≡ old ++ all
+added_closed old before more new all same q = q ∙ ap (λ xs. old ++ xs) (sym (same ∙ ap (λ xs. before ++ xs) (append-nil more)))
+
 pub added_alone : {X : Type 0} (old more new all : List X) → all ≡ more → new ≡ old ++ more → new ≡ old ++ all
 added_alone old more new all same q = q ∙ ap (λ xs. old ++ xs) (sym same)
 

@@ -1,3 +1,4 @@
+pub mod KindsApart
 pub mod Refusals
 pub mod Spans
 pub mod Parts

@@ -7,16 +7,16 @@ use Rattle.std.proofs.lemmas.Bool.{false≢true}
 use Rattle.slicc_ast.specs.declared.tree.token.TokenKind.{TokenKind}
 use Rattle.slicc_ast.specs.declared.tree.token.TokenKind.TheVariants.{Name as Named, Quoted}
 use Rattle.slicc_ast.specs.Outline.{Outline, node, Parts, none, token, part, provided}
-use Rattle.slicc_grammar.specs.Faults.Stop.{Deep}
-use Rattle.slicc_grammar.specs.Grammar.{Row, first_of}
-use Rattle.slicc_grammar.specs.Grammar.Row.{done, form, nested, token as token_row}
-use Rattle.slicc_grammar.specs.Kinds.{has, is_ahead}
-use Rattle.slicc_grammar.specs.Reader.{refusal}
-use Rattle.slicc_grammar.proofs.Steps.{passes_both, passes_token, passes_form, fails_first, fails_second, fails_token, fails_form, fails_unformed, fails_unopened, fails_deep}
-use Rattle.slicc_grammar.specs.Form.{Form}
-use Rattle.slicc_grammar.specs.Parts.{Part, ◌▸◌, names_of}
-use Rattle.slicc_grammar.specs.Table.{table}
-use Rattle.slicc_grammar.specs.TokenKinds.{kind_of, quoted}
+use Rattle.slicc_ast.specs.Faults.Stop.{Deep}
+use Rattle.slicc_ast.specs.Grammar.{Row, first_of}
+use Rattle.slicc_ast.specs.Grammar.Row.{done, form, nested, token as token_row}
+use Rattle.slicc_ast.specs.Kinds.{has, is_ahead}
+use Rattle.slicc_ast.specs.Reader.{refusal}
+use Rattle.slicc_ast.proofs.Steps.{passes_both, passes_token, passes_form, fails_first, fails_second, fails_token, fails_form, fails_unformed, fails_unopened, fails_deep}
+use Rattle.slicc_ast.specs.Form.{Form}
+use Rattle.slicc_ast.specs.Parts.{Part, ◌▸◌, names_of}
+use Rattle.slicc_ast.specs.Table.{table}
+use Rattle.slicc_ast.specs.TokenKinds.{kind_of, quoted}
 use Rattle.slicc_lex.specs.declared.token.Token.{Token}
 use Rattle.slicc_lex.specs.Syntax.{symbols}
 use Rattle.slicc_reading.specs.declared.fault.Fault.{Fault}
@@ -25,7 +25,7 @@ use Rattle.slicc_reading.specs.Reading.{AreParts, Covers, IsNode, IsRead, AreRea
 use Rattle.slicc_reading.specs.Reading.IsNode.{spelled}
 use Rattle.slicc_reading.specs.Reading.AreParts.{nothing, one, inside, allowed}
 use Rattle.slicc_reading.specs.Reading.Refuses.{no_memory, stops}
-use Rattle.slicc_grammar.proofs.Leading.{name_is_one}
+use Rattle.slicc_ast.proofs.Leading.{name_is_one}
 use Rattle.slicc_reading.proofs.Refusals.{deep_at}
 use Rattle.slicc_reading.proofs.Spans.{token_covers}
 
@@ -41,11 +41,12 @@ token_read room kinds kind t tokens left is has_kind same =
       within = omega arith;
     })
 
-not_ahead : (kinds : List ℕ) (t : Token) (tokens left : List Token)
-    → tokens ≡ t ∷ left → has kinds (kind_of t.kind) ≡ false → is_ahead kinds (symbols tokens) ≡ false
-not_ahead kinds t tokens left is has_not = subst (λ ts. is_ahead kinds (symbols ts) ≡ false) (sym is) has_not
+-- whether a kind is ahead is told by the first token
+pub first_ahead : (kinds : List ℕ) (t : Token) (tokens left : List Token) (v : Bool)
+    → tokens ≡ t ∷ left → has kinds (kind_of t.kind) ≡ v → is_ahead kinds (symbols tokens) ≡ v
+first_ahead kinds t tokens left v is first = subst (λ ts. is_ahead kinds (symbols ts) ≡ v) (sym is) first
 
-none_ahead : (kinds : List ℕ) (tokens : List Token) → tokens ≡ [] → is_ahead kinds (symbols tokens) ≡ false
+pub none_ahead : (kinds : List ℕ) (tokens : List Token) → tokens ≡ [] → is_ahead kinds (symbols tokens) ≡ false
 none_ahead kinds tokens is = subst (λ ts. is_ahead kinds (symbols ts) ≡ false) (sym is) refl
 
 -- a token that isn't of these kinds
@@ -57,7 +58,7 @@ token_refused room kinds tokens fault ahead is = stops (refusal table room (symb
 pub other_token_refused : (room : ℕ) (kinds : List ℕ) (t : Token) (tokens left : List Token) (fault : Fault)
     → tokens ≡ t ∷ left → has kinds (kind_of t.kind) ≡ false → IsStopOf (refusal table room (symbols tokens)) fault
     → Refuses room (token_row kinds) tokens fault
-other_token_refused room kinds t tokens left fault is has_not stop = token_refused room kinds tokens fault (not_ahead kinds t tokens left is has_not) stop
+other_token_refused room kinds t tokens left fault is has_not stop = token_refused room kinds tokens fault (first_ahead kinds t tokens left false is has_not) stop
 
 pub no_token_refused : (room : ℕ) (kinds : List ℕ) (tokens : List Token) (fault : Fault)
     → tokens ≡ [] → IsStopOf (refusal table room (symbols tokens)) fault

@@ -1,17 +1,17 @@
 //! The parts that are one token.
 ghost use Rattle.std.specs.Prelude.{◌≡◌, ◌∷◌, ◌<◌, [], IsTrue, false, IfErr, IfOk, MatchOption, MatchResult, length};
-ghost use Rattle.slicc_grammar.specs.Grammar.Row.{nested};
-ghost use Rattle.slicc_grammar.specs.Grammar.{Row};
-ghost use Rattle.slicc_grammar.specs.Kinds.{has, is_ahead};
-ghost use Rattle.slicc_grammar.specs.Reader.{refusal};
+ghost use Rattle.slicc_ast.specs.Grammar.Row.{nested};
+ghost use Rattle.slicc_ast.specs.Grammar.{Row};
+ghost use Rattle.slicc_ast.specs.Kinds.{has, is_ahead};
+ghost use Rattle.slicc_ast.specs.Reader.{refusal};
 ghost use Rattle.slicc_ast.specs.Names.{sign as sign_of, word as word_of};
 ghost use Rattle.slicc_ast.specs.Outline.{last_end, node, none, token};
 ghost use Rattle.slicc_ast.specs.declared.tree.token.TokenKind.TheVariants.{Name as Named, Quoted as QuotedKind, Sign as SignOf, Word as WordOf};
-ghost use Rattle.slicc_grammar.specs.Written.{openers};
-ghost use Rattle.slicc_grammar.specs.Form.{Form};
-ghost use Rattle.slicc_grammar.specs.Parts.{name as name_part, names_of, sign as sign_part, string as string_part, type as type_part, word as word_part};
-ghost use Rattle.slicc_grammar.specs.Table.{table};
-ghost use Rattle.slicc_grammar.specs.TokenKinds.{kind_of, quoted, sign_kind, word_kind};
+ghost use Rattle.slicc_ast.specs.Written.{openers};
+ghost use Rattle.slicc_ast.specs.Form.{Form};
+ghost use Rattle.slicc_ast.specs.Parts.{name as name_part, names_of, sign as sign_part, string as string_part, type as type_part, word as word_part};
+ghost use Rattle.slicc_ast.specs.Table.{table};
+ghost use Rattle.slicc_ast.specs.TokenKinds.{kind_of, quoted, sign_kind, word_kind};
 ghost use Rattle.slicc_lex.specs.Spells.{token_spans};
 ghost use Rattle.slicc_lex.specs.Syntax.{symbols};
 ghost use Rattle.slicc_reading.specs.Reading.{AreRead, Covers, IsOpened, IsRead, IsStopOf, Refuses};
@@ -172,14 +172,16 @@ pub fn open(room: u32, opener: Sign, tokens: &[Token]) -> Result<&[Token], Fault
     ensures refused { IfErr result (λ fault. (part : Row Form) → Refuses room (nested (sign_kind opener ∷ []) part) tokens.now fault) }
     ensures shorter { IfOk result (λ left. length left.now < length tokens.now) }
 {
-    if !is_sign(opener, tokens) {
-        return Err(refuse(room, tokens));
-    }
-    if room == 0 {
-        return Err(Fault::Deep(tokens.len()));
-    }
     match split_first(tokens) {
-        Some((_, left)) => Ok(left),
+        Some((first, left)) => {
+            if !is_sign_kind(&first.kind, opener) {
+                return Err(refuse(room, tokens));
+            }
+            if room == 0 {
+                return Err(Fault::Deep(tokens.len()));
+            }
+            Ok(left)
+        }
         None => Err(refuse(room, tokens)),
     }
 }

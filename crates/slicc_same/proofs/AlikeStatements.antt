@@ -1,5 +1,5 @@
 -- Whether two statements of one form are alike.
-use Rattle.std.proofs.Common.{rules, ◌≡◌, ◌==◌, ◌&&◌, ◌∙◌, ℕ, Bool, true, false, Option, None, Some, List, sym, ap}
+use Rattle.std.proofs.Common.{rules, ◌≡◌, ◌==◌, ◌&&◌, ◌∙◌, ℕ, Bool, Option, None, Some, List}
 use Rattle.std.specs.Str.{bytes_eq}
 use Rattle.slicc_ast.specs.declared.tree.span.Span.{Span}
 use Rattle.slicc_ast.specs.declared.tree.name.Name.{Name}
@@ -20,13 +20,6 @@ use Rattle.slicc_same.specs.Alike.{same_parts, same_shape, word_number}
 use Rattle.slicc_same.proofs.Bools.{and_grouped, and_true}
 use Rattle.slicc_same.proofs.StatementLists.{statements_of_row}
 
--- what `first && second` is, by whether the second was asked
-pub both_asked : (r first second v x : Bool) → r ≡ first → r ≡ true → v ≡ x → x ≡ second → v ≡ first && second
-both_asked r first second v x e is w g = w ∙ g ∙ ap (λ b. b && second) (sym is ∙ e)
-
-pub first_asked : (r first second v : Bool) → r ≡ first → r ≡ false → v ≡ r → v ≡ first && second
-first_asked r first second v e is w = w ∙ is ∙ ap (λ b. b && second) (sym is ∙ e)
-
 four : (a b c d : Bool) → a && (b && (c && d)) ≡ ((a && b) && c) && d
 four a b c d = and_grouped a b (c && d) ∙ and_grouped (a && b) c d
 
@@ -45,10 +38,10 @@ pub alike_Assert : (x y : Expr) (s t : Span) → same_shape (stmt (made.Assert x
 alike_Assert x y s t = search (rules, and_true)
 
 pub alike_Return : (x y : Option Expr) (s t : Span) → same_shape (stmt (made.Return x s)) (stmt (made.Return y t)) ≡ same_parts (optional_expr x none) (optional_expr y none)
-alike_Return None None s t = search (rules, and_true)
-alike_Return None (Some y) s t = search (rules, and_true)
-alike_Return (Some x) None s t = search (rules, and_true)
-alike_Return (Some x) (Some y) s t = search (rules, and_true)
+alike_Return None None s t = search rules
+alike_Return None (Some y) s t = search rules
+alike_Return (Some x) None s t = search rules
+alike_Return (Some x) (Some y) s t = search rules
 
 pub alike_Peek : (p q : Name) (k l : TypeName) (ps qs : Pairs) (a b : Block) (s t : Span) → same_shape (stmt (made.Peek p k ps a s)) (stmt (made.Peek q l qs b t)) ≡ ((bytes_eq p.text q.text && bytes_eq k.text l.text) && same_parts (pair_list ps.items) (pair_list qs.items)) && same_parts (stmt_list a.statements block_end) (stmt_list b.statements block_end)
 alike_Peek p q k l ps qs a b s t =

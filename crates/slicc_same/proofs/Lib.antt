@@ -1,8 +1,10 @@
 pub mod Bools
+pub mod Turns
 pub mod BalancedLists
 pub mod NotParts
 pub mod ItemLists
 pub mod NotExpressions
+pub mod ExpressionForms
 pub mod ExpressionLists
 pub mod ShapesOfBoxes
 pub mod StatementLists

@@ -1,9 +1,8 @@
 -- The shape of an expression that has another one in a box.
-use Rattle.std.proofs.Common.{rules, ◌≡◌, ◌∙◌, refl, ap, Option, List, ℕ}
+use Rattle.std.proofs.Common.{rules, ◌≡◌, ◌∙◌, ap, Option, List, ℕ}
 use Rattle.slicc_ast.specs.declared.tree.span.Span.{Span}
 use Rattle.slicc_ast.specs.declared.tree.name.TypeName.{TypeName}
-use Rattle.slicc_ast.specs.declared.tree.expression.Expr.{Expr, Row_of-Expr, end_of-Expr, more_of-Expr}
-use Rattle.slicc_ast.specs.declared.tree.expression.Expr as made
+use Rattle.slicc_ast.specs.declared.tree.expression.Expr.{Expr}
 use Rattle.slicc_ast.specs.declared.tree.expression.Operand.{Operand}
 use Rattle.slicc_ast.specs.declared.tree.expression.Suffix.{Suffix}
 use Rattle.slicc_ast.specs.declared.tree.expression.Expr.TheViews as views
@@ -11,9 +10,9 @@ use Rattle.slicc_ast.specs.declared.tree.expression.Expr.TheViews.{the_lemmas}
 use Rattle.slicc_ast.specs.declared.tree.token.Sign.TheVariants.{OpenParenthesis, CloseParenthesis, Comma, Minus, Not}
 use Rattle.slicc_ast.specs.declared.tree.token.Word.TheVariants.{IsValid, IsInvalid, StaticCast}
 use Rattle.slicc_ast.proofs.Boxes.{Operation_is, Postfix_is, Not_is, Negate_is, IsValid_is, IsInvalid_is, Cast_is, Group_is}
-use Rattle.slicc_ast.specs.Expressions.{expr, list_level, mode_parts, operand_list, operand_row, row_level, suffix_list, suffix_row}
+use Rattle.slicc_ast.specs.Expressions.{expr, list_level, mode_parts, operand_list, suffix_list}
 use Rattle.slicc_ast.specs.Names.{sign, type_name, word}
-use Rattle.slicc_ast.specs.Outline.{Outline, node, none, no_span, part, shape_of, shape_in}
+use Rattle.slicc_ast.specs.Outline.{node, none, no_span, part, shape_of, shape_in}
 use Rattle.slicc_ast.proofs.RowsOfExpressions.{level_of_row, operands_of_row, suffixes_of_row}
 
 pub shape_of_Not : (e : Expr) (span : Span) → shape_of (expr (views.Not e span)) ≡ node no_span (sign Not (part (shape_of (expr e)) none))
@@ -40,37 +39,3 @@ shape_of_Operation e others span = ap (λ x. shape_of (expr x)) (Operation_is e 
 
 pub shape_of_Postfix : (e : Expr) (suffixes : List Suffix) (span : Span) → shape_of (expr (views.Postfix e suffixes span)) ≡ node no_span (part (shape_of (expr e)) (shape_in (suffix_list suffixes)))
 shape_of_Postfix e suffixes span = ap (λ x. shape_of (expr x)) (Postfix_is e suffixes span) ∙ search (rules, the_lemmas, suffixes_of_row)
-
-pub ruleset shapes_of_boxes = (shape_of_Not, shape_of_Negate, shape_of_IsValid, shape_of_IsInvalid, shape_of_Group, shape_of_Cast, shape_of_Operation, shape_of_Postfix)
-
--- The same by the rows that a box and a list are in the data type.
-abbrev inside : {n : _} → Row_of-Expr n → Outline
-inside end_of-Expr = node no_span none
-inside (more_of-Expr e row) = expr e
-
-pub row_of_Not : (s : _) (row : _) (span : Span) → shape_of (expr (made.Not' s row span)) ≡ node no_span (sign Not (part (shape_of (inside row)) none))
-row_of_Not tt (more_of-Expr e end_of-Expr) span = refl
-
-pub row_of_Negate : (s : _) (row : _) (span : Span) → shape_of (expr (made.Negate' s row span)) ≡ node no_span (sign Minus (part (shape_of (inside row)) none))
-row_of_Negate tt (more_of-Expr e end_of-Expr) span = refl
-
-pub row_of_IsValid : (s : _) (row : _) (span : Span) → shape_of (expr (made.IsValid' s row span)) ≡ node no_span (word IsValid (sign OpenParenthesis (part (shape_of (inside row)) (sign CloseParenthesis none))))
-row_of_IsValid tt (more_of-Expr e end_of-Expr) span = refl
-
-pub row_of_IsInvalid : (s : _) (row : _) (span : Span) → shape_of (expr (made.IsInvalid' s row span)) ≡ node no_span (word IsInvalid (sign OpenParenthesis (part (shape_of (inside row)) (sign CloseParenthesis none))))
-row_of_IsInvalid tt (more_of-Expr e end_of-Expr) span = refl
-
-pub row_of_Group : (s : _) (row : _) (span : Span) → shape_of (expr (made.Group' s row span)) ≡ node no_span (sign OpenParenthesis (part (shape_of (inside row)) (sign CloseParenthesis none)))
-row_of_Group tt (more_of-Expr e end_of-Expr) span = refl
-
-pub row_of_Cast : (target : TypeName) (mode : Option (List ℕ)) (s : _) (row : _) (span : Span)
-    → shape_of (expr (made.Cast' target mode s row span)) ≡ node no_span (word StaticCast (sign OpenParenthesis (shape_in (type_name target (sign Comma (mode_parts mode (part (inside row) (sign CloseParenthesis none))))))))
-row_of_Cast target mode tt (more_of-Expr e end_of-Expr) span = refl
-
-pub row_of_Operation : (s : _) (row : _) (n : _) (others : _) (span : Span) → shape_of (expr (made.Operation' s row n others span)) ≡ node no_span (part (shape_of (inside row)) (shape_in (operand_row (row_level others) others)))
-row_of_Operation tt (more_of-Expr e end_of-Expr) n others span = refl
-
-pub row_of_Postfix : (s : _) (row : _) (n : _) (suffixes : _) (span : Span) → shape_of (expr (made.Postfix' s row n suffixes span)) ≡ node no_span (part (shape_of (inside row)) (shape_in (suffix_row suffixes)))
-row_of_Postfix tt (more_of-Expr e end_of-Expr) n suffixes span = refl
-
-pub ruleset rows_of_boxes = (row_of_Not, row_of_Negate, row_of_IsValid, row_of_IsInvalid, row_of_Group, row_of_Cast, row_of_Operation, row_of_Postfix)

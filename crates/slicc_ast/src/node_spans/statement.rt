@@ -1,5 +1,6 @@
 ghost use Rattle.std.specs.Prelude.{◌≡◌, ◌++◌, OnOk};
 ghost use Rattle.std.specs.List.{flat_map};
+ghost use Rattle.slicc_ast.specs.Expressions.{expr};
 ghost use Rattle.slicc_ast.specs.Outline.{none, spans_in, spans_of};
 ghost use Rattle.slicc_ast.specs.Spans.{else_if_spans};
 ghost use Rattle.slicc_ast.specs.Statements.{block_outline, if_outline, optional_expr, stmt};
@@ -9,6 +10,14 @@ use super::declaration::add_pairs;
 use super::expression::add_expr;
 use crate::tree::{Block, ElseIf, Expr, If, Span, Stmt};
 use ruby_base::{NoMemory, Seq};
+
+/// Adds spans, and those of an expression behind them.
+fn add_behind(spans: &mut Seq<Span>, before: &[Span], value: &Expr) -> Result<(), NoMemory>
+    ensures { OnOk result (spans.new ≡ spans.old ++ (before.now ++ spans_of (expr value.now))) }
+{
+    spans.append(before)?;
+    add_expr(spans, value)
+}
 
 fn add_optional(spans: &mut Seq<Span>, value: &Option<Expr>) -> Result<(), NoMemory>
     ensures { OnOk result (spans.new ≡ spans.old ++ spans_in (optional_expr value.now none)) }
@@ -66,18 +75,13 @@ fn add_stmt(spans: &mut Seq<Span>, s: &Stmt) -> Result<(), NoMemory>
             name,
             value,
             span,
-        } => {
-            spans.append(&[*span, kind.span, name.span])?;
-            add_expr(spans, value)
-        }
+        } => add_behind(spans, &[*span, kind.span, name.span], value),
         Stmt::Assign { place, value, span } => {
-            spans.push(*span)?;
-            add_expr(spans, place)?;
+            add_behind(spans, &[*span], place)?;
             add_expr(spans, value)
         }
         Stmt::Evaluate(value, span) | Stmt::Assert(value, span) => {
-            spans.push(*span)?;
-            add_expr(spans, value)
+            add_behind(spans, &[*span], value)
         }
         Stmt::Return(value, span) => {
             spans.push(*span)?;
@@ -110,10 +114,7 @@ fn add_stmt(spans: &mut Seq<Span>, s: &Stmt) -> Result<(), NoMemory>
             port,
             address,
             span,
-        } => {
-            spans.append(&[*span, port.span])?;
-            add_expr(spans, address)
-        }
+        } => add_behind(spans, &[*span, port.span], address),
         Stmt::CheckAllocate(table, span) => spans.append(&[*span, table.span]),
         Stmt::Error(_, span) => spans.push(*span),
         Stmt::Print {

@@ -12,6 +12,10 @@ use Rattle.body_meaning.specs.Places.{line_place}
 use Rattle.body_meaning.specs.Reading.{reading}
 use Rattle.body_walk.proofs.finding.line_place.Goals as goal
 
+pub returns-in_default : goal.returns-in_default
+unfolding line_place
+returns-in_default g c = rw c.from.ensures (found_stops itself _ _ own.Reference Reference _ _ (sym c.reference.ensures ∙ c.in_default.is) refl)
+
 pub returns-in_default-line_field : goal.returns-in_default-line_field
 unfolding line_place
 returns-in_default-line_field g c =

@@ -1,3 +1,4 @@
+use Rattle.slicc_same.proofs.Turns.{left_ends, next_turn, right_ends, unlike_turn}
 use Rattle.slicc_same.proofs.NotParts.{not_token, not_parentheses, not_brackets, not_braces}
 use Rattle.std.proofs.Common.{rules}
 use Rattle.slicc_ast.specs.declared.tree.balanced.Part.TheViews.{the_lemmas}
@@ -30,3 +31,19 @@ same_part-returns-in_default-3 t c = not_brackets c.in_default.field-0-0 c.args.
 
 pub same_part-returns-in_default-4 : goal.same_part-returns-in_default-4
 same_part-returns-in_default-4 t c = not_braces c.in_default.field-0-0 c.args.a.now c.args.b.now c.in_default.is-0 c.in_default.not-Braces-1
+
+pub all_same_parts-loop-x-preserved : goal.all_same_parts-loop-x-preserved
+all_same_parts-loop-x-preserved t c =
+    next_turn alike_part c.args.a.now c.loop-x.right.now c.loop-x.x-index c.x-item.result c.y-item.result _ _
+    c.loop-x.invariant c.loop-x-test.true c.x-item.is c.in-len1-up.len_at_least c.y-item.is c.same_part.ensures c.if-not-same_part.false
+
+pub all_same_parts-returns-then-not-same_part : goal.all_same_parts-returns-then-not-same_part
+all_same_parts-returns-then-not-same_part t c =
+    unlike_turn alike_part c.args.a.now c.loop-x.right.now c.loop-x.x-index c.x-item.result c.y-item.result _ _
+    c.loop-x.invariant c.loop-x-test.true c.x-item.is c.in-len1-up.len_at_least c.y-item.is c.same_part.ensures c.if-not-same_part.true
+
+pub all_same_parts-returns-in_default : goal.all_same_parts-returns-in_default
+all_same_parts-returns-in_default t c = right_ends alike_part c.args.a.now c.loop-x.right.now c.loop-x.x-index c.x-item.result _ c.loop-x.invariant c.loop-x-test.true c.in_default.len_below
+
+pub all_same_parts-returns : goal.all_same_parts-returns
+all_same_parts-returns t c = left_ends alike_part c.args.a.now c.loop-x.right.now c.loop-x.x-index _ _ c.loop-x.invariant c.loop-x-test.false c.is_empty.ensures

@@ -4,12 +4,13 @@ use Rattle.slicc_ast.specs.Declarations.{pair_list}
 use Rattle.slicc_ast.specs.Outline.{none}
 use Rattle.slicc_ast.specs.Statements.{optional_expr, stmt}
 use Rattle.slicc_same.specs.Alike.{same_parts}
+use Rattle.slicc_same.proofs.Turns.{left_ends, next_turn, right_ends, unlike_turn}
 use Rattle.slicc_same.proofs.AlikeForms.{same_at, known_first}
-use Rattle.slicc_same.proofs.AlikeStatements.{both_asked, first_asked, alike_Declare, alike_Assign, alike_Evaluate, alike_Assert, alike_Return, alike_Peek, alike_Enqueue, alike_StallAndWait, alike_CheckAllocate, alike_Error, alike_Print}
+use Rattle.slicc_same.proofs.AlikeStatements.{alike_Declare, alike_Assign, alike_Evaluate, alike_Assert, alike_Return, alike_Peek, alike_Enqueue, alike_StallAndWait, alike_CheckAllocate, alike_Error, alike_Print}
 use Rattle.slicc_same.proofs.statement.+statement.Goals.{same_stmt-then-same_type, same_stmt-else-same_type, same_stmt-then-same_name-2, same_stmt-else-same_name-2, same_stmt-then-same_type-2, same_stmt-else-same_type-2, same_stmt-then-same_name-3, same_stmt-else-same_name-3, same_stmt-then-same_type-3, same_stmt-else-same_type-3}
 use Rattle.slicc_ast.specs.declared.tree.statement.Stmt.TheViews.{the_lemmas}
-use Rattle.slicc_same.specs.AlikeItems.{alike_stmt}
-use Rattle.slicc_same.proofs.Bools.{and_false, listed}
+use Rattle.slicc_same.specs.AlikeItems.{alike_else_if, alike_stmt}
+use Rattle.slicc_same.proofs.Bools.{and_false, both_asked, first_asked, listed}
 use Rattle.slicc_same.proofs.StatementLists.{assert_print, check_print, enqueue_print, error_print, if_print, peek_print, print_assert, print_check, print_enqueue, print_error, print_if, print_peek, print_return, print_stall, return_print, stall_print, if_alike, if_is, statements_alike}
 use Rattle.slicc_same.proofs.statement.+statement.Goals as goal
 
@@ -215,3 +216,25 @@ same_stmt-returns-else-same_print_word t c =
     let w = c.in-Print-Print in
     let same = same_at stmt _ _ _ _ w.is-0 w.is-1 ∙ alike_Print w.word w.other_word w.arguments w.other_arguments w.span-0 w.span-1 in
     c.if-same_print_word.false ∙ sym (known_first _ _ _ _ false c.same_print_word.ensures c.if-same_print_word.false same)
+
+pub all_same_statements-loop-x-preserved : goal.all_same_statements-loop-x-preserved
+all_same_statements-loop-x-preserved t c =
+    next_turn alike_stmt c.args.a.now c.loop-x.right.now c.loop-x.x-index c.x-item.result c.y-item.result _ _
+    c.loop-x.invariant c.loop-x-test.true c.x-item.is c.in-len1-up.len_at_least c.y-item.is c.same_stmt.ensures c.if-not-same_stmt.false
+
+pub all_same_statements-returns-then-not-same_stmt : goal.all_same_statements-returns-then-not-same_stmt
+all_same_statements-returns-then-not-same_stmt t c =
+    unlike_turn alike_stmt c.args.a.now c.loop-x.right.now c.loop-x.x-index c.x-item.result c.y-item.result _ _
+    c.loop-x.invariant c.loop-x-test.true c.x-item.is c.in-len1-up.len_at_least c.y-item.is c.same_stmt.ensures c.if-not-same_stmt.true
+
+pub all_same_statements-returns-in_default : goal.all_same_statements-returns-in_default
+all_same_statements-returns-in_default t c = right_ends alike_stmt c.args.a.now c.loop-x.right.now c.loop-x.x-index c.x-item.result _ c.loop-x.invariant c.loop-x-test.true c.in_default.len_below
+
+pub all_same_statements-returns : goal.all_same_statements-returns
+all_same_statements-returns t c = left_ends alike_stmt c.args.a.now c.loop-x.right.now c.loop-x.x-index _ _ c.loop-x.invariant c.loop-x-test.false c.is_empty.ensures
+
+pub all_same_else_ifs-returns-in_default : goal.all_same_else_ifs-returns-in_default
+all_same_else_ifs-returns-in_default t c = right_ends alike_else_if c.args.a.now c.loop-x.right.now c.loop-x.x-index c.x-item.result _ c.loop-x.invariant c.loop-x-test.true c.in_default.len_below
+
+pub all_same_else_ifs-returns : goal.all_same_else_ifs-returns
+all_same_else_ifs-returns t c = left_ends alike_else_if c.args.a.now c.loop-x.right.now c.loop-x.x-index _ _ c.loop-x.invariant c.loop-x-test.false c.is_empty.ensures

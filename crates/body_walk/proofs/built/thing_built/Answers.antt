@@ -1,0 +1,14 @@
+use Rattle.std.proofs.lemmas.Result.{err_from_is_err_and}
+use Rattle.acts.specs.DoesAs.{itself}
+use Rattle.acts.proofs.Walk.{does_ends_as, then_does, then_stops}
+use Rattle.body_meaning.specs.Calls.{thing_built}
+use Rattle.body_walk.proofs.built.thing_built.Goals as goal
+
+pub returns-in_err-v : goal.returns-in_err-v
+unfolding thing_built
+returns-in_err-v g c =
+    let p = err_from_is_err_and c.from_residual.result c.from_residual.ensures.1 in rw (p.1, p.2) (then_stops _ _ _ _ _ _ _ _ c.in_err-v.ensures)
+
+pub returns : goal.returns
+unfolding thing_built
+returns g c = then_does _ _ _ _ _ _ _ _ _ c.in_ok-v.ensures (does_ends_as itself _ _ _ c.thing_of.ensures)
